@@ -71,8 +71,12 @@ stands_below heads c = is_super heads c.parent && (list_all (is_above heads) c.i
 abbrev pub is_good_interface : ListedClass → List Member → Bool
 is_good_interface c fields = not c.is_interface || (bytes_eq c.parent object && list_all (λ (m : Member). is_static m.flags) fields)
 
+-- Nothing stands below the class that holds a policy's variables: what names them names it.
+abbrev pub is_below_own : ListedClass → Bool
+is_below_own c = bytes_eq c.parent own_class || is_one_of c.interfaces own_class
+
 abbrev pub has_supers : List ListedClass → ListedClass → List Member → Bool
-has_supers heads c fields = stands_below heads c && is_good_interface c fields
+has_supers heads c fields = stands_below heads c && (is_good_interface c fields && not (is_below_own c))
 
 -- ---- methods (146)
 

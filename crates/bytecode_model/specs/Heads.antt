@@ -13,6 +13,9 @@ use Rattle.api_listing.specs.declared.types.Listing.{Listing}
 abbrev pub has_flag : ℕ → ℕ → Bool
 has_flag flag flags = not (bit_and flags flag == 0)
 
+abbrev pub is_public : ℕ → Bool
+is_public flags = has_flag 1 flags
+
 abbrev pub is_static : ℕ → Bool
 is_static flags = has_flag 8 flags
 

@@ -14,6 +14,7 @@ pub mod Files
 pub mod Copying
 pub mod ByName
 pub mod Places
+pub mod LeftMethods
 pub mod Sound
 pub mod InsnPlace
 pub mod Makes

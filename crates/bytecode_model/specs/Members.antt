@@ -15,7 +15,7 @@ use Rattle.bytecode_model.specs.declared.members.MemberKind.TheVariants as kinds
 use Rattle.bytecode_model.specs.declared.program.Target.{Target}
 use Rattle.bytecode_model.specs.declared.program.Target.TheVariants as target
 use Rattle.bytecode_model.specs.Heads.{class_at, name_of, desc_of, is_static, all_classes}
-use Rattle.bytecode_model.specs.SearchOrder.{Name, search_order}
+use Rattle.bytecode_model.specs.SearchOrder.{Name, field_order, search_order}
 
 -- a declaration: its class, name and descriptor, and what is found there
 abbrev pub Declared : Type 0
@@ -95,5 +95,6 @@ first_found look id (class ∷ classes) = option_or (look (in_class id class)) (
 abbrev pub method_of : List ClassFile → Listing → MethodId → Option Found
 method_of files listing id = first_found (first_of (methods_declared files listing)) id (search_order (all_classes listing files) id.class)
 
+-- the field of this name and descriptor that a class has
 abbrev pub field_of : List ClassFile → Listing → MethodId → Option Found
-field_of files listing id = first_found (first_of (fields_declared files listing)) id (search_order (all_classes listing files) id.class)
+field_of files listing id = first_found (first_of (fields_declared files listing)) id (field_order (all_classes listing files) id.class)

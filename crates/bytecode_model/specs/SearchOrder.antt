@@ -1,5 +1,6 @@
--- The classes in which a field or a method is looked for, the nearest first: the class, its superclasses, and then their
--- interfaces and the interfaces of these, level by level. (The Java Virtual Machine Specification, section 5.4.3.)
+-- The classes in which a member is looked for, the nearest first. For a method: the class, its superclasses, and then their
+-- interfaces and the interfaces of these, level by level. For a field: the class, its interfaces and those above them, and
+-- then its superclass in the same way. (The Java Virtual Machine Specification, sections 5.4.3.2 and 5.4.3.3.)
 use Rattle.std.specs.Prelude.{ℕ, zero, suc, ◌+◌, Bool, bytes_eq, if◌then◌else◌, List, [], ◌∷◌, ◌++◌, length}
 use Rattle.std.specs.List.{list_any}
 use Rattle.std.specs.Option.{option_map_or}
@@ -45,3 +46,27 @@ superclasses classes name = upwards (length classes) classes name
 
 abbrev pub search_order : List ListedClass → Name → List Name
 search_order classes name = names_of (superclasses classes name) ++ interfaces_from classes (interfaces_of (superclasses classes name))
+
+-- ---- fields
+
+-- before those that wait, the interfaces of a new name
+abbrev pub above_first : List ListedClass → List Name → Name → List Name → List Name
+above_first classes found name waiting = if is_one_of found name then waiting else interfaces_above classes name ++ waiting
+
+-- The names that are reached, each once: a new one's interfaces are taken before those that wait. At most n are taken.
+abbrev pub reached_in_turn : ℕ → List ListedClass → List Name → List Name → List Name
+reached_in_turn zero classes found waiting = found
+reached_in_turn (suc n) classes found [] = found
+reached_in_turn (suc n) classes found (name ∷ waiting) = reached_in_turn n classes (with_name found name) (above_first classes found name waiting)
+
+-- after these names a class, and then its interfaces and those above them in turn
+abbrev pub with_interfaces : List ListedClass → List Name → ListedClass → List Name
+with_interfaces classes found c = reached_in_turn (most classes c.interfaces) classes (with_name found c.name) c.interfaces
+
+-- after these names some classes, each with its interfaces
+abbrev pub each_with_interfaces : List ListedClass → List Name → List ListedClass → List Name
+each_with_interfaces classes found [] = found
+each_with_interfaces classes found (c ∷ cs) = each_with_interfaces classes (with_interfaces classes found c) cs
+
+abbrev pub field_order : List ListedClass → Name → List Name
+field_order classes name = each_with_interfaces classes [] (superclasses classes name)

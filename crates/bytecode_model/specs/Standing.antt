@@ -20,6 +20,7 @@ use Rattle.bytecode_model.specs.Conditions.{codes_of, describes_method, has_its_
 use Rattle.bytecode_model.specs.Starts.{index_at, insn_at}
 use Rattle.bytecode_model.specs.Heads.{class_at, head_of, heads_of, name_of, desc_of, is_static, is_native, is_abstract, is_synchronized, main_name, main_desc, maker, initialiser, takes_nothing}
 use Rattle.bytecode_model.specs.Files.{unlinked}
+use Rattle.bytecode_model.specs.LeftMethods.{left_to_library}
 use Rattle.bytecode_model.specs.Operands.{literals_of}
 use Rattle.bytecode_model.specs.SearchOrder.{Name, search_order}
 use Rattle.bytecode_model.specs.Layout.{has_code}
@@ -88,7 +89,8 @@ pub record IsStanding (program : Program) (class : LinkedClass) (method : Method
 
 -- ---- classes
 
--- The class has a method for each of its file, in order; its name is no other's; and those above it may stand there.
+-- The class has a method for each of its file, in order; its name is no other's; those above it may stand there; and it leaves
+-- no method to the library that an interface asks for.
 pub record IsClassAt (program : Program) (own : ℕ) (class : LinkedClass) : Type 0 where
   pub count : length class.methods ≡ length class.file.methods
   pub members : (index : ℕ) (member : Member) (method : Method) → slice_get class.file.methods index ≡ Some member
@@ -98,6 +100,7 @@ pub record IsClassAt (program : Program) (own : ℕ) (class : LinkedClass) : Typ
   pub once : (other : ℕ) (found : LinkedClass) → slice_get program.classes other ≡ Some found → found.name ≡ class.name → other ≡ own
   pub unlisted : is_known program.listing.classes class.name ≡ false
   pub supers : has_supers (heads_of (unlinked program)) (head_of class.file) class.file.fields ≡ true
+  pub left : left_to_library (unlinked program) program.listing (head_of class.file) ≡ None
 
 abbrev pub AreStanding : Program → Type 0
 AreStanding program = (own : ℕ) (class : LinkedClass) → slice_get program.classes own ≡ Some class → IsClassAt program own class

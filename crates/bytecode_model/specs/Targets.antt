@@ -26,7 +26,7 @@ use Rattle.bytecode_model.specs.Heads.{name_of, desc_of, is_static}
 use Rattle.bytecode_model.specs.Files.{unlinked}
 use Rattle.bytecode_model.specs.Members.{in_class, method_of, field_of}
 use Rattle.bytecode_model.specs.Operands.{use_of, index_of, element_is_known, is_api_field}
-use Rattle.bytecode_model.specs.SearchOrder.{Name, is_one_of, search_order}
+use Rattle.bytecode_model.specs.SearchOrder.{Name, field_order, is_one_of, search_order}
 
 -- the constant that the instruction names
 abbrev pub constant_of : LinkedClass → Insn → Option Const
@@ -168,7 +168,7 @@ pub record UsesField (program : Program) (class : LinkedClass) (insn : Insn) (re
   pub described : is_ok (whole_type told.desc) ≡ true
   pub nearest : field_of (unlinked program) program.listing told ≡ Some (record { target = ref; is_static = static })
   pub declaring : Name
-  pub above : is_one_of (search_order (classes_of program) told.class) declaring ≡ true
+  pub above : is_one_of (field_order (classes_of program) told.class) declaring ≡ true
   pub declared : IsField program ref (in_class told declaring) static
   pub unwritten : writes && is_api_field ref ≡ false
 

@@ -2,7 +2,9 @@
 //! Specification, tables 4.1, 4.4 and 4.5.)
 
 ghost use Rattle.std.specs.Prelude.{◌≡◌};
-ghost use Rattle.bytecode_model.specs.Heads.{has_flag, is_abstract, is_interface, is_native, is_static, is_synchronized};
+ghost use Rattle.bytecode_model.specs.Heads.{has_flag, is_abstract, is_interface, is_native, is_public, is_static, is_synchronized};
+
+const PUBLIC: u16 = 0x0001;
 
 const STATIC: u16 = 0x0008;
 
@@ -13,6 +15,13 @@ const NATIVE: u16 = 0x0100;
 const INTERFACE: u16 = 0x0200;
 
 const ABSTRACT: u16 = 0x0400;
+
+/// Whether a class, a field or a method is public.
+pub fn is_public(flags: u16) -> bool
+    ensures { result ≡ is_public flags }
+{
+    has_flag(flags, PUBLIC)
+}
 
 /// Whether a field or a method is static.
 pub fn is_static(flags: u16) -> bool

@@ -30,7 +30,7 @@ pub use by_name::{ByName, note, noted};
 pub use copying::{copy_classes, copy_insn, copy_keys};
 pub use exception_table::{Handlers, NearHandlers, next_place};
 pub use files::unlink;
-pub use flags::{is_abstract, is_interface, is_native, is_static, is_synchronized};
+pub use flags::{is_abstract, is_interface, is_native, is_public, is_static, is_synchronized};
 pub use heads::head_of;
 pub use laws::uses_are_shaped;
 pub use lending::{TypeRef, lend, own};

@@ -1,7 +1,10 @@
 pub mod Aside
 pub mod Declaring
+pub mod NothingLeft
 pub mod Numbering
 pub mod Owning
+pub mod FieldSearch
+pub mod InterfaceFields
 pub mod Reaching
 pub mod Sharing
 pub mod Versions

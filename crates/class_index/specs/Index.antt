@@ -1,5 +1,5 @@
 -- Ordered maps made once, from which each look-up gives what a plain scan gives. (docs/LINKING.md)
-use Rattle.std.specs.Prelude.{◌≡◌, ℕ, List, length, Option, Vec}
+use Rattle.std.specs.Prelude.{◌≡◌, ℕ, Bool, false, List, length, Option, Vec}
 use Rattle.std.specs.BTreeMap.{BTreeMap, get}
 use Rattle.std.specs.BTreeSet.{BTreeSet}
 use Rattle.std.specs.Global.{Global}
@@ -16,11 +16,13 @@ use Rattle.bytecode_model.specs.declared.members.MemberKind.{MemberKind}
 use Rattle.bytecode_model.specs.declared.members.MemberKind.TheVariants as kinds
 use Rattle.class_index.specs.declared.library.Shared.{Shared}
 use Rattle.class_index.specs.declared.nearest.Nearest.{Nearest}
-use Rattle.bytecode_model.specs.Heads.{all_classes}
+use Rattle.bytecode_model.specs.Heads.{all_classes, heads_of}
 use Rattle.bytecode_model.specs.Members.{Declared, methods_declared, fields_declared, first_of}
 use Rattle.bytecode_model.specs.Operands.{literals_of}
 use Rattle.class_index.specs.Library.{is_owner, AreShared}
 use Rattle.class_index.specs.Nearest.{AreVersions}
+use Rattle.class_index.specs.InterfaceFields.{AreInterfaceFields}
+use Rattle.class_index.specs.Asking.{NothingIsLeft}
 use Rattle.bytecode_model.specs.SearchOrder.{is_one_of}
 use Rattle.bytecode_model.specs.Places.{ClassesPlaced}
 
@@ -58,13 +60,16 @@ pub record Given : Type 0 where
   pub files : List ClassFile
   pub listing : Listing
 
-pub record IsIndex (files : List ClassFile) (listing : Listing) (classes : List ListedClass) (methods fields : BTreeMap MethodId Found) (near_methods near_fields : Nearest) (library : BTreeSet MethodId) (owners : BTreeSet (List ℕ)) (shared : Shared) (literals : List (List ℕ)) : Type 0 where
+pub record IsIndex (files : List ClassFile) (listing : Listing) (classes : List ListedClass) (methods fields : BTreeMap MethodId Found) (near_methods near_fields : Nearest) (of_interfaces : BTreeSet MethodId) (library : BTreeSet MethodId) (owners : BTreeSet (List ℕ)) (shared : Shared) (given : BTreeMap (Vec ℕ Global) ℕ) (asks : Bool) (literals : List (List ℕ)) : Type 0 where
   pub all : classes ≡ all_classes listing files
   pub methods_found : AreFirst (methods_declared files listing) methods
   pub fields_found : AreFirst (fields_declared files listing) fields
   pub methods_near : AreVersions (found_in methods) near_methods.numbers classes near_methods.versions
   pub fields_near : AreVersions (found_in fields) near_fields.numbers classes near_fields.versions
+  pub fields_of_interfaces : AreInterfaceFields of_interfaces classes (found_in fields)
   pub listed : (q : MethodId) → has_id library q ≡ has_method listing.methods q
   pub owned : (q : List ℕ) → has_name owners q ≡ is_owner listing.methods q
   pub lists : AreShared owners classes shared
+  pub placed : ClassesPlaced given (heads_of files)
+  pub unasked : asks ≡ false → NothingIsLeft files listing
   pub texts : literals ≡ literals_of files

@@ -1,13 +1,18 @@
 //! What files and a listing declare, in maps that are made once.
 
-ghost use Rattle.std.specs.Prelude.{◌≡◌, ◌≤◌, ◌&&◌, ◌++◌, ◌∷◌, [], ℕ, List, not, length, IfOk, OnOk};
+ghost use Rattle.std.specs.Prelude.{◌≡◌, ◌≤◌, ◌&&◌, ◌++◌, ◌∷◌, [], ℕ, List, false, not, length, option_copied, IfOk, OnOk};
 ghost use Rattle.std.specs.List.{AllByRecursion, filter};
 ghost use Rattle.mon_base.specs.declared.method.MethodId.{MethodId};
 ghost use Rattle.class_codec.specs.Fits.{CanSpell};
 ghost use Rattle.api_listing.specs.Listing.{has_method, IsFew};
 ghost use Rattle.api_listing.specs.Seen.{has_id, has_name};
 ghost use Rattle.bytecode_model.specs.Heads.{heads_of, all_classes};
-ghost use Rattle.bytecode_model.specs.SearchOrder.{search_order};
+ghost use Rattle.api_listing.specs.Nearest.{names_of};
+ghost use Rattle.bytecode_model.specs.LeftMethods.{given_interface, is_open_to_all, offers, offers_at};
+ghost use Rattle.bytecode_model.specs.Places.{ClassesPlaced};
+ghost use Rattle.bytecode_model.specs.SearchOrder.{search_order, superclasses};
+ghost use Rattle.class_index.specs.Asking.{NothingIsLeft};
+ghost use Rattle.class_index.specs.InterfaceFields.{AreInterfaceFields};
 ghost use Rattle.bytecode_model.specs.Members.{field_of, fields_declared, method_of, methods_declared};
 ghost use Rattle.bytecode_model.specs.Conditions.{is_of_library, is_run};
 ghost use Rattle.api_listing.specs.BuiltIn.{is_built_in};
@@ -16,13 +21,19 @@ ghost use Rattle.class_index.specs.Index.{found_in, AreFirst, declared_of};
 ghost use Rattle.class_index.specs.Library.{is_owner, AreShared, OverridesAs};
 ghost use Rattle.class_index.specs.Nearest.{AreVersions};
 
+use crate::asking::any_asks_library;
 use crate::classes::Classes;
 use crate::declared::{first_declared, listed_methods, owners_of};
+use crate::interface_fields::interface_fields;
 use crate::library::{Shared, owners_above, shared_of};
-use crate::members::member_of;
+use crate::members::{field_of, method_of};
 use crate::nearest::{Nearest, nearest_of};
+use crate::search::{search_order, superclasses};
 use api_listing::{ListedClass, ListedMethod, Listing, is_built_in};
-use bytecode_model::{Found, Literals, MemberKind, is_text};
+use bytecode_model::{
+    ByName, Found, Literals, MemberKind, Target, class_places, is_interface, is_public, is_text,
+    noted,
+};
 use class_codec::ClassFile;
 use mon_base::{Bytes, List, MethodId, NoMemory};
 use std::alloc::Global;
@@ -39,6 +50,14 @@ pub struct Index<'a> {
     literals: &'a Literals,
     members: Members,
     library: Library,
+    given: Given,
+}
+
+/// Where the files' classes stand, and whether an interface among them asks for a method that some class of the library has.
+#[derive(Drop)]
+struct Given {
+    places: ByName<usize>,
+    asks: bool,
 }
 
 /// What is declared, and which class declares it nearest.
@@ -48,6 +67,7 @@ struct Members {
     fields: BTreeMap<MethodId, Found>,
     near_methods: Nearest,
     near_fields: Nearest,
+    of_interfaces: BTreeSet<MethodId>,
 }
 
 /// What the library has.
@@ -66,7 +86,8 @@ impl<'a> Model for Index<'a> {
     ghost view = { λ i. record { files = i.files.now; listing = i.listing.now } };
 
     ghost invariant = { λ i. IsIndex i.files.now i.listing.now i.classes.now i.members.methods i.members.fields
-        i.members.near_methods i.members.near_fields i.library.methods i.library.owners i.library.shared i.literals.now };
+        i.members.near_methods i.members.near_fields i.members.of_interfaces i.library.methods i.library.owners i.library.shared
+        i.given.places i.given.asks i.literals.now };
 }
 
 impl<'a> Index<'a> {
@@ -90,6 +111,7 @@ impl<'a> Index<'a> {
     {
         let library = library_of(alloc, classes, heads, listing.methods.as_slice())?;
         let members = members_of(alloc, classes, files, listing)?;
+        let given = given_of(alloc, files, heads, listing)?;
         Ok(Index {
             files,
             listing,
@@ -97,6 +119,7 @@ impl<'a> Index<'a> {
             literals,
             members,
             library,
+            given,
         })
     }
 
@@ -127,7 +150,7 @@ impl<'a> Index<'a> {
         ensures { IfOk result (λ found. found ≡ method_of self.now.files self.now.listing id.now) }
     {
         let members = &self.members;
-        let found = member_of(
+        let found = method_of(
             alloc,
             self.classes,
             &members.methods,
@@ -142,14 +165,61 @@ impl<'a> Index<'a> {
         ensures { IfOk result (λ found. found ≡ field_of self.now.files self.now.listing id.now) }
     {
         let members = &self.members;
-        let found = member_of(
+        let found = field_of(
             alloc,
             self.classes,
             &members.fields,
             &members.near_fields,
+            &members.of_interfaces,
             id,
         )?;
         Ok(found)
+    }
+
+    /// The classes in which a method of the class is looked for.
+    pub fn search_order(&self, alloc: Global, name: &Bytes) -> Result<List<Bytes>, NoMemory>
+        ensures { IfOk result (λ order. order ≡ search_order (all_classes self.now.listing self.now.files) name.now) }
+    {
+        let order = search_order(alloc, self.classes, name)?;
+        Ok(order)
+    }
+
+    /// The class and its superclasses.
+    pub fn superclasses(&self, alloc: Global, name: &Bytes) -> Result<List<Bytes>, NoMemory>
+        ensures { IfOk result (λ names. names ≡ names_of (superclasses (all_classes self.now.listing self.now.files) name.now)) }
+    {
+        let names = superclasses(alloc, self.classes, name)?;
+        Ok(names)
+    }
+
+    /// The file of the class of this name, where it is an interface.
+    pub fn given_interface(&self, name: &Bytes) -> Option<&'a ClassFile>
+        ensures { option_copied result ≡ given_interface self.now.files name.now }
+    {
+        let place = noted(&self.given.places, name.as_slice())?;
+        let file = self.files.get(place)?;
+        if is_interface(file.flags) {
+            Some(file)
+        } else {
+            None
+        }
+    }
+
+    /// Whether a given class that is no interface declares the method, in this very class, as a public one of objects.
+    pub fn offers(&self, id: &MethodId) -> bool
+        ensures { result ≡ offers self.now.files self.now.listing id.now }
+    {
+        match self.members.methods.get(id) {
+            Some(found) => !found.is_static && is_open_to_all(self.files, &found.target),
+            None => false,
+        }
+    }
+
+    /// Whether a given interface asks for a method that some class of the library has: else no class leaves one to the library.
+    pub fn asks_library(&self) -> bool
+        ensures { result ≡ false → NothingIsLeft self.now.files self.now.listing }
+    {
+        self.given.asks
     }
 
     /// Whether the library declares the method in this very class. That a Thread or a Runnable runs counts for nothing.
@@ -187,14 +257,17 @@ fn members_of(
         AreVersions (found_in members.methods) members.near_methods.numbers classes.now members.near_methods.versions) }
     ensures near_fields { IfOk result (λ members.
         AreVersions (found_in members.fields) members.near_fields.numbers classes.now members.near_fields.versions) }
+    ensures of_interfaces { IfOk result (λ members. AreInterfaceFields members.of_interfaces classes.now (found_in members.fields)) }
 {
     let (methods, near_methods) = known_of(alloc, classes, MemberKind::Method, files, listing)?;
     let (fields, near_fields) = known_of(alloc, classes, MemberKind::Field, files, listing)?;
+    let of_interfaces = interface_fields(alloc, classes, &fields)?;
     Ok(Members {
         methods,
         fields,
         near_methods,
         near_fields,
+        of_interfaces,
     })
 }
 
@@ -236,6 +309,44 @@ fn library_of(
         owners,
         shared,
     })
+}
+
+/// Where the classes of the files stand, and whether an interface among them asks for a method of the library.
+fn given_of(
+    alloc: Global,
+    files: &[ClassFile],
+    heads: &[ListedClass],
+    listing: &Listing,
+) -> Result<Given, NoMemory>
+    requires heads { heads.now ≡ heads_of files.now }
+    ensures places { IfOk result (λ given. ClassesPlaced given.places (heads_of files.now)) }
+    ensures asks { IfOk result (λ given. given.asks ≡ false → NothingIsLeft files.now listing.now) }
+{
+    let places = class_places(alloc, heads)?;
+    let asks = any_asks_library(alloc, files, listing.methods.as_slice())?;
+    Ok(Given { places, asks })
+}
+
+/// Whether the target is a public method of objects, of a class of the files that is no interface.
+fn is_open_to_all(files: &[ClassFile], target: &Target) -> bool
+    ensures { result ≡ is_open_to_all files.now target.now }
+{
+    match target {
+        Target::Method { class, method } => match files.get(*class as usize) {
+            Some(file) => offers_at(file, *method as usize),
+            None => false,
+        },
+        _ => false,
+    }
+}
+
+fn offers_at(file: &ClassFile, index: usize) -> bool
+    ensures { result ≡ offers_at file.now index }
+{
+    match file.methods.as_slice().get(index) {
+        Some(method) => is_public(method.flags) && !is_interface(file.flags),
+        None => false,
+    }
 }
 
 fn is_built_in_but_run(id: &MethodId) -> bool

@@ -4,10 +4,12 @@
 //! member, and tells the place of a string constant. (The Java Virtual Machine Specification, section 5.4.3.)
 #![tactic(auto)]
 
+mod asking;
 mod classes;
 mod declared;
 mod heads;
 mod index;
+mod interface_fields;
 mod library;
 mod members;
 mod nearest;
@@ -16,6 +18,7 @@ mod places;
 mod quiet;
 mod search;
 
+pub use asking::is_asked;
 pub use classes::Classes;
 pub use heads::{all_classes, heads_of};
 pub use index::Index;

@@ -4,18 +4,20 @@ ghost use Rattle.std.specs.Prelude.{◌≡◌, IfOk, option_copied};
 ghost use Rattle.class_index.specs.Index.{found_in};
 ghost use Rattle.class_index.specs.Nearest.{AreVersions};
 ghost use Rattle.bytecode_model.specs.Members.{first_found, in_class};
-ghost use Rattle.bytecode_model.specs.SearchOrder.{search_order};
+ghost use Rattle.bytecode_model.specs.SearchOrder.{field_order, search_order};
+ghost use Rattle.class_index.specs.InterfaceFields.{AreInterfaceFields};
 
 use crate::classes::Classes;
+use crate::interface_fields::may_be_of_interface;
 use crate::nearest::{Nearest, found_above};
-use crate::search::search_order;
+use crate::search::{field_order, search_order};
 use bytecode_model::Found;
 use mon_base::{Bytes, MethodId, NoMemory};
 use std::alloc::Global;
-use std::collections::BTreeMap;
+use std::collections::{BTreeMap, BTreeSet};
 
-/// What the class has: its own, or the nearest above it.
-pub fn member_of(
+/// The method that the class has: its own, or the nearest above it.
+pub fn method_of(
     alloc: Global,
     classes: &Classes,
     declared: &BTreeMap<MethodId, Found>,
@@ -30,6 +32,29 @@ pub fn member_of(
         return Ok(Some(found));
     }
     let order = search_order(alloc, classes, &id.class)?;
+    first_found(alloc, declared, id, order.as_slice())
+}
+
+/// The field that the class has: its own, or the nearest above it. Where no interface may declare it, the superclasses tell.
+pub fn field_of(
+    alloc: Global,
+    classes: &Classes,
+    declared: &BTreeMap<MethodId, Found>,
+    nearest: &Nearest,
+    of_interfaces: &BTreeSet<MethodId>,
+    id: &MethodId,
+) -> Result<Option<Found>, NoMemory>
+    requires nearest { AreVersions (found_in declared.now) nearest.now.numbers classes.now nearest.now.versions }
+    requires of_interfaces { AreInterfaceFields of_interfaces.now classes.now (found_in declared.now) }
+    ensures { IfOk result (λ found.
+        found ≡ first_found (found_in declared.now) id.now (field_order classes.now id.now.class)) }
+{
+    if !may_be_of_interface(alloc, of_interfaces, id)? {
+        if let Some(found) = found_above(alloc, classes, declared, nearest, id)? {
+            return Ok(Some(found));
+        }
+    }
+    let order = field_order(alloc, classes, &id.class)?;
     first_found(alloc, declared, id, order.as_slice())
 }
 

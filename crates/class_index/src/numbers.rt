@@ -96,7 +96,7 @@ fn add_number(
 }
 
 /// The name and the descriptor without a class.
-fn key_of(alloc: Global, name: &Bytes, desc: &Bytes) -> Result<MethodId, NoMemory>
+pub fn key_of(alloc: Global, name: &Bytes, desc: &Bytes) -> Result<MethodId, NoMemory>
     ensures { IfOk result (λ key. key ≡ record { class = []; name = name.now; desc = desc.now }) }
 {
     id_of(alloc, b"".as_slice(), name.as_slice(), desc.as_slice())

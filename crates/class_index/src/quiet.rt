@@ -35,7 +35,8 @@ pub fn quiet_of(
     }
 }
 
-fn interfaces_of(alloc: Global, classes: &[ListedClass]) -> Result<List<Bytes>, NoMemory>
+/// The interfaces that the classes name.
+pub fn interfaces_of(alloc: Global, classes: &[ListedClass]) -> Result<List<Bytes>, NoMemory>
     ensures { IfOk result (λ names. names ≡ interfaces_of classes.now) }
 {
     let mut names = List::new(alloc);
@@ -47,7 +48,8 @@ fn interfaces_of(alloc: Global, classes: &[ListedClass]) -> Result<List<Bytes>, 
     Ok(names)
 }
 
-fn set_of(alloc: Global, names: &[Bytes]) -> Result<BTreeSet<Bytes>, NoMemory>
+/// The set of the names.
+pub fn set_of(alloc: Global, names: &[Bytes]) -> Result<BTreeSet<Bytes>, NoMemory>
     ensures { IfOk result (λ set. NamesSeen set names.now) }
 {
     let mut set = BTreeSet::new(alloc);

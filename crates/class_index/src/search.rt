@@ -1,5 +1,5 @@
-//! The classes in which a field or a method is looked for, the nearest first. (The Java Virtual Machine Specification,
-//! section 5.4.3.)
+//! The classes in which a method or a field is looked for, the nearest first. (The Java Virtual Machine Specification,
+//! sections 5.4.3.2 and 5.4.3.3.)
 
 ghost use Rattle.std.specs.Prelude.{◌≡◌, ◌+◌, ◌++◌, ◌∷◌, [], ℕ, List, length, IfOk, OnOk};
 ghost use Rattle.std.specs.Option.{option_map_or};
@@ -7,6 +7,7 @@ ghost use Rattle.api_listing.specs.Nearest.{upwards, names_of, interfaces_of};
 ghost use Rattle.api_listing.specs.Seen.{has_name};
 ghost use Rattle.bytecode_model.specs.SearchOrder.{superclasses, search_order, interfaces_from, interfaces_above};
 ghost use Rattle.bytecode_model.specs.SearchOrder.{reached, with_name, with_above};
+ghost use Rattle.bytecode_model.specs.SearchOrder.{above_first, field_order, reached_in_turn, with_interfaces};
 ghost use Rattle.class_index.specs.Index.{NamesSeen};
 
 use crate::classes::{Classes, add};
@@ -16,7 +17,7 @@ use mon_base::{Bytes, List, NoMemory};
 use std::alloc::Global;
 use std::collections::{BTreeSet, VecDeque};
 
-/// The names of the classes in which a member of the class of this name is looked for.
+/// The names of the classes in which a method of the class of this name is looked for.
 pub fn search_order(alloc: Global, classes: &Classes, name: &Bytes) -> Result<List<Bytes>, NoMemory>
     ensures { IfOk result (λ order. order ≡ search_order classes.now name.now) }
 {
@@ -180,6 +181,151 @@ fn add_waiting(
 {
     for name in names {
         waiting.push_back(name.copy(alloc)?)?;
+    }
+    Ok(())
+}
+
+// ---- superclasses alone
+
+/// The names of the class and of its superclasses.
+pub fn superclasses(alloc: Global, classes: &Classes, name: &Bytes) -> Result<List<Bytes>, NoMemory>
+    ensures { IfOk result (λ names. names ≡ names_of (superclasses classes.now name.now)) }
+{
+    let mut names = List::new(alloc);
+    let mut at = name;
+    for _ in 0..classes.len() {
+        let Some(class) = classes.named(at) else {
+            return Ok(names);
+        };
+        add_copy(alloc, &mut names, &class.name)?;
+        at = &class.parent;
+    }
+    Ok(names)
+}
+
+// ---- fields
+
+/// The names of the classes in which a field of the class of this name is looked for.
+pub fn field_order(alloc: Global, classes: &Classes, name: &Bytes) -> Result<List<Bytes>, NoMemory>
+    ensures { IfOk result (λ order. order ≡ field_order classes.now name.now) }
+{
+    let mut order = List::new(alloc);
+    let mut seen = BTreeSet::new(alloc);
+    let mut at = name;
+    for _ in 0..classes.len() {
+        let Some(class) = classes.named(at) else {
+            return Ok(order);
+        };
+        add_with_interfaces(alloc, classes, &mut order, &mut seen, class)?;
+        at = &class.parent;
+    }
+    Ok(order)
+}
+
+/// Adds the class, and then its interfaces and those above them in turn, each if it is new.
+fn add_with_interfaces(
+    alloc: Global,
+    classes: &Classes,
+    found: &mut List<Bytes>,
+    seen: &mut BTreeSet<Bytes>,
+    class: &ListedClass,
+) -> Result<(), NoMemory>
+    requires { NamesSeen seen.old found.old }
+    ensures seen { OnOk result (NamesSeen seen.new found.new) }
+    ensures found { OnOk result (found.new ≡ with_interfaces classes.now found.old class.now) }
+{
+    let names = class.interfaces.as_slice();
+    let most = add(classes.interfaces(), names.len())?;
+    add_new(alloc, found, seen, &class.name)?;
+    reach_in_turn(alloc, classes, most, names, found, seen)
+}
+
+/// Adds the name, if it is new.
+fn add_new(
+    alloc: Global,
+    found: &mut List<Bytes>,
+    seen: &mut BTreeSet<Bytes>,
+    name: &Bytes,
+) -> Result<(), NoMemory>
+    requires { NamesSeen seen.old found.old }
+    ensures seen { OnOk result (NamesSeen seen.new found.new) }
+    ensures found { OnOk result (found.new ≡ with_name found.old name.now) }
+{
+    if seen.contains(name) {
+        return Ok(());
+    }
+    add_name(alloc, seen, name)?;
+    add_copy(alloc, found, name)
+}
+
+/// Takes up so many of the names and of those above them, which are taken before the others.
+fn reach_in_turn(
+    alloc: Global,
+    classes: &Classes,
+    most: u64,
+    names: &[Bytes],
+    found: &mut List<Bytes>,
+    seen: &mut BTreeSet<Bytes>,
+) -> Result<(), NoMemory>
+    requires { NamesSeen seen.old found.old }
+    ensures seen { OnOk result (NamesSeen seen.new found.new) }
+    ensures found { OnOk result (found.new ≡ reached_in_turn most classes.now found.old names.now) }
+{
+    let mut waiting = VecDeque::new(alloc);
+    add_waiting(alloc, &mut waiting, names)?;
+    for _ in 0..most {
+        let Some(name) = waiting.pop_front() else {
+            return Ok(());
+        };
+        visit_in_turn(alloc, classes, found, seen, &mut waiting, &name)?;
+    }
+    Ok(())
+}
+
+/// Takes up a name that has waited: if it is new, its interfaces wait before the others.
+fn visit_in_turn(
+    alloc: Global,
+    classes: &Classes,
+    found: &mut List<Bytes>,
+    seen: &mut BTreeSet<Bytes>,
+    waiting: &mut VecDeque<Bytes>,
+    name: &Bytes,
+) -> Result<(), NoMemory>
+    requires { NamesSeen seen.old found.old }
+    ensures seen { OnOk result (NamesSeen seen.new found.new) }
+    ensures found { OnOk result (found.new ≡ with_name found.old name.now) }
+    ensures waiting { OnOk result (waiting.new.items ≡ above_first classes.now found.old name.now waiting.old.items) }
+{
+    if seen.contains(name) {
+        return Ok(());
+    }
+    put_above(alloc, classes, name, waiting)?;
+    add_name(alloc, seen, name)?;
+    add_copy(alloc, found, name)
+}
+
+fn put_above(
+    alloc: Global,
+    classes: &Classes,
+    name: &Bytes,
+    waiting: &mut VecDeque<Bytes>,
+) -> Result<(), NoMemory>
+    ensures { OnOk result (waiting.new.items ≡ interfaces_above classes.now name.now ++ waiting.old.items) }
+{
+    match classes.named(name) {
+        Some(class) => put_first(alloc, waiting, class.interfaces.as_slice()),
+        None => Ok(()),
+    }
+}
+
+/// Puts the names before those that wait.
+fn put_first(alloc: Global, waiting: &mut VecDeque<Bytes>, names: &[Bytes]) -> Result<(), NoMemory>
+    ensures { OnOk result (waiting.new.items ≡ names.now ++ waiting.old.items) }
+{
+    let mut left = names;
+    while let Some((name, rest)) = left.split_last() {
+        waiting.push_front(name.copy(alloc)?)?;
+        left = rest;
     }
     Ok(())
 }

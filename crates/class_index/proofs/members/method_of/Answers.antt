@@ -5,7 +5,7 @@ use Rattle.bytecode_model.specs.Members.{first_found}
 use Rattle.bytecode_model.specs.SearchOrder.{superclasses}
 use Rattle.class_index.specs.Index.{found_in}
 use Rattle.class_index.proofs.Reaching.{found_first}
-use Rattle.class_index.proofs.members.member_of.Goals as goal
+use Rattle.class_index.proofs.members.method_of.Goals as goal
 
 pub returns-in-Some : goal.returns-in-Some
 returns-in-Some c =
