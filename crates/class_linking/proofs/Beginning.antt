@@ -17,7 +17,7 @@ use Rattle.insn_codec.specs.declared.insn.Insn.{Insn}
 use Rattle.insn_codec.specs.Reading.{Read, Finder, insn_at, insns_at, insns_of, among, any, ended, code_of}
 use Rattle.mon_base.specs.Reading.{Place}
 use Rattle.api_listing.specs.declared.types.Listing.{Listing}
-use Rattle.class_linking.proofs.Parts.{code_parts, method_parts}
+use Rattle.class_linking.proofs.Parts.{class_parts, code_parts, method_parts}
 use Rattle.bytecode_model.specs.declared.program.LinkedClass.{LinkedClass}
 use Rattle.bytecode_model.specs.declared.program.Method.{Method}
 use Rattle.bytecode_model.specs.Heads.{class_at, name_of, desc_of, is_abstract, is_static, is_member, main_name, main_desc, maker}
@@ -182,7 +182,7 @@ main_has_code files listing main methods c m fit linked begin =
     let c_is : b.place ≡ c = omega (arith, b.is) in
     let m_is : b.main.place ≡ m = omega (arith, b.main.is) in
     let ms = linked_at (λ (at : ℕ). methods_linked files listing) 0 files methods b.place b.file linked b.found in
-    let one = linked_at (method_linked files listing b.file) 0 b.file.methods ms.0 b.main.place b.main.member ms.2 b.main.found in
+    let one = linked_at (method_linked files listing b.file) 0 b.file.methods ms.0 b.main.place b.main.member (class_parts files listing b.file ms.0 ms.2).each b.main.found in
     let file_fits = all_get CanSpell files b.place b.file fit b.found in
     let fits = all_get (FitsMember b.file.pool true) b.file.methods b.main.place b.main.member file_fits.methods.each b.main.found in
     let some = method_some files listing b.file (0 + b.main.place) b.main.member one.0 fits b.main.static one.2 in

@@ -31,7 +31,7 @@ use Rattle.class_linking.specs.Operands.{operand_linked, told_at, operand_at, op
 use Rattle.bytecode_model.specs.Sound.{IsSound, IsSoundClass, IsSoundMethod}
 use Rattle.bytecode_model.proofs.Lists.{some_is, all_get}
 use Rattle.class_linking.proofs.Loop.{both_linked, each_of, linked_at, same_length}
-use Rattle.class_linking.proofs.Parts.{code_parts, method_parts, program_with, program_parts}
+use Rattle.class_linking.proofs.Parts.{class_parts, code_parts, method_parts, program_with, program_parts}
 use Rattle.bytecode_model.specs.Named.{AreRightOperands}
 use Rattle.class_linking.specs.Laws.{LinkedOperandsAreRight}
 use Rattle.class_linking.proofs.LinkedOperands.{operand_right}
@@ -70,7 +70,7 @@ module _ (files : List ClassFile) (listing : Listing) where
   classes_have at (file ∷ some) [] e = tt
   classes_have at (file ∷ some) (first ∷ methods) e =
       let both = both_linked (λ i. methods_linked files listing) at file some first methods e in
-      (each_of (method_linked files listing file) (HasOperands file.pool) (method_has file) 0 file.methods first both.0, classes_have (at + 1) some methods both.1)
+      (each_of (method_linked files listing file) (HasOperands file.pool) (method_has file) 0 file.methods first (class_parts files listing file first both.0).each, classes_have (at + 1) some methods both.1)
 
   -- ---- an instruction
 

@@ -1,5 +1,5 @@
 -- The classes of a program that links with a listing: those of the listing, and then the given ones.
-use Rattle.std.proofs.Common.{◌≡◌, ℕ, zero, suc, ◌+◌, Bool, true, false, not, List, [], ◌∷◌, ◌++◌, ◌⊎◌, length, Option, Some, None, Ok, Err, refl, sym, ap, subst, ◌∙◌, inl, inr, append_assoc, arith}
+use Rattle.std.proofs.Common.{◌≡◌, ℕ, zero, suc, ◌+◌, Bool, true, false, not, ◌&&◌, List, [], ◌∷◌, ◌++◌, ◌⊎◌, length, Option, Some, None, Ok, Err, refl, sym, ap, subst, ◌∙◌, inl, inr, append_assoc, arith}
 use Rattle.mon_base.specs.Answer.{Answers}
 use Rattle.std.specs.Prelude.{IfOk, bytes_eq, ◌||◌, ◌&&◌}
 use Rattle.std.specs.List.{list_all}
@@ -21,7 +21,7 @@ use Rattle.class_linking.specs.declared.fault.LinkFault.TheVariants as faults
 use Rattle.bytecode_model.specs.declared.program.Program.{Program}
 use Rattle.bytecode_model.specs.declared.program.Side.{Side}
 use Rattle.bytecode_model.specs.Classes.{classes_of}
-use Rattle.bytecode_model.specs.Conditions.{is_free, stays_within, runs_in_circle, stands_below, is_good_interface, has_supers}
+use Rattle.bytecode_model.specs.Conditions.{is_free, stays_within, runs_in_circle, stands_below, is_below_own, is_good_interface, has_supers}
 use Rattle.class_linking.specs.ClassConditions.{class_linked, classes_linked}
 use Rattle.class_linking.specs.Fault.{Linked}
 use Rattle.bytecode_model.specs.Heads.{head_of, heads_of}
@@ -61,10 +61,10 @@ one_given side heads is_taken c file x e =
     let second = need_ok (not is_taken) (faults.Twice c.name) (λ _. free) x first.1 in
     let third = need_ok (is_free side file) (faults.NameTaken c.name) (λ _. ending) x second.1 in
     let last = needed (has_supers heads c file.fields) (faults.SuperLeftOut c.name) x third.1 in
-    let supers = both_of (stands_below heads c) (is_good_interface c file.fields) last in
+    let supers = both_of (stands_below heads c) (is_good_interface c file.fields && not (is_below_own c)) last in
     let below = both_of _ _ supers.0 in
     let way = both_of _ _ below.1 in (
-      both_are (is_class_name c.name) _ first.0 (interface_proper c.is_interface (bytes_eq c.parent object) _ supers.1),
+      both_are (is_class_name c.name) _ first.0 (interface_proper c.is_interface (bytes_eq c.parent object) _ (both_of (is_good_interface c file.fields) _ supers.1).0),
       way.1,
     )
 

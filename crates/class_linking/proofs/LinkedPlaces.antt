@@ -1,5 +1,5 @@
 -- The classes of a linked program: which files they are of, and that no two have one name.
-use Rattle.std.proofs.Common.{◌≡◌, ℕ, zero, suc, ◌+◌, Bool, true, false, not, ◌||◌, List, [], ◌∷◌, ◌++◌, map, Some, Ok, refl, sym, ap, subst, ◌∙◌, arith}
+use Rattle.std.proofs.Common.{◌≡◌, ℕ, zero, suc, ◌+◌, Bool, true, false, not, ◌||◌, List, [], ◌∷◌, ◌++◌, map, Some, None, Ok, refl, sym, ap, subst, ◌∙◌, arith}
 use Rattle.std.specs.Prelude.{bytes_eq, slice_get}
 use Rattle.std.specs.List.{AllByRecursion}
 use Rattle.std.proofs.lemmas.Bool.{false≢true}
@@ -11,7 +11,7 @@ use Rattle.api_listing.specs.declared.types.ListedClass.{ListedClass}
 use Rattle.api_listing.specs.declared.types.Listing.{Listing}
 use Rattle.api_listing.specs.Listing.{is_known}
 use Rattle.class_linking.proofs.Loop.{both_linked}
-use Rattle.class_linking.proofs.Parts.{program_with, program_parts}
+use Rattle.class_linking.proofs.Parts.{class_parts, program_with, program_parts}
 use Rattle.class_linking.proofs.Whole.{classes_back}
 use Rattle.class_linking.specs.declared.fault.LinkFault.{LinkFault}
 use Rattle.class_linking.specs.declared.fault.LinkFault.TheVariants as faults
@@ -25,7 +25,8 @@ use Rattle.bytecode_model.specs.Conditions.{is_free, has_supers}
 use Rattle.api_listing.specs.Words.{is_class_name}
 use Rattle.class_linking.specs.Fault.{Linked, linked_from}
 use Rattle.bytecode_model.specs.Heads.{head_of, heads_of, all_classes}
-use Rattle.class_linking.specs.Linking.{classes_with, methods_linked, main_of, assembled}
+use Rattle.class_linking.specs.Linking.{classes_with, each_method_linked, methods_linked, main_of, assembled}
+use Rattle.bytecode_model.specs.LeftMethods.{left_to_library}
 use Rattle.bytecode_model.specs.Files.{unlinked}
 use Rattle.bytecode_model.specs.Operands.{literals_of}
 use Rattle.bytecode_model.proofs.Lists.{some_is, not_true}
@@ -147,10 +148,11 @@ module _ (side : Side) (heads : List ListedClass) where
 
 -- ---- the program
 
--- The class is that of its file, and has the methods that this links to.
+-- The class is that of its file, has the methods that this links to, and leaves none to the library.
 pub record IsClassOf (files : List ClassFile) (listing : Listing) (class : LinkedClass) : Type 0 where
   pub name : class.name ≡ (head_of class.file).name
-  pub methods : methods_linked files listing class.file ≡ Ok class.methods
+  pub methods : each_method_linked files listing class.file ≡ Ok class.methods
+  pub left : left_to_library files listing (head_of class.file) ≡ None
 
 -- What is known of a program that files link to.
 pub record IsLinkedFrom (files : List ClassFile) (listing : Listing) (main : List ℕ) (side : Side) (program : Program) : Type 0 where
@@ -167,7 +169,8 @@ module _ (files : List ClassFile) (listing : Listing) where
   classes_are at (file ∷ some) [] e = tt
   classes_are at (file ∷ some) (first ∷ methods) e =
       let both = both_linked (λ i. methods_linked files listing) at file some first methods e in
-      (record { name = refl; methods = both.0 }, classes_are (at + 1) some methods both.1)
+      let parts = class_parts files listing file first both.0 in
+      (record { name = refl; methods = parts.each; left = parts.left }, classes_are (at + 1) some methods both.1)
 
   pub linked_known : (main : List ℕ) (side : Side) (program : Program) → assembled files listing main side ≡ Ok program → IsLinkedFrom files listing main side program
   linked_known main side program e =

@@ -32,7 +32,7 @@ use Rattle.bytecode_model.specs.Files.{unlinked}
 use Rattle.bytecode_model.specs.Members.{Declared, methods_declared, fields_declared, method_of, field_of, in_class}
 use Rattle.bytecode_model.specs.Operands.{use_of, index_of, is_api_field, known_in, id_at, literals_of, place_of}
 use Rattle.class_linking.specs.Operands.{is_nothing, operand_linked, used, loaded, typed, field_used, called, call_linked, field_linked, field_fits, class_linked}
-use Rattle.bytecode_model.specs.SearchOrder.{is_one_of, search_order}
+use Rattle.bytecode_model.specs.SearchOrder.{field_order, is_one_of, search_order}
 use Rattle.bytecode_model.specs.Targets.{constant_of, method_constant, is_type, takes_class, takes_array, TakesClass, LoadsText, IsMethod, Calls, IsField, UsesField, Names}
 use Rattle.class_linking.proofs.LinkedBodies.{ok_target, class_known}
 use Rattle.class_linking.proofs.Constants.{named_one, text_there, is_pair}
@@ -209,7 +209,7 @@ module _ (files : List ClassFile) (listing : Listing) (program : Program) (known
     field_named : (static writes : Bool) (owner member : ℕ) (id : MethodId) → use_of insn ≡ uses.Field static writes → constant_of class insn ≡ Some (constants.Field owner member) → reference_at pool (index_of insn) ≡ Some id → field_linked files listing static writes id ≡ Ok ref → Named
     field_named static writes owner member id accesses constant refers e =
         let look = looked_up (is_ok (whole_type id.desc)) (field_of files listing id) (field_fits static writes) (operand.Missing id.name) ref e in
-        let near = near_said (IsFieldDeclared program) (fields_declared files listing) id look.found (search_order (all_classes listing files) id.class) known.fields look.there in
+        let near = near_said (IsFieldDeclared program) (fields_declared files listing) id look.found (field_order (all_classes listing files) id.class) known.fields look.there in
         let fitted = fitting static writes look.found look.fit in
         let same : look.found.is_static ≡ static = (booleans_Decides look.found.is_static static).0 fitted.0 in
         let row : UsesField program class insn look.found.target = record {
@@ -224,7 +224,7 @@ module _ (files : List ClassFile) (listing : Listing) (program : Program) (known
           described = look.typed;
           nearest = ap₂ (λ (fs : List ClassFile) (l : Listing). field_of fs l id) known.back known.listing_is ∙ look.there ∙ ap Some (found_is look.found static fitted.0);
           declaring = near.declaring;
-          above = ap (λ (cs : List ListedClass). is_one_of (search_order cs id.class) near.declaring) known.classes ∙ near.above;
+          above = ap (λ (cs : List ListedClass). is_one_of (field_order cs id.class) near.declaring) known.classes ∙ near.above;
           declared = subst (IsField program look.found.target (in_class id near.declaring)) same near.said;
           unwritten = fitted.1;
         } in

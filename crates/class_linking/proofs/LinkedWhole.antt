@@ -20,6 +20,7 @@ use Rattle.bytecode_model.specs.declared.program.Program.{Program}
 use Rattle.bytecode_model.specs.declared.program.Side.{Side}
 use Rattle.bytecode_model.specs.Classes.{classes_of}
 use Rattle.bytecode_model.specs.Conditions.{has_supers, is_free, overrides_in}
+use Rattle.bytecode_model.specs.LeftMethods.{left_to_library}
 use Rattle.class_linking.specs.Fault.{Linked}
 use Rattle.bytecode_model.specs.Heads.{head_of, heads_of, all_classes, class_at, name_of, desc_of, is_static, is_member, main_name, main_desc, maker}
 use Rattle.class_linking.specs.Linking.{assembled, method_linked}
@@ -132,6 +133,7 @@ module _ (files : List ClassFile) (listing : Listing) (main : List ℕ) (side : 
         methods = all_from (IsStanding program class) class.methods (stands_of own class there);
         named = ap is_class_name name ∙ good.named;
         supers = ap (λ (fs : List ClassFile). has_supers (heads_of fs) (head_of class.file) class.file.fields) known.back ∙ good.supers;
+        left = ap₂ (λ (fs : List ClassFile) (l : Listing). left_to_library fs l (head_of class.file)) known.back known.listing_is ∙ (of_file own class there).left;
         once = λ other found at same.
             let alike : (head_of found.file).name ≡ (head_of class.file).name = sym (name_is other found at) ∙ same ∙ name in
             same_place side heads listing.classes files other own found.file class.file known.named (file_there other found at) (file_there own class there) alike;

@@ -1,5 +1,5 @@
 -- What a handler, a method and a program that link are made of.
-use Rattle.std.proofs.Common.{◌≡◌, ℕ, true, not, List, length, Option, Some, Result, Ok, Err, ap, subst, ◌∙◌}
+use Rattle.std.proofs.Common.{◌≡◌, ℕ, true, not, List, length, Option, Some, None, Result, Ok, Err, refl, ap, subst, ◌∙◌}
 use Rattle.std.specs.Prelude.{slice_get, ok_or}
 use Rattle.mon_base.specs.Reading.{◌>>=◌, need}
 use Rattle.mon_base.proofs.Reading.{bind_ok, need_ok, ok_is, ok_or_ok}
@@ -27,7 +27,9 @@ use Rattle.bytecode_model.specs.Starts.{index_at, insn_at}
 use Rattle.class_linking.specs.ClassConditions.{classes_linked}
 use Rattle.class_linking.specs.Fault.{Linked}
 use Rattle.class_linking.specs.Handlers.{caught, handler_linked, handlers_linked}
-use Rattle.class_linking.specs.Linking.{with_code, read_of, code_linked, body_linked, method_linked, each_linked, classes_with, members_of, main_of, assembled}
+use Rattle.bytecode_model.specs.LeftMethods.{left_to_library}
+use Rattle.class_linking.specs.Linking.{with_code, read_of, code_linked, body_linked, method_linked, each_method_linked, methods_linked, nothing_left}
+use Rattle.class_linking.specs.Linking.{each_linked, classes_with, members_of, main_of, assembled}
 use Rattle.class_linking.specs.Operands.{operands_linked}
 
 -- ---- a handler
@@ -111,6 +113,25 @@ method_parts files listing file index member method e =
 
 abbrev Members : Type 0
 Members = List (List Method) × List (List ℕ)
+
+-- ---- the methods of a class
+
+-- Each of the methods links, and none is left to the library.
+pub record ClassParts (files : List ClassFile) (listing : Listing) (file : ClassFile) (methods : List Method) : Type 0 where
+  pub each : each_method_linked files listing file ≡ Ok methods
+  pub left : left_to_library files listing (head_of file) ≡ None
+
+none_left : (class : List ℕ) (left : Option (List ℕ)) (x : Unit {0}) → nothing_left class left ≡ Ok x → left ≡ None
+none_left class None x e = refl
+none_left class (Some name) x e = absurd cc
+
+pub class_parts : (files : List ClassFile) (listing : Listing) (file : ClassFile) (methods : List Method) → methods_linked files listing file ≡ Ok methods → ClassParts files listing file methods
+class_parts files listing file methods e =
+    let class = (head_of file).name in
+    let left = left_to_library files listing (head_of file) in
+    let a = bind_ok (each_method_linked files listing file) (λ (ms : List Method). nothing_left class left >>= λ _. Ok ms) methods e in
+    let b = bind_ok (nothing_left class left) (λ _. Ok a.0) methods a.2 in
+    subst (ClassParts files listing file) (ok_is LinkFault a.0 methods b.2) (record { each = a.1; left = none_left class left b.0 b.1 })
 
 pub members_are : (files : List ClassFile) (listing : Listing) (members : Members) → members_of files listing ≡ Ok members → (each_linked files listing files ≡ Ok members.0) × (literals_of files ≡ members.1)
 members_are files listing members e =

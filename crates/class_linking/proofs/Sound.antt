@@ -27,7 +27,7 @@ use Rattle.bytecode_model.specs.Sound.{IsWithin, IsSoundMethod, IsSoundClass, Is
 use Rattle.class_linking.proofs.Beginning.{main_has_code}
 use Rattle.bytecode_model.proofs.Lists.{some_is}
 use Rattle.class_linking.proofs.Loop.{both_linked, same_length, each_of}
-use Rattle.class_linking.proofs.Parts.{handler_parts, members_are}
+use Rattle.class_linking.proofs.Parts.{class_parts, handler_parts, members_are}
 
 -- ---- places
 
@@ -105,7 +105,7 @@ SoundMethods methods = AllByRecursion IsSoundMethod methods
 module _ (files : List ClassFile) (listing : Listing) where
   sound_class : (file : ClassFile) (methods : List Method) → CanSpell file → methods_linked files listing file ≡ Ok methods → SoundMethods methods → IsSoundClass (class_with file methods)
   sound_class file methods fits made sound =
-      let many = same_length (method_linked files listing file) 0 file.methods methods made in
+      let many = same_length (method_linked files listing file) 0 file.methods methods (class_parts files listing file methods made).each in
       record { fits = fits; name = refl; parent = refl; few = omega (arith, many, fits.methods.count); methods = sound }
 
   sound_classes : (at : ℕ) (some : List ClassFile) (methods : List (List Method)) → AllByRecursion CanSpell some → linked_from (λ i. methods_linked files listing) at some ≡ Ok methods

@@ -28,6 +28,8 @@ use Rattle.bytecode_model.specs.Operands.{literals_of}
 use Rattle.class_linking.specs.Operands.{operands_linked}
 use Rattle.class_linking.specs.Handlers.{handlers_linked}
 use Rattle.bytecode_model.specs.Files.{max_files}
+use Rattle.bytecode_model.specs.LeftMethods.{left_to_library}
+use Rattle.bytecode_model.specs.SearchOrder.{Name}
 
 -- ---- a method
 
@@ -82,9 +84,20 @@ method_linked files listing file method member = do
   own ← need (not (overrides (all_classes listing files) listing (head_of file).name file.pool member)) (faults.Overrides (head_of file).name (name_of file.pool member))
   body_linked files listing file method member (slice_get (codes_of member) 0)
 
--- the methods of a class
+abbrev pub each_method_linked : List ClassFile → Listing → ClassFile → Linked (List Method)
+each_method_linked files listing file = linked_from (method_linked files listing file) 0 file.methods
+
+-- a method that a class leaves to the library is told as one of the library that it overrides
+abbrev pub nothing_left : Name → Option Name → Linked (Unit {0})
+nothing_left class None = Ok tt
+nothing_left class (Some name) = Err (faults.Overrides class name)
+
+-- the methods of a class, of which none is left to the library
 abbrev pub methods_linked : List ClassFile → Listing → ClassFile → Linked (List Method)
-methods_linked files listing file = linked_from (method_linked files listing file) 0 file.methods
+methods_linked files listing file = do
+  methods ← each_method_linked files listing file
+  kept ← nothing_left (head_of file).name (left_to_library files listing (head_of file))
+  Ok methods
 
 -- ---- a class
 

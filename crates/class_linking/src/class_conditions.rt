@@ -4,7 +4,7 @@ ghost use Rattle.std.specs.Prelude.{◌≡◌, ◌≤◌, ℕ, List, length, byt
 ghost use Rattle.std.specs.List.{list_all, list_any};
 ghost use Rattle.class_codec.specs.declared.tree.Member.{Member};
 ghost use Rattle.api_listing.specs.Seen.{has_name};
-ghost use Rattle.api_listing.specs.Listing.{is_known};
+ghost use Rattle.api_listing.specs.Listing.{is_known, own_class};
 ghost use Rattle.api_listing.specs.Words.{is_class_name};
 ghost use Rattle.api_listing.specs.BuiltIn.{throwables};
 ghost use Rattle.bytecode_model.specs.SearchOrder.{is_one_of};
@@ -19,6 +19,7 @@ ghost use Rattle.bytecode_model.specs.Conditions.{
   is_above,
   stands_below,
   is_good_interface,
+  is_below_own,
   has_supers,
 };
 ghost use Rattle.class_linking.specs.ClassConditions.{class_linked, classes_linked};
@@ -173,7 +174,31 @@ fn has_supers(heads: &Heads, head: &ListedClass, fields: &[Member]) -> bool
     requires { length heads.now ≤ 1001 }
     ensures { result ≡ has_supers heads.now head.now fields.now }
 {
-    stands_below(heads, head) && is_good_interface(head, fields)
+    stands_below(heads, head) && (is_good_interface(head, fields) && !is_below_own(head))
+}
+
+/// Whether it names the class that holds a policy's variables as its superclass or as an interface.
+fn is_below_own(head: &ListedClass) -> bool
+    ensures { result ≡ is_below_own head.now }
+{
+    is_own_class(&head.parent) || any_is_own(head.interfaces.as_slice())
+}
+
+fn any_is_own(names: &[Bytes]) -> bool
+    ensures { result ≡ is_one_of names.now own_class }
+{
+    for name in names {
+        if is_own_class(name) {
+            return true;
+        }
+    }
+    false
+}
+
+fn is_own_class(name: &Bytes) -> bool
+    ensures { result ≡ bytes_eq name.now own_class }
+{
+    is_text(name.as_slice(), "conspec/State")
 }
 
 /// Whether its superclass and its interfaces may stand above it.

@@ -11,6 +11,7 @@ mod handlers;
 mod heights;
 mod known;
 mod laws;
+mod left_methods;
 mod linking;
 mod method_conditions;
 mod methods;

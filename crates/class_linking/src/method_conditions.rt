@@ -104,7 +104,8 @@ pub fn overrides(
     Ok(found)
 }
 
-fn id_of(
+/// The method's class, name and descriptor.
+pub fn id_of(
     alloc: Global,
     class: &Bytes,
     pool: &[Const],
@@ -119,7 +120,8 @@ fn id_of(
     })
 }
 
-fn overrides_in(
+/// Whether the library declares the method in one of the classes.
+pub fn overrides_in(
     alloc: Global,
     index: &Index,
     id: &MethodId,

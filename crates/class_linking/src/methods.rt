@@ -8,17 +8,19 @@ ghost use Rattle.insn_codec.specs.Reading.{code_of};
 ghost use Rattle.insn_codec.specs.Spelling.{len_from, starts_of};
 ghost use Rattle.mon_base.specs.Answer.{Answers, TellsFault};
 ghost use Rattle.bytecode_model.specs.Heads.{all_classes, desc_of, head_of, name_of};
+ghost use Rattle.bytecode_model.specs.LeftMethods.{left_to_library};
 ghost use Rattle.bytecode_model.specs.SearchOrder.{search_order};
 ghost use Rattle.class_index.specs.Library.{OverridesAs};
 ghost use Rattle.bytecode_model.specs.Sound.{IsSoundMethod};
 ghost use Rattle.class_linking.specs.Handlers.{handlers_linked};
 ghost use Rattle.class_linking.specs.declared.fault.LinkFault.TheVariants as faults;
 ghost use Rattle.class_linking.specs.Known.{AreRemembered};
-ghost use Rattle.class_linking.specs.Linking.{bare, with_code, code_told, read_of, code_linked, method_linked, methods_linked};
+ghost use Rattle.class_linking.specs.Linking.{bare, with_code, code_told, read_of, code_linked, each_method_linked, method_linked, methods_linked, nothing_left};
 
 use crate::fault::LinkFault;
 use crate::handlers::{Starts, handlers_linked};
 use crate::known::Known;
+use crate::left_methods::left_to_library;
 use crate::method_conditions::{is_allowed, overrides};
 use crate::operands::operands_linked;
 use bytecode_model::{Handlers, Method, Target, code_of, copy_class, copy_text};
@@ -41,7 +43,29 @@ pub fn methods_linked(
     let class = copy_class(alloc, file.pool.as_slice(), file.this_class)?;
     let order = index.library_above(alloc, &class)?;
     let mut known = Known::new(alloc, file.pool.len())?;
-    each_linked(alloc, index, order.as_slice(), file, &class, &mut known)
+    let methods = each_linked(alloc, index, order.as_slice(), file, &class, &mut known)?;
+    nothing_left(alloc, index, file, &class)?;
+    Ok(methods)
+}
+
+/// Whether the class of this name leaves no method to the library, or the first that it does.
+fn nothing_left(
+    alloc: Global,
+    index: &Index,
+    file: &ClassFile,
+    class: &Bytes,
+) -> Result<(), LinkFault>
+    requires { class.now ≡ (head_of file.now).name }
+    ensures { Answers LinkFault.Memory result
+        (nothing_left class.now (left_to_library index.now.files index.now.listing (head_of file.now))) }
+{
+    match left_to_library(alloc, index, file, class)? {
+        Some(name) => Err(LinkFault::Overrides {
+            class: class.copy(alloc)?,
+            name,
+        }),
+        None => Ok(()),
+    }
 }
 
 /// The same, where the name of the class is given, and what may be overridden.
@@ -57,7 +81,7 @@ fn each_linked(
     requires name { class.now ≡ (head_of file.now).name }
     requires known { AreRemembered index.now.files index.now.listing file.now.pool known.old }
     requires order { OverridesAs index.now.listing order.now (search_order (all_classes index.now.listing index.now.files) class.now) }
-    ensures answers { Answers LinkFault.Memory result (methods_linked index.now.files index.now.listing file.now) }
+    ensures answers { Answers LinkFault.Memory result (each_method_linked index.now.files index.now.listing file.now) }
     ensures sound { IfOk result (AllByRecursion IsSoundMethod) }
 {
     let mut methods = Vec::with_capacity(alloc, file.methods.len())?;
