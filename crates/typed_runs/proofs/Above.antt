@@ -19,7 +19,8 @@ use Rattle.bytecode_model.specs.Classes.{classes_of, is_below, is_interface}
 use Rattle.bytecode_model.specs.Conditions.{has_interface, is_above, is_good_interface, is_super, stands_below}
 use Rattle.bytecode_model.specs.Files.{unlinked}
 use Rattle.bytecode_model.specs.Heads.{head_of, heads_of}
-use Rattle.bytecode_model.specs.SearchOrder.{Name, interfaces_above, interfaces_from, is_one_of, reached, search_order, superclasses, with_above, with_name}
+use Rattle.bytecode_model.specs.SearchOrder.{Name, above_first, each_with_interfaces, field_order, interfaces_above, interfaces_from, is_one_of, most, reached}
+use Rattle.bytecode_model.specs.SearchOrder.{reached_in_turn, search_order, superclasses, with_above, with_interfaces, with_name}
 use Rattle.bytecode_model.proofs.Ending.{unnamed_up}
 use Rattle.bytecode_model.proofs.Upwards.{named_behind, named_passes, same_of}
 use Rattle.type_lattice.proofs.Orders.{Fit, equal, top, interface, under, array_second, fits, seen}
@@ -48,6 +49,59 @@ module _ (p : Name → Bool) (classes : List ListedClass) (each : (name : Name) 
       let a = and_parts (p name) (list_all p waiting) f in
       reached_pass n (with_name found name) (with_above classes found name waiting) (found_pass (is_one_of found name) found name e a.0)
       (waiting_pass (is_one_of found name) waiting name a.1)
+
+-- ---- names that are reached in turn
+
+module _ (p : Name → Bool) (classes : List ListedClass) (each : (name : Name) → list_all p (interfaces_above classes name) ≡ true) (name : Name) where
+  with_case : (found : List Name) (x : Name) → is_one_of (with_name found x) name ≡ true → (is_one_of found name ≡ true) ⊎ (bytes_eq x name ≡ true)
+  with_case found x e = by (is_one_of found x) e where
+    by : (known : Bool) → is_one_of (cond known found (found ++ x ∷ [])) name ≡ true → (is_one_of found name ≡ true) ⊎ (bytes_eq x name ≡ true)
+    by true f = inl f
+    by false f =
+        elim (any_cases (λ (other : Name). bytes_eq other name) found (x ∷ []) f) [
+          | inl before ↦ inl before
+          | inr last ↦ elim (or_cases (bytes_eq x name) false last) [
+            | inl same ↦ inr same
+            | inr none ↦ absurd (false≢true none)
+          ]
+        ]
+
+  turn_pass : (known : Bool) (waiting : List Name) (x : Name) → list_all p waiting ≡ true → list_all p (cond known waiting (interfaces_above classes x ++ waiting)) ≡ true
+  turn_pass true waiting x e = e
+  turn_pass false waiting x e = all_both p (interfaces_above classes x) waiting (each x) e
+
+  turn_case : (n : ℕ) (found waiting : List Name) → list_all p waiting ≡ true → is_one_of (reached_in_turn n classes found waiting) name ≡ true
+      → (is_one_of found name ≡ true) ⊎ (p name ≡ true)
+  turn_case zero found waiting e f = inl f
+  turn_case (suc n) found [] e f = inl f
+  turn_case (suc n) found (x ∷ waiting) e f =
+      let a = and_parts (p x) (list_all p waiting) e in
+      elim (turn_case n (with_name found x) (above_first classes found x waiting) (turn_pass (is_one_of found x) waiting x a.1) f) [
+        | inl before ↦ elim (with_case found x before) [
+          | inl was ↦ inl was
+          | inr same ↦ inr (subst (λ (y : Name). p y ≡ true) (same_of x name same) a.0)
+        ]
+        | inr passes ↦ inr passes
+      ]
+
+  each_case : (cs : List ListedClass) (found : List Name) → list_all (λ (c : ListedClass). list_all p c.interfaces) cs ≡ true
+      → is_one_of (each_with_interfaces classes found cs) name ≡ true → (is_one_of found name ≡ true) ⊎ ((is_one_of (names_of cs) name ≡ true) ⊎ (p name ≡ true))
+  each_case [] found e f = inl f
+  each_case (c ∷ cs) found e f =
+      let a = and_parts (list_all p c.interfaces) _ e in
+      elim (each_case cs (with_interfaces classes found c) a.1 f) [
+        | inl before ↦ elim (turn_case (most classes c.interfaces) (with_name found c.name) c.interfaces a.0 before) [
+          | inl known ↦ elim (with_case found c.name known) [
+            | inl was ↦ inl was
+            | inr same ↦ inr (inl (or_left (bytes_eq c.name name) (is_one_of (names_of cs) name) same))
+          ]
+          | inr passes ↦ inr (inr passes)
+        ]
+        | inr later ↦ elim later [
+          | inl above ↦ inr (inl (or_right (bytes_eq c.name name) (is_one_of (names_of cs) name) above))
+          | inr passes ↦ inr (inr passes)
+        ]
+      ]
 
 -- ---- a typed program
 
@@ -134,11 +188,30 @@ module _ (program : Program) (typing : Typing) (ok : IsTypedProgram program typi
   upwards_stand zero name = refl
   upwards_stand (suc n) name = upwards_at n (class_named (classes_of program) name) name refl (upwards_stand n)
 
+  up_have : (n : ℕ) (o : Option ListedClass) (name : Name) → class_named (classes_of program) name ≡ o
+      → ((parent : Name) → list_all have_stand (upwards n (classes_of program) parent) ≡ true)
+      → list_all have_stand (option_map_or (λ (c : ListedClass). c ∷ upwards n (classes_of program) c.parent) o []) ≡ true
+  up_have n None name e more = refl
+  up_have n (Some c) name e more = and_from (have_stand c) _ (named_passes have_stand (classes_of program) name c all_stand e) (more c.parent)
+
+  upwards_have : (n : ℕ) (name : Name) → list_all have_stand (upwards n (classes_of program) name) ≡ true
+  upwards_have zero name = refl
+  upwards_have (suc n) name = up_have n (class_named (classes_of program) name) name refl (upwards_have n)
+
   named_below : (cs : List ListedClass) (name : Name) → is_one_of (names_of cs) name ≡ list_any (λ (c : ListedClass). bytes_eq c.name name) cs
   named_below [] name = refl
   named_below (c ∷ cs) name = ap (λ (b : Bool). bytes_eq c.name name || b) (named_below cs name)
 
-  -- a given class in which a member of another is looked for
+  -- a given class that may stand in the place of an interface is one
+  given_stands : (own : ℕ) (class : LinkedClass) → slice_get program.classes own ≡ Some class → may_stand class.name ≡ true → is_interface program class.name ≡ true
+  given_stands own class there stands =
+      let given : not (is_some (class_given program class.name)) ≡ false = rw (given_found program typing ok own class there) refl in
+      elim (or_cases (not (is_some (class_given program class.name))) _ stands) [
+        | inl not_so ↦ absurd (false≢true (sym given ∙ not_so))
+        | inr is ↦ is
+      ]
+
+  -- a given class in which a method of another is looked for
   pub looked_in : (from : Name) (own : ℕ) (class : LinkedClass) → slice_get program.classes own ≡ Some class
       → is_one_of (search_order (classes_of program) from) class.name ≡ true → (is_below program from class.name ≡ true) ⊎ (is_interface program class.name ≡ true)
   looked_in from own class there e =
@@ -148,12 +221,20 @@ module _ (program : Program) (typing : Typing) (ok : IsTypedProgram program typi
             let all = reached_pass may_stand (classes_of program) interfaces_stand _ [] (interfaces_of (superclasses (classes_of program) from)) refl
             (upwards_stand (length (classes_of program)) from) in
             let one = any_of (λ (other : Name). bytes_eq other class.name) may_stand (interfaces_from (classes_of program) (interfaces_of (superclasses (classes_of program) from))) all has in
-            let stands : may_stand class.name ≡ true = subst (λ (n : Name). may_stand n ≡ true) (same_of one.0 class.name one.1) one.2 in
-            let given : not (is_some (class_given program class.name)) ≡ false = rw (given_found program typing ok own class there) refl in
-            elim (or_cases (not (is_some (class_given program class.name))) _ stands) [
-              | inl not_so ↦ absurd (false≢true (sym given ∙ not_so))
-              | inr is ↦ inr is
-            ]
+            inr (given_stands own class there (subst (λ (n : Name). may_stand n ≡ true) (same_of one.0 class.name one.1) one.2))
+      ]
+
+  -- the same of a field
+  field_looked_in : (from : Name) (own : ℕ) (class : LinkedClass) → slice_get program.classes own ≡ Some class
+      → is_one_of (field_order (classes_of program) from) class.name ≡ true → (is_below program from class.name ≡ true) ⊎ (is_interface program class.name ≡ true)
+  field_looked_in from own class there e =
+      let supers = superclasses (classes_of program) from in
+      elim (each_case may_stand (classes_of program) interfaces_stand class.name supers [] (upwards_have (length (classes_of program)) from) e) [
+        | inl none ↦ absurd (false≢true none)
+        | inr found ↦ elim found [
+          | inl up ↦ inl (sym (named_below supers class.name) ∙ up)
+          | inr stands ↦ inr (given_stands own class there stands)
+        ]
       ]
 
   not_array : (from above : Name) → is_below program from above ≡ true → is_array from ≡ false
@@ -174,6 +255,14 @@ module _ (program : Program) (typing : Typing) (ok : IsTypedProgram program typi
       → is_one_of (search_order (classes_of program) from) class.name ≡ true → assignable program (types.Ref from) (types.Ref class.name) ≡ true
   declared_fits from own class there e =
       elim (looked_in from own class there e) [
+        | inl up ↦ below_fits from class.name up
+        | inr is ↦ interface_fits from class.name is
+      ]
+
+  pub field_fits : (from : Name) (own : ℕ) (class : LinkedClass) → slice_get program.classes own ≡ Some class
+      → is_one_of (field_order (classes_of program) from) class.name ≡ true → assignable program (types.Ref from) (types.Ref class.name) ≡ true
+  field_fits from own class there e =
+      elim (field_looked_in from own class there e) [
         | inl up ↦ below_fits from class.name up
         | inr is ↦ interface_fits from class.name is
       ]
@@ -202,4 +291,6 @@ module _ (program : Program) (typing : Typing) (ok : IsTypedProgram program typi
   interface_is own class there = rw (given_head program typing ok own class there) refl
 
   pub good_interface : (own : ℕ) (class : LinkedClass) → slice_get program.classes own ≡ Some class → is_good_interface (head_of class.file) class.file.fields ≡ true
-  good_interface own class there = (and_parts (stands_below given_heads (head_of class.file)) _ (ok.linked.standing own class there).supers).1
+  good_interface own class there =
+      let supers = (and_parts (stands_below given_heads (head_of class.file)) _ (ok.linked.standing own class there).supers).1 in
+      (and_parts (is_good_interface (head_of class.file) class.file.fields) _ supers).0

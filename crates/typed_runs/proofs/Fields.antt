@@ -29,7 +29,7 @@ use Rattle.bytecode_model.specs.Heads.{desc_of, is_static}
 use Rattle.bytecode_model.specs.Members.{in_class}
 use Rattle.bytecode_model.specs.Operands.{use_of}
 use Rattle.bytecode_model.specs.InsnPlace.{InsnPlace, class_referred, desc_referred, is_own_field}
-use Rattle.bytecode_model.specs.SearchOrder.{Name, is_one_of, search_order}
+use Rattle.bytecode_model.specs.SearchOrder.{Name, is_one_of, field_order}
 use Rattle.bytecode_model.specs.Targets.{Names, UsesField, takes_class}
 use Rattle.bytecode_model.specs.Uses.{UsesAreShaped}
 use Rattle.bytecode_model.specs.Wants.{is_this, to_written}
@@ -51,7 +51,7 @@ use Rattle.typed_runs.specs.Fitting.{HeapFits, ObjectFits, StaticsFit, field_typ
 use Rattle.typed_runs.specs.Frames.{IsReady}
 use Rattle.typed_runs.specs.Machines.{BeginsRight}
 use Rattle.typed_runs.specs.Programs.{IsTypedProgram}
-use Rattle.typed_runs.proofs.Above.{declared_fits}
+use Rattle.typed_runs.proofs.Above.{field_fits}
 use Rattle.typed_runs.proofs.Changed.{WorldFits}
 use Rattle.typed_runs.proofs.Declared.{described_spelled, inner_spelled, listed_field}
 use Rattle.typed_runs.proofs.Growing.{grows_itself, grows_set, heap_set, made_grown, statics_grown}
@@ -275,8 +275,8 @@ module _ (program : Program) (typing : Typing) (ok : IsTypedProgram program typi
   owned of index u static =
       let d = u.declared in
       let up : assignable program (types.Ref u.told.class) (types.Ref d.class.name) ≡ true =
-      declared_fits program typing ok u.told.class of d.class d.there
-      (subst (λ (name : Name). is_one_of (search_order (classes_of program) u.told.class) name ≡ true)
+      field_fits program typing ok u.told.class of d.class d.there
+      (subst (λ (name : Name). is_one_of (field_order (classes_of program) u.told.class) name ≡ true)
       (sym d.owner) u.above) in
       record {
         class = d.class;
