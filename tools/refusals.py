@@ -212,7 +212,7 @@ LINKING = {
         (
             "What stands above the class may not stand there: its superclass is neither in the files nor Object, "
             "Thread, Throwable or a built-in class below that; or its interface is neither in the files nor "
-            "Runnable; or the classes run in a circle."
+            "Runnable; or the classes run in a circle; or it stands below `conspec/State`, the tool's own class."
         ),
         (
             (
@@ -273,13 +273,19 @@ LINKING = {
         ("class", "method"),
         (
             "An instance method of the class has the name and the descriptor of a listed or built-in method of a "
-            "class or interface above it. Only `run ()V` may be written anew."
+            "class or interface above it. Only `run ()V` may be written anew. Or an interface of the program asks "
+            "the class for the method, it does not have it as a public one, and a class of the library above has "
+            "it: a Java machine would run that one, unseen."
         ),
         (
             "The listing has `java/lang/Object toString` or `equals`, and the class writes it anew.",
             "A thread writes `start` or `join` anew.",
+            "An exception of the program has an interface that asks for `getMessage` or `printStackTrace`.",
         ),
-        "Give the method another name; or take the line out of the listing, if no call needs it.",
+        (
+            "Give the method another name, in the interface too; or take the line out of the listing, if no call "
+            "needs it."
+        ),
     ),
     150: Refusal(
         "a name that is none",
