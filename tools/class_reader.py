@@ -1,15 +1,13 @@
 """What a class says of itself: its superclass, its interfaces, its members, and what it names of other classes.
 
-Classes are read from the folders and jars of a class path, and those of the Java library by `javap`.
+Classes are read from the folders and jars of a class path.
 """
 import os
-import re
 import struct
-import subprocess
 import zipfile
 from typing import NamedTuple
 
-STATIC, INTERFACE = 0x0008, 0x0200
+PUBLIC, PROTECTED, STATIC, INTERFACE = 0x0001, 0x0004, 0x0008, 0x0200
 # how many bytes a constant has behind its tag, but for a text
 SIZES = {3: 4, 4: 4, 5: 8, 6: 8, 7: 2, 8: 2, 9: 4, 10: 4, 11: 4, 12: 4, 15: 3, 16: 2, 17: 4, 18: 4, 19: 2, 20: 2}
 CLASS, FIELD, METHODS, NAME_AND_TYPE = 7, 9, (10, 11), 12
@@ -36,9 +34,11 @@ class Class(NamedTuple):
     is_interface: bool
     fields: dict
     methods: dict
-    named: set
-    field_uses: set
-    method_uses: set
+    named: set = frozenset()
+    field_uses: set = frozenset()
+    method_uses: set = frozenset()
+    # the flags of each method
+    flags: dict = {}
 
 
 # ---- class files
@@ -104,15 +104,19 @@ class Pool:
 
 
 def members_of(read, pool):
-    """Fields or methods: whether each is static."""
+    """The flags of fields or of methods."""
     found = {}
     for _ in range(read.number(2)):
         flags, name, descriptor = read.number(2), read.number(2), read.number(2)
         for _ in range(read.number(2)):
             read.take(2)
             read.take(read.number(4))
-        found.setdefault((pool.text(name), pool.text(descriptor)), bool(flags & STATIC))
+        found.setdefault((pool.text(name), pool.text(descriptor)), flags)
     return found
+
+
+def static_of(members):
+    return {member: bool(flags & STATIC) for member, flags in members.items()}
 
 
 def class_of(content):
@@ -127,106 +131,61 @@ def class_of(content):
     fields, methods = members_of(read, pool), members_of(read, pool)
     above = pool.class_name(parent) if parent else None
     uses = pool.references((FIELD,)), pool.references(METHODS)
-    return Class(name, above, interfaces, bool(flags & INTERFACE), fields, methods, pool.classes(), *uses)
+    is_interface = bool(flags & INTERFACE)
+    return Class(name, above, interfaces, is_interface, static_of(fields), static_of(methods), pool.classes(), *uses, methods)
 
 
 # ---- class paths
+
+class Folder:
+    """A folder of a class path."""
+
+    def __init__(self, path):
+        self.path = path
+
+    def content(self, file):
+        """The bytes of the file of this name, or None."""
+        path = os.path.join(self.path, file)
+        if not os.path.isfile(path):
+            return None
+        with open(path, "rb") as opened:
+            return opened.read()
+
+
+class Jar:
+    """A jar of a class path."""
+
+    def __init__(self, path):
+        self.jar = zipfile.ZipFile(path)
+        self.names = set(self.jar.namelist())
+
+    def content(self, file):
+        """The bytes of the entry of this name, or None."""
+        return self.jar.read(file) if file in self.names else None
+
 
 class ClassPath:
     """Folders and jars, of which the first that has a class counts."""
 
     def __init__(self, text):
-        self.places = [place for place in text.split(os.pathsep) if place]
-        for place in self.places:
-            if not os.path.exists(place):
+        self.places = {}
+        for place in text.split(os.pathsep):
+            if place and not os.path.exists(place):
                 raise Unreadable(f"{place}: it is not there")
+            if place:
+                self.places[place] = self.guarded(place, Folder if os.path.isdir(place) else Jar, place)
+
+    def guarded(self, place, do, *words):
+        """Does this, and tells the place where it fails."""
+        try:
+            return do(*words)
+        except (OSError, zipfile.BadZipFile, NotImplementedError, RuntimeError) as fault:
+            raise Unreadable(f"{place}: {fault}") from fault
 
     def content(self, name):
         """The bytes of the class of this name, or None."""
-        for place in self.places:
-            found = content_in(place, name + ".class")
+        for place, opened in self.places.items():
+            found = self.guarded(place, opened.content, name + ".class")
             if found is not None:
                 return found
         return None
-
-    def find(self, name):
-        content = self.content(name)
-        try:
-            return content and class_of(content)
-        except Unreadable as fault:
-            raise Unreadable(f"{name}: {fault}") from fault
-
-
-def content_in(place, file):
-    try:
-        if os.path.isdir(place):
-            path = os.path.join(place, file)
-            if not os.path.isfile(path):
-                return None
-            with open(path, "rb") as opened:
-                return opened.read()
-        with zipfile.ZipFile(place) as jar:
-            return jar.read(file) if file in jar.namelist() else None
-    except (OSError, zipfile.BadZipFile) as fault:
-        raise Unreadable(f"{place}: {fault}") from fault
-
-
-# ---- the Java library
-
-def without_generics(line):
-    """The line without what stands between `<` and `>`."""
-    while re.search(r"<[^<>]*>", line):
-        line = re.sub(r"<[^<>]*>", "", line)
-    return line
-
-
-def names_in(text):
-    return [part.strip().replace(".", "/") for part in text.split(",") if part.strip()]
-
-
-def head_of(line):
-    """The class of a first line of javap, without members."""
-    line = without_generics(line).rstrip(" {").split(" permits ")[0]
-    kind, rest = re.search(r"\b(class|interface) (.*)", line).groups()
-    name = rest.split()[0].replace(".", "/")
-    above = re.search(r" extends (.*?)(?: implements |$)", rest)
-    below = re.search(r" implements (.*)$", rest)
-    extended, implemented = names_in(above[1]) if above else [], names_in(below[1]) if below else []
-    if kind == "interface":
-        return Class(name, "java/lang/Object", extended, True, {}, {}, set(), set(), set())
-    parent = extended[0] if extended else None if name == "java/lang/Object" else "java/lang/Object"
-    return Class(name, parent, implemented, False, {}, {}, set(), set(), set())
-
-
-def add_member(found, line, descriptor):
-    """A member from its line and its descriptor."""
-    line = without_generics(line).strip().rstrip(";")
-    is_static = "static" in line.split("(")[0].split()
-    if not descriptor.startswith("("):
-        found.fields[line.split()[-1], descriptor] = is_static
-        return
-    name = "<clinit>" if line.startswith("static {") else line.split("(")[0].split()[-1]
-    name = "<init>" if name.replace(".", "/") == found.name else name
-    found.methods.setdefault((name, descriptor), is_static)
-
-
-def classes_printed(text):
-    """The classes that `javap -s -p` printed."""
-    classes, before = [], ""
-    for line in text.splitlines():
-        if line.endswith("{") and not line.startswith(" "):
-            classes.append(head_of(line))
-        elif line.strip().startswith("descriptor: "):
-            add_member(classes[-1], before, line.split(": ", 1)[1])
-        before = line
-    return classes
-
-
-def library_classes(names):
-    """The classes of the Java library of these names, as far as javap finds them."""
-    words = ["javap", "-s", "-p", *(name.replace("/", ".") for name in names)]
-    try:
-        ran = subprocess.run(words, capture_output=True, text=True, check=False)
-    except OSError as fault:
-        raise Unreadable(f"javap, which reads the Java library, does not run: {fault.strerror}") from fault
-    return {found.name: found for found in classes_printed(ran.stdout)}
