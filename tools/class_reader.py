@@ -92,26 +92,37 @@ class Pool:
     def name_and_type(self, index):
         return tuple(self.text(part) for part in struct.unpack(">HH", self.entry(index, (NAME_AND_TYPE,))))
 
+    def reference(self, index, tags=METHODS):
+        owner, pair = struct.unpack(">HH", self.entry(index, tags))
+        return Reference(self.class_name(owner), *self.name_and_type(pair))
+
     def of_tags(self, tags):
-        return [content for tag, content in self.constants.values() if tag in tags]
+        return [index for index, (tag, _) in self.constants.items() if tag in tags]
 
     def references(self, tags):
-        pairs = [struct.unpack(">HH", content) for content in self.of_tags(tags)]
-        return {Reference(self.class_name(owner), *self.name_and_type(pair)) for owner, pair in pairs}
+        return {self.reference(index, tags) for index in self.of_tags(tags)}
 
     def classes(self):
-        return {self.text(int.from_bytes(content, "big")) for content in self.of_tags((CLASS,))}
+        return {self.class_name(index) for index in self.of_tags((CLASS,))}
+
+
+def attributes_of(read, pool):
+    """The attributes that stand here, with their names."""
+    return [(pool.text(read.number(2)), read.take(read.number(4))) for _ in range(read.number(2))]
 
 
 def members_of(read, pool):
-    """The flags of fields or of methods."""
-    found = {}
+    """The fields or the methods that stand here: the name and descriptor of each, its flags, and its attributes."""
     for _ in range(read.number(2)):
         flags, name, descriptor = read.number(2), read.number(2), read.number(2)
-        for _ in range(read.number(2)):
-            read.take(2)
-            read.take(read.number(4))
-        found.setdefault((pool.text(name), pool.text(descriptor)), flags)
+        yield (pool.text(name), pool.text(descriptor)), flags, attributes_of(read, pool)
+
+
+def flags_of(members):
+    """The flags of each member; of two with one name and descriptor the first counts."""
+    found = {}
+    for member, flags, _ in members:
+        found.setdefault(member, flags)
     return found
 
 
@@ -119,8 +130,8 @@ def static_of(members):
     return {member: bool(flags & STATIC) for member, flags in members.items()}
 
 
-def class_of(content):
-    """The class that a class file has."""
+def front_of(content):
+    """A class file as far as its fields: what reads on from there, its constants, and the class as far as it is known."""
     read = Bytes(content)
     if read.take(4) != b"\xca\xfe\xba\xbe":
         raise Unreadable("it is no class file")
@@ -128,11 +139,39 @@ def class_of(content):
     pool = Pool(read)
     flags, name, parent = read.number(2), pool.class_name(read.number(2)), read.number(2)
     interfaces = [pool.class_name(read.number(2)) for _ in range(read.number(2))]
-    fields, methods = members_of(read, pool), members_of(read, pool)
     above = pool.class_name(parent) if parent else None
-    uses = pool.references((FIELD,)), pool.references(METHODS)
-    is_interface = bool(flags & INTERFACE)
-    return Class(name, above, interfaces, is_interface, static_of(fields), static_of(methods), pool.classes(), *uses, methods)
+    return read, pool, Class(name, above, interfaces, bool(flags & INTERFACE), {}, {})
+
+
+def class_of(content):
+    """The class that a class file has."""
+    read, pool, front = front_of(content)
+    fields, methods = flags_of(members_of(read, pool)), flags_of(members_of(read, pool))
+    return front._replace(
+        fields=static_of(fields),
+        methods=static_of(methods),
+        named=pool.classes(),
+        field_uses=pool.references((FIELD,)),
+        method_uses=pool.references(METHODS),
+        flags=methods,
+    )
+
+
+def lines_of(content):
+    """The line numbers of each method with code: the first byte of each, and the line."""
+    read, pool, _ = front_of(content)
+    list(members_of(read, pool))
+    return {member: code_lines(dict(attributes)["Code"], pool) for member, _, attributes in members_of(read, pool) if "Code" in dict(attributes)}
+
+
+def code_lines(code, pool):
+    """The line numbers of a Code attribute, in their order."""
+    read = Bytes(code)
+    read.take(4)
+    read.take(read.number(4))
+    read.take(8 * read.number(2))
+    tables = [content for name, content in attributes_of(read, pool) if name == "LineNumberTable"]
+    return sorted(pair for table in tables for pair in struct.iter_unpack(">HH", table[2:]))
 
 
 # ---- class paths

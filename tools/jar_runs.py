@@ -23,11 +23,14 @@ LIBRARY, NO_JDK, MODE = "--library", "--no-jdk", "--mode"
 
 
 class Ran(NamedTuple):
-    """What conspecj printed, its status, what tools/explain says of the line, and what is warned of."""
+    """What conspecj printed, its status, and what tools/explain says of the line; of a jar that it accepts, its classes beside the
+    library, and what is warned of.
+    """
 
     printed: str
     status: int
     explained: str
+    views: object = None
     warnings: tuple = ()
 
 
@@ -145,8 +148,8 @@ def read_classes(entries):
     return found
 
 
-def look_beside_library(program, named):
-    """Refuses what none may have beside the library; what is warned of."""
+def look_beside_library(ran, program, named):
+    """Refuses what none may have beside the library; the run with what is warned of."""
     sources = [JavaClasses()] if named.with_java else []
     sources += [ClassPath(named.library)] if named.library else []
     views = views_of(program, contents(named.listing), contents(named.policy), sources)
@@ -154,7 +157,7 @@ def look_beside_library(program, named):
         refused = refusals_of(views)
         if refused:
             raise Unfit(*refused)
-        return tuple(warnings_of(views))
+        return ran._replace(views=views, warnings=tuple(warnings_of(views)))
     except NoJava as fault:
         raise NoJava(f"{fault}; {NO_JDK} leaves the classes of Java out of account") from fault
 
@@ -177,4 +180,4 @@ def check(content, named):
         return ran
     program = read_classes(classes)
     program.pop(STATE.removesuffix(".class"), None)
-    return ran._replace(warnings=look_beside_library(program, named))
+    return look_beside_library(ran, program, named)

@@ -64,11 +64,13 @@ def raw_name(info):
 
 
 def directory_of(jar, content):
-    """What the directory says of each entry; it has no byte besides."""
+    """What the directory says of each entry; its parts follow each other, and there is no byte besides."""
     infos = jar.infolist()
-    lengths = [DIRECTORY_PART + len(raw_name(info)) + len(info.extra) + len(info.comment) for info in infos]
-    count, size = struct.unpack("<HL", content[-12:-6])
-    if (len(infos), sum(lengths)) != (count, size):
+    count, size, at = struct.unpack("<H2L", content[-12:-2])
+    end = at + size
+    while at + DIRECTORY_PART <= end:
+        at += DIRECTORY_PART + sum(struct.unpack_from("<3H", content, at + 28))
+    if len(infos) != count or at != end:
         raise Unfit(UNCOUNTED)
     return infos
 

@@ -108,6 +108,12 @@ def java():
     return found
 
 
+def compiler(command):
+    """The command `javac`: that beside this `java`, or that on the path; None where none is."""
+    beside = os.path.join(os.path.dirname(os.path.realpath(command)), "javac")
+    return shutil.which(beside) or shutil.which("javac")
+
+
 def home_of(command):
     """The folder of a Java machine, which it tells itself."""
     try:
