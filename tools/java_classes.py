@@ -109,9 +109,9 @@ def java():
 
 
 def compiler(command):
-    """The command `javac`: that beside this `java`, or that on the path; None where none is."""
+    """A Java compiler: the `javac` beside this `java`, or that on the path, or `ecj`; None where none is."""
     beside = os.path.join(os.path.dirname(os.path.realpath(command)), "javac")
-    return shutil.which(beside) or shutil.which("javac")
+    return shutil.which(beside) or shutil.which("javac") or shutil.which("ecj")
 
 
 def home_of(command):
