@@ -6,6 +6,9 @@ import os
 import struct
 import zipfile
 from typing import NamedTuple
+from urllib.parse import unquote
+
+from jars import manifest_attributes
 
 PUBLIC, PROTECTED, STATIC, INTERFACE = 0x0001, 0x0004, 0x0008, 0x0200
 # how many bytes a constant has behind its tag, but for a text
@@ -160,8 +163,9 @@ def class_of(content):
 def lines_of(content):
     """The line numbers of each method with code: the first byte of each, and the line."""
     read, pool, _ = front_of(content)
-    list(members_of(read, pool))
-    return {member: code_lines(dict(attributes)["Code"], pool) for member, _, attributes in members_of(read, pool) if "Code" in dict(attributes)}
+    flags_of(members_of(read, pool))
+    codes = [(member, code) for member, _, attributes in members_of(read, pool) for name, code in attributes if name == "Code"]
+    return {member: code_lines(code, pool) for member, code in codes}
 
 
 def code_lines(code, pool):
@@ -190,17 +194,29 @@ class Folder:
         with open(path, "rb") as opened:
             return opened.read()
 
+    def named(self):
+        """The places that stand behind it on the class path."""
+        return []
+
 
 class Jar:
     """A jar of a class path."""
 
     def __init__(self, path):
-        self.jar = zipfile.ZipFile(path)
+        self.path, self.jar = path, zipfile.ZipFile(path)
         self.names = set(self.jar.namelist())
 
     def content(self, file):
         """The bytes of the entry of this name, or None."""
         return self.jar.read(file) if file in self.names else None
+
+    def named(self):
+        """The places that its manifest puts behind it on the class path; those that are not there count for nothing."""
+        text = (self.content("META-INF/MANIFEST.MF") or b"").decode("utf-8", "replace")
+        words = [word for name, value in manifest_attributes(text) if name == "class-path" for word in value.split()]
+        folder = os.path.dirname(os.path.abspath(self.path))
+        paths = [os.path.join(folder, unquote(word.removeprefix("file:"))) for word in words]
+        return [path for path in paths if os.path.exists(path)]
 
 
 class ClassPath:
@@ -208,11 +224,19 @@ class ClassPath:
 
     def __init__(self, text):
         self.places = {}
-        for place in text.split(os.pathsep):
-            if place and not os.path.exists(place):
+        for place in filter(None, text.split(os.pathsep)):
+            if not os.path.exists(place):
                 raise Unreadable(f"{place}: it is not there")
-            if place:
-                self.places[place] = self.guarded(place, Folder if os.path.isdir(place) else Jar, place)
+            self.add(place)
+
+    def add(self, place):
+        """Adds a place, and behind it those that it names itself."""
+        if place in self.places:
+            return
+        opened = self.guarded(place, Folder if os.path.isdir(place) else Jar, place)
+        self.places[place] = opened
+        for named in self.guarded(place, opened.named):
+            self.add(named)
 
     def guarded(self, place, do, *words):
         """Does this, and tells the place where it fails."""

@@ -136,8 +136,8 @@ def hidden_methods(views):
             continue
         real = views.real.declares("methods", owner, (method, descriptor))
         if real and real != told and real not in views.real.above(told):
-            line = f"static {spelled(real, method, descriptor)}"
-            yield f"{name}: it names {spelled(owner, method, descriptor)}, which is that of {real}, and by the listing that of {told}: add `{line}`"
+            which = f"{spelled(owner, method, descriptor)}, which is that of {real}, and by the listing that of {told}"
+            yield f"{name}: it names {which}: add the line `static {spelled(real, method, descriptor)}`, and a clause where that has one"
 
 
 # ---- the listing beside the library
@@ -189,15 +189,15 @@ def listed_members(views):
 
 
 def listed_twice(views):
-    """Two lines for one method of the library: one at its class, and one at a class that has it from there."""
+    """Two lines for one method of the library, one at its class and one at a class that has it from there, with other clauses."""
     for word, owner, name, descriptor in views.listed.members:
         if word == "field" or name == "<init>":
             continue
         real = views.real.declares("methods", owner, (name, descriptor))
-        if real not in (None, owner) and views.listed.names(real, name, descriptor):
-            line = f"{word} {spelled(owner, name, descriptor)}"
-            told = f"{owner} has it from {real}, where the listing has it, too, so that a clause of the one misses a call of the other"
-            yield f"{line}: {told}: leave this line out"
+        both = [views.clauses.get((other, name, descriptor)) for other in (owner, real)]
+        if real not in (None, owner) and views.listed.names(real, name, descriptor) and both[0] != both[1]:
+            told = f"{owner} has it from {real}, where the listing has it, too, and not both have the same clauses"
+            yield f"{word} {spelled(owner, name, descriptor)}: {told}: leave this line out"
 
 
 # ---- clauses
@@ -241,7 +241,8 @@ def warnings_of(views):
         if views.listed.names(*below):
             yield f"{spelled(*below)} overrides that of {above[0]}: give both the same clauses, since a call of either may run it"
         else:
-            yield f"{spelled(*below)} overrides that of {above[0]}, which has a clause, and has no line: its calls count as those of {above[0]}"
+            told = f"{spelled(*below)} overrides that of {above[0]}, which has a clause, and has no line"
+            yield f"{told}: its calls count as those of {above[0]}"
     absent = [name for name in views.listed.own if not views.real.has(name)] if views.real.sources else []
     if absent:
         yield f"neither Java nor the library has {', '.join(absent)}, so these classes of the listing were not compared (--library)"

@@ -102,19 +102,19 @@ def run(folder, listing, files, words):
     return Ran(printed, ran.returncode, explained)
 
 
-def print_line(text):
-    """Prints to standard output; if nobody reads it any more, that is no fault of what was judged."""
+def print_to(stream, text):
+    """Prints a text; if nobody reads it any more, that is no fault of what was judged."""
     try:
-        sys.stdout.write(text)
-        sys.stdout.flush()
+        stream.write(text)
+        stream.flush()
     except BrokenPipeError:
-        os.dup2(os.open(os.devnull, os.O_WRONLY), sys.stdout.fileno())
+        os.dup2(os.open(os.devnull, os.O_WRONLY), stream.fileno())
 
 
 def tell(ran):
     """Prints the line of conspecj, and its explanation beside it; the status of a tool."""
-    print_line(ran.printed)
-    sys.stderr.write(ran.explained)
+    print_to(sys.stdout, ran.printed)
+    print_to(sys.stderr, ran.explained)
     if ran.status == 0:
         return DONE
     return REFUSED if ran.status in REFUSALS else FAILED
@@ -122,14 +122,18 @@ def tell(ran):
 
 def tell_unfit(tool, jar, fault):
     """Prints each text, in a line with the names of the tool and of the jar; the status of a tool."""
-    for text in fault.args:
-        print(f"{tool}: {jar}: {text}", file=sys.stderr)
+    print_to(sys.stderr, "".join(f"{tool}: {jar}: {text}\n" for text in fault.args))
     return REFUSED
 
 
+def tell_failure(tool, fault):
+    """Prints what failed; the status of a tool."""
+    print_to(sys.stderr, f"{tool}: {fault}\n")
+    return FAILED
+
+
 def tell_warnings(tool, ran):
-    for text in ran.warnings:
-        print(f"{tool}: warning: {text}", file=sys.stderr)
+    print_to(sys.stderr, "".join(f"{tool}: warning: {text}\n" for text in ran.warnings))
 
 
 # ---- what is judged

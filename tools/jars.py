@@ -216,14 +216,18 @@ def entries_of(content):
 
 # ---- what none may have
 
+def manifest_attributes(text):
+    """The attributes of a manifest, of all its parts, as pairs of a name in small letters and a value."""
+    lines = re.split(r"\r\n|\r|\n", re.sub(r"(\r\n|\r|\n) ", "", text))
+    return [(name.strip().lower(), value.strip()) for name, _, value in (line.partition(":") for line in lines)]
+
+
 def manifest_of(entries):
-    """The attributes of the manifest, of all its parts, as pairs of a name in small letters and a value."""
+    """The attributes of the manifest of a jar."""
     found = [entry for entry in entries if entry.name.upper() == "META-INF/MANIFEST.MF"]
     if len(found) > 1:
         raise Unfit("it has two manifests")
-    text = found[0].content.decode("utf-8", "replace") if found else ""
-    lines = re.split(r"\r\n|\r|\n", re.sub(r"(\r\n|\r|\n) ", "", text))
-    return [(name.strip().lower(), value.strip()) for name, _, value in (line.partition(":") for line in lines)]
+    return manifest_attributes(found[0].content.decode("utf-8", "replace") if found else "")
 
 
 def look_at_manifest(entries, main):

@@ -166,10 +166,11 @@ def too_long(entries):
     """Jars of which no more is unpacked than conspecj reads, and than a machine has room for."""
     mib = 1 << 20
     more = "bytes unpacked, which is more than"
+    long = told_otherwise(jar_of([*entries, ("a/X.bin", b"")]), "a/X.bin", LENGTH, "<L", 1 << 29)
     return [
         ("a class file that is too long", jar_of([*entries, *zeros(1, ".class", mib + 1)]), f"a/Z0.class: it has {mib + 1} {more} {mib}"),
         ("class files that are too long", jar_of([*entries, *zeros(17, ".class", mib)]), "its class files have "),
-        ("another entry that is too long", told_otherwise(jar_of([*entries, ("a/X.bin", b"")]), "a/X.bin", LENGTH, "<L", 1 << 29), "a/X.bin: it has "),
+        ("another entry that is too long", long, "a/X.bin: it has "),
     ]
 
 
