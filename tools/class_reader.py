@@ -3,6 +3,7 @@
 Classes are read from the folders and jars of a class path.
 """
 import os
+import re
 import struct
 import zipfile
 from typing import NamedTuple
@@ -200,20 +201,23 @@ class Folder:
 
 
 class Jar:
-    """A jar of a class path."""
+    """A jar of a class path; of an entry for several versions of Java the newest counts."""
 
     def __init__(self, path):
         self.path, self.jar = path, zipfile.ZipFile(path)
-        self.names = set(self.jar.namelist())
+        self.entries = {name: name for name in self.jar.namelist()}
+        self.manifest = manifest_attributes((self.content("META-INF/MANIFEST.MF") or b"").decode("utf-8", "replace"))
+        if ("multi-release", "true") in self.manifest:
+            told = [match for name in self.entries if (match := re.fullmatch(r"META-INF/versions/(\d+)/(.+)", name))]
+            self.entries.update((match[2], match[0]) for match in sorted(told, key=lambda match: int(match[1])))
 
     def content(self, file):
         """The bytes of the entry of this name, or None."""
-        return self.jar.read(file) if file in self.names else None
+        return self.jar.read(self.entries[file]) if file in self.entries else None
 
     def named(self):
         """The places that its manifest puts behind it on the class path; those that are not there count for nothing."""
-        text = (self.content("META-INF/MANIFEST.MF") or b"").decode("utf-8", "replace")
-        words = [word for name, value in manifest_attributes(text) if name == "class-path" for word in value.split()]
+        words = [word for name, value in self.manifest if name == "class-path" for word in value.split()]
         folder = os.path.dirname(os.path.abspath(self.path))
         paths = [os.path.join(folder, unquote(word.removeprefix("file:"))) for word in words]
         return [path for path in paths if os.path.exists(path)]

@@ -10,7 +10,8 @@ class Library:
     """
 
     def __init__(self, given, *sources, otherwise=None):
-        self.given, self.sources, self.otherwise, self.known = given, sources, otherwise or {}, dict(given)
+        self.given, self.sources, self.otherwise = given, sources, otherwise or {}
+        self.known, self.ways = dict(given), {}
 
     def content(self, name):
         """The bytes of the class of this name in the sources, or None."""
@@ -51,8 +52,10 @@ class Library:
 
     def above(self, name):
         """The class, its superclasses, and then all their interfaces."""
-        chain = self.chain(name)
-        return chain + self.interfaces_of(chain)
+        if name not in self.ways:
+            chain = self.chain(name)
+            self.ways[name] = chain + self.interfaces_of(chain)
+        return self.ways[name]
 
     def declares(self, kind, owner, member):
         """The class that declares the member, looked for from this class upwards, or None."""
