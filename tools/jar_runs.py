@@ -17,8 +17,6 @@ HERE = os.path.dirname(os.path.realpath(__file__))
 DONE, REFUSED, WORDS, FAILED = range(4)
 # the statuses with which conspecj refuses what it was given; those above are of files, of memory, and of no run at all
 REFUSALS = (1, 3, 4)
-
-
 LIBRARY, NO_JDK, MODE = "--library", "--no-jdk", "--mode"
 
 

@@ -89,16 +89,6 @@ class Image:
         return zlib.decompress(content[PACKED_HEADER.size : PACKED_HEADER.size + packed], bufsize=length)
 
 
-class Jars:
-    """The jars with the classes of an older Java machine."""
-
-    def __init__(self, paths):
-        self.path = ClassPath(os.pathsep.join(paths))
-
-    def content(self, name):
-        return self.path.content(name)
-
-
 def java():
     """The command `java`: that on the path, or that of JAVA_HOME."""
     home = os.environ.get("JAVA_HOME")
