@@ -104,6 +104,15 @@ def behind_bytes(content, value):
     return content[:at] + struct.pack("<L", value) + content[at + 4 :]
 
 
+def more_packed(content, name, added):
+    """The jar with more bytes behind the packed ones of its last entry, and counted with them."""
+    place, packed = struct.unpack("<L", content[-6:-2])[0], content.rindex(name.encode("ascii")) - NAME + PACKED
+    length = struct.unpack_from("<L", content, packed)[0] + len(added)
+    content = in_both(content, name, PACKED, "<L", length)
+    end = content[-6:].replace(struct.pack("<L", place), struct.pack("<L", place + len(added)))
+    return content[:place] + added + content[place:-6] + end
+
+
 def with_extra(entries, extra):
     """The jar with an extra field at an entry more."""
     made = io.BytesIO(jar_of(entries))
@@ -154,6 +163,7 @@ def of_two_readings(entries):
         ("a length that is too long", in_both(odd, "a/X.bin", LENGTH, "<L", 11), "a/X.bin: its length is another than is told"),
         ("a length that is too short", in_both(odd, "a/X.bin", LENGTH, "<L", 9), "a/X.bin: its length is another than is told"),
         ("fewer bytes than are packed", in_both(odd, "a/X.bin", PACKED, "<L", packed - 1), "a/X.bin: its length is another than is told"),
+        ("more bytes than are packed", more_packed(odd, "a/X.bin", b"more"), "a/X.bin: its length is another than is told"),
         ("two lengths of what is stored", in_both(stored, "a/X.bin", LENGTH, "<L", 9), length),
         ("stored bytes whose length stands behind", in_both(stored, "a/X.bin", FLAGS, "<H", 8), length),
         ("long lengths", with_extra(entries, LONG_LENGTHS), extra),
