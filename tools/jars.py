@@ -139,8 +139,10 @@ def begin_of(content, info):
     front, _, flags, method, _, _, *sums, name, extra = HEADER.unpack_from(content, info.header_offset)
     at = info.header_offset + HEADER.size
     behind = at + name + extra
-    told = [(0, 0, 0), sums_of(info)] if flags & IS_TOLD_BEHIND else [sums_of(info)]
-    agrees = (front, flags, method) == (b"PK\3\4", info.flag_bits, info.compress_type) and tuple(sums) in told
+    # what is told behind the bytes may be 0 here
+    blanks = (0,) if flags & IS_TOLD_BEHIND else ()
+    agrees = (front, flags, method) == (b"PK\3\4", info.flag_bits, info.compress_type)
+    agrees = agrees and all(told in (wanted, *blanks) for told, wanted in zip(sums, sums_of(info)))
     if not agrees or content[at : at + name] != raw_name(info) or not has_plain_extra(content[at + name : behind]):
         raise Unfit(f"{info.filename}: {OTHER_HEADER}")
     return behind

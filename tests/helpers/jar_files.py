@@ -156,6 +156,8 @@ def of_two_readings(entries):
         ("no header", in_header(odd, "a/X.bin", SOONER, "<L", 0), f"a/X.bin: {HEADER}"),
         ("another sum in the header", in_header(odd, "a/X.bin", SUM, "<L", 7), f"a/X.bin: {HEADER}"),
         ("another length in the header", in_header(odd, "a/X.bin", LENGTH, "<L", 9), f"a/X.bin: {HEADER}"),
+        ("a header that tells sum and lengths behind the bytes", in_header(odd, "a/X.bin", FLAGS, "<H", 8), f"a/X.bin: {HEADER}"),
+        ("another length in the header of one that does", in_header(streamed, "a/X.bin", LENGTH, "<L", 9), f"a/X.bin: {HEADER}"),
         ("another sum behind the bytes", behind_bytes(streamed, 7), f"a/X.bin: {HEADER}"),
         ("encrypted", in_both(odd, "a/X.bin", FLAGS, "<H", 1), neither),
         ("another compression", in_both(odd, "a/X.bin", METHOD, "<H", 12), neither),
