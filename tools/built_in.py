@@ -2,19 +2,29 @@
 
 LANG = "java/lang/"
 OBJECT = "java/lang/Object"
+RUNNABLE, THREAD = LANG + "Runnable", LANG + "Thread"
+SYSTEM_EXIT = (LANG + "System", "exit", "(I)V")
 
-THROWN = (
-    "Throwable Exception RuntimeException InterruptedException NullPointerException ArithmeticException ClassCastException "
-    "ArrayStoreException NegativeArraySizeException IllegalMonitorStateException IndexOutOfBoundsException "
-    "IllegalArgumentException ArrayIndexOutOfBoundsException IllegalThreadStateException"
-).split()
-BUILT_IN = {LANG + name for name in ["Object", "Class", "String", "System", "Thread", "Runnable", *THROWN]}
+# each class that can be thrown, with its superclass
+THROWN = {
+    "Throwable": "Object",
+    "Exception": "Throwable",
+    **dict.fromkeys(("RuntimeException", "InterruptedException"), "Exception"),
+    **dict.fromkeys(("NullPointerException", "ArithmeticException", "ClassCastException", "ArrayStoreException"), "RuntimeException"),
+    **dict.fromkeys(("NegativeArraySizeException", "IllegalMonitorStateException"), "RuntimeException"),
+    **dict.fromkeys(("IndexOutOfBoundsException", "IllegalArgumentException"), "RuntimeException"),
+    "ArrayIndexOutOfBoundsException": "IndexOutOfBoundsException",
+    "IllegalThreadStateException": "IllegalArgumentException",
+}
+SUPERCLASSES = {**dict.fromkeys(("Class", "String", "System", "Thread", "Runnable"), "Object"), **THROWN}
+BUILT_IN_PARENTS = {OBJECT: None, **{LANG + name: LANG + parent for name, parent in SUPERCLASSES.items()}}
+BUILT_IN = set(BUILT_IN_PARENTS)
 BUILT_IN_METHODS = {
     (OBJECT, "<init>", "()V"),
-    *((LANG + "Thread", "<init>", descriptor) for descriptor in ("()V", "(Ljava/lang/Runnable;)V")),
-    *((LANG + "Thread", name, "()V") for name in ("start", "run", "join")),
-    (LANG + "Runnable", "run", "()V"),
-    (LANG + "System", "exit", "(I)V"),
+    *((THREAD, "<init>", descriptor) for descriptor in ("()V", "(Ljava/lang/Runnable;)V")),
+    *((THREAD, name, "()V") for name in ("start", "run", "join")),
+    (RUNNABLE, "run", "()V"),
+    SYSTEM_EXIT,
     (LANG + "String", "length", "()I"),
     *((LANG + name, "<init>", descriptor) for name in THROWN for descriptor in ("()V", "(Ljava/lang/String;)V")),
 }

@@ -1,6 +1,7 @@
-"""Where conspecj is."""
+"""Where conspecj is, and what it shows of a class."""
 import os
 import shutil
+import subprocess
 
 
 class Refused(Exception):
@@ -14,3 +15,11 @@ def program():
         if path and os.access(path, os.X_OK):
             return os.path.realpath(path)
     raise Refused("conspecj is not built, and CONSPECJ does not tell where it is")
+
+
+def shown(listing, file):
+    """The lines that `conspecj show` prints of a class file."""
+    ran = subprocess.run([program(), "show", listing, file], capture_output=True, text=True, check=False)
+    if ran.returncode:
+        raise Refused(ran.stdout.strip() or "conspecj is stopped")
+    return ran.stdout.splitlines()

@@ -1,15 +1,17 @@
 """What a class says of itself: its superclass, its interfaces, its members, and what it names of other classes.
 
-Classes are read from the folders and jars of a class path, and those of the Java library by `javap`.
+Classes are read from the folders and jars of a class path.
 """
 import os
 import re
 import struct
-import subprocess
 import zipfile
 from typing import NamedTuple
+from urllib.parse import unquote
 
-STATIC, INTERFACE = 0x0008, 0x0200
+from jars import manifest_attributes
+
+PUBLIC, PROTECTED, STATIC, INTERFACE = 0x0001, 0x0004, 0x0008, 0x0200
 # how many bytes a constant has behind its tag, but for a text
 SIZES = {3: 4, 4: 4, 5: 8, 6: 8, 7: 2, 8: 2, 9: 4, 10: 4, 11: 4, 12: 4, 15: 3, 16: 2, 17: 4, 18: 4, 19: 2, 20: 2}
 CLASS, FIELD, METHODS, NAME_AND_TYPE = 7, 9, (10, 11), 12
@@ -36,9 +38,11 @@ class Class(NamedTuple):
     is_interface: bool
     fields: dict
     methods: dict
-    named: set
-    field_uses: set
-    method_uses: set
+    named: set = frozenset()
+    field_uses: set = frozenset()
+    method_uses: set = frozenset()
+    # the flags of each method
+    flags: dict = {}
 
 
 # ---- class files
@@ -92,31 +96,46 @@ class Pool:
     def name_and_type(self, index):
         return tuple(self.text(part) for part in struct.unpack(">HH", self.entry(index, (NAME_AND_TYPE,))))
 
+    def reference(self, index, tags=METHODS):
+        owner, pair = struct.unpack(">HH", self.entry(index, tags))
+        return Reference(self.class_name(owner), *self.name_and_type(pair))
+
     def of_tags(self, tags):
-        return [content for tag, content in self.constants.values() if tag in tags]
+        return [index for index, (tag, _) in self.constants.items() if tag in tags]
 
     def references(self, tags):
-        pairs = [struct.unpack(">HH", content) for content in self.of_tags(tags)]
-        return {Reference(self.class_name(owner), *self.name_and_type(pair)) for owner, pair in pairs}
+        return {self.reference(index, tags) for index in self.of_tags(tags)}
 
     def classes(self):
-        return {self.text(int.from_bytes(content, "big")) for content in self.of_tags((CLASS,))}
+        return {self.class_name(index) for index in self.of_tags((CLASS,))}
+
+
+def attributes_of(read, pool):
+    """The attributes that stand here, with their names."""
+    return [(pool.text(read.number(2)), read.take(read.number(4))) for _ in range(read.number(2))]
 
 
 def members_of(read, pool):
-    """Fields or methods: whether each is static."""
-    found = {}
+    """The fields or the methods that stand here: the name and descriptor of each, its flags, and its attributes."""
     for _ in range(read.number(2)):
         flags, name, descriptor = read.number(2), read.number(2), read.number(2)
-        for _ in range(read.number(2)):
-            read.take(2)
-            read.take(read.number(4))
-        found.setdefault((pool.text(name), pool.text(descriptor)), bool(flags & STATIC))
+        yield (pool.text(name), pool.text(descriptor)), flags, attributes_of(read, pool)
+
+
+def flags_of(members):
+    """The flags of each member; of two with one name and descriptor the first counts."""
+    found = {}
+    for member, flags, _ in members:
+        found.setdefault(member, flags)
     return found
 
 
-def class_of(content):
-    """The class that a class file has."""
+def static_of(members):
+    return {member: bool(flags & STATIC) for member, flags in members.items()}
+
+
+def front_of(content):
+    """A class file as far as its fields: what reads on from there, its constants, and the class as far as it is known."""
     read = Bytes(content)
     if read.take(4) != b"\xca\xfe\xba\xbe":
         raise Unreadable("it is no class file")
@@ -124,109 +143,116 @@ def class_of(content):
     pool = Pool(read)
     flags, name, parent = read.number(2), pool.class_name(read.number(2)), read.number(2)
     interfaces = [pool.class_name(read.number(2)) for _ in range(read.number(2))]
-    fields, methods = members_of(read, pool), members_of(read, pool)
     above = pool.class_name(parent) if parent else None
-    uses = pool.references((FIELD,)), pool.references(METHODS)
-    return Class(name, above, interfaces, bool(flags & INTERFACE), fields, methods, pool.classes(), *uses)
+    return read, pool, Class(name, above, interfaces, bool(flags & INTERFACE), {}, {})
+
+
+def class_of(content):
+    """The class that a class file has."""
+    read, pool, front = front_of(content)
+    fields, methods = flags_of(members_of(read, pool)), flags_of(members_of(read, pool))
+    return front._replace(
+        fields=static_of(fields),
+        methods=static_of(methods),
+        named=pool.classes(),
+        field_uses=pool.references((FIELD,)),
+        method_uses=pool.references(METHODS),
+        flags=methods,
+    )
+
+
+def lines_of(content):
+    """The line numbers of each method with code: the first byte of each, and the line."""
+    read, pool, _ = front_of(content)
+    flags_of(members_of(read, pool))
+    codes = [(member, code) for member, _, attributes in members_of(read, pool) for name, code in attributes if name == "Code"]
+    return {member: code_lines(code, pool) for member, code in codes}
+
+
+def code_lines(code, pool):
+    """The line numbers of a Code attribute, in their order."""
+    read = Bytes(code)
+    read.take(4)
+    read.take(read.number(4))
+    read.take(8 * read.number(2))
+    tables = [content for name, content in attributes_of(read, pool) if name == "LineNumberTable"]
+    return sorted(pair for table in tables for pair in struct.iter_unpack(">HH", table[2:]))
 
 
 # ---- class paths
+
+class Folder:
+    """A folder of a class path."""
+
+    def __init__(self, path):
+        self.path = path
+
+    def content(self, file):
+        """The bytes of the file of this name, or None."""
+        path = os.path.join(self.path, file)
+        if not os.path.isfile(path):
+            return None
+        with open(path, "rb") as opened:
+            return opened.read()
+
+    def named(self):
+        """The places that stand behind it on the class path."""
+        return []
+
+
+class Jar:
+    """A jar of a class path; of an entry for several versions of Java the newest counts."""
+
+    def __init__(self, path):
+        self.path, self.jar = path, zipfile.ZipFile(path)
+        self.entries = {name: name for name in self.jar.namelist()}
+        self.manifest = manifest_attributes((self.content("META-INF/MANIFEST.MF") or b"").decode("utf-8", "replace"))
+        if ("multi-release", "true") in self.manifest:
+            told = [match for name in self.entries if (match := re.fullmatch(r"META-INF/versions/(\d+)/(.+)", name))]
+            self.entries.update((match[2], match[0]) for match in sorted(told, key=lambda match: int(match[1])))
+
+    def content(self, file):
+        """The bytes of the entry of this name, or None."""
+        return self.jar.read(self.entries[file]) if file in self.entries else None
+
+    def named(self):
+        """The places that its manifest puts behind it on the class path; those that are not there count for nothing."""
+        words = [word for name, value in self.manifest if name == "class-path" for word in value.split()]
+        folder = os.path.dirname(os.path.abspath(self.path))
+        paths = [os.path.join(folder, unquote(word.removeprefix("file:"))) for word in words]
+        return [path for path in paths if os.path.exists(path)]
+
 
 class ClassPath:
     """Folders and jars, of which the first that has a class counts."""
 
     def __init__(self, text):
-        self.places = [place for place in text.split(os.pathsep) if place]
-        for place in self.places:
+        self.places = {}
+        for place in filter(None, text.split(os.pathsep)):
             if not os.path.exists(place):
                 raise Unreadable(f"{place}: it is not there")
+            self.add(place)
+
+    def add(self, place):
+        """Adds a place, and behind it those that it names itself."""
+        if place in self.places:
+            return
+        opened = self.guarded(place, Folder if os.path.isdir(place) else Jar, place)
+        self.places[place] = opened
+        for named in self.guarded(place, opened.named):
+            self.add(named)
+
+    def guarded(self, place, do, *words):
+        """Does this, and tells the place where it fails."""
+        try:
+            return do(*words)
+        except (OSError, zipfile.BadZipFile, NotImplementedError, RuntimeError) as fault:
+            raise Unreadable(f"{place}: {fault}") from fault
 
     def content(self, name):
         """The bytes of the class of this name, or None."""
-        for place in self.places:
-            found = content_in(place, name + ".class")
+        for place, opened in self.places.items():
+            found = self.guarded(place, opened.content, name + ".class")
             if found is not None:
                 return found
         return None
-
-    def find(self, name):
-        content = self.content(name)
-        try:
-            return content and class_of(content)
-        except Unreadable as fault:
-            raise Unreadable(f"{name}: {fault}") from fault
-
-
-def content_in(place, file):
-    try:
-        if os.path.isdir(place):
-            path = os.path.join(place, file)
-            if not os.path.isfile(path):
-                return None
-            with open(path, "rb") as opened:
-                return opened.read()
-        with zipfile.ZipFile(place) as jar:
-            return jar.read(file) if file in jar.namelist() else None
-    except (OSError, zipfile.BadZipFile) as fault:
-        raise Unreadable(f"{place}: {fault}") from fault
-
-
-# ---- the Java library
-
-def without_generics(line):
-    """The line without what stands between `<` and `>`."""
-    while re.search(r"<[^<>]*>", line):
-        line = re.sub(r"<[^<>]*>", "", line)
-    return line
-
-
-def names_in(text):
-    return [part.strip().replace(".", "/") for part in text.split(",") if part.strip()]
-
-
-def head_of(line):
-    """The class of a first line of javap, without members."""
-    line = without_generics(line).rstrip(" {").split(" permits ")[0]
-    kind, rest = re.search(r"\b(class|interface) (.*)", line).groups()
-    name = rest.split()[0].replace(".", "/")
-    above = re.search(r" extends (.*?)(?: implements |$)", rest)
-    below = re.search(r" implements (.*)$", rest)
-    extended, implemented = names_in(above[1]) if above else [], names_in(below[1]) if below else []
-    if kind == "interface":
-        return Class(name, "java/lang/Object", extended, True, {}, {}, set(), set(), set())
-    parent = extended[0] if extended else None if name == "java/lang/Object" else "java/lang/Object"
-    return Class(name, parent, implemented, False, {}, {}, set(), set(), set())
-
-
-def add_member(found, line, descriptor):
-    """A member from its line and its descriptor."""
-    line = without_generics(line).strip().rstrip(";")
-    is_static = "static" in line.split("(")[0].split()
-    if not descriptor.startswith("("):
-        found.fields[line.split()[-1], descriptor] = is_static
-        return
-    name = "<clinit>" if line.startswith("static {") else line.split("(")[0].split()[-1]
-    name = "<init>" if name.replace(".", "/") == found.name else name
-    found.methods.setdefault((name, descriptor), is_static)
-
-
-def classes_printed(text):
-    """The classes that `javap -s -p` printed."""
-    classes, before = [], ""
-    for line in text.splitlines():
-        if line.endswith("{") and not line.startswith(" "):
-            classes.append(head_of(line))
-        elif line.strip().startswith("descriptor: "):
-            add_member(classes[-1], before, line.split(": ", 1)[1])
-        before = line
-    return classes
-
-
-def library_classes(names):
-    """The classes of the Java library of these names, as far as javap finds them."""
-    words = ["javap", "-s", "-p", *(name.replace("/", ".") for name in names)]
-    try:
-        ran = subprocess.run(words, capture_output=True, text=True, check=False)
-    except OSError as fault:
-        raise Unreadable(f"javap, which reads the Java library, does not run: {fault.strerror}") from fault
-    return {found.name: found for found in classes_printed(ran.stdout)}

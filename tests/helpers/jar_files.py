@@ -4,6 +4,7 @@ import os
 import struct
 import warnings
 import zipfile
+import zlib
 
 HERE = os.path.dirname(os.path.realpath(__file__))
 ROOT = os.path.dirname(os.path.dirname(HERE))
@@ -47,8 +48,11 @@ def write(folder, name, content):
 
 # ---- odd ones
 
-# where the directory has what of an entry, from the beginning of its part
+# where the directory has what of an entry, from the beginning of its part, and how many bytes sooner its header has that
 FLAGS, METHOD, SUM, PACKED, LENGTH, NAME = 8, 10, 16, 20, 24, 46
+SOONER, HEADER_NAME = 2, 30
+LONG_LENGTHS, OTHER_NAME = b"\1\0\x08\0" + bytes(8), b"\x75\x70\x05\0" + bytes(5)
+HEADER = "the header before its bytes, or what is told behind them, is not what the directory says"
 
 
 def told_otherwise(content, name, place, form, value):
@@ -57,12 +61,83 @@ def told_otherwise(content, name, place, form, value):
     return content[:at] + struct.pack(form, value) + content[at + struct.calcsize(form) :]
 
 
+def in_header(content, name, place, form, value):
+    """The jar with another number in the header before the bytes of an entry."""
+    at = content.index(name.encode("ascii")) - HEADER_NAME + place - SOONER
+    return content[:at] + struct.pack(form, value) + content[at + struct.calcsize(form) :]
+
+
+def in_both(content, name, place, form, value):
+    return in_header(told_otherwise(content, name, place, form, value), name, place, form, value)
+
+
+def not_counted(entries, hidden):
+    """The jar with the bytes of these entries, of which the directory has no part for the hidden ones."""
+    made = io.BytesIO()
+    with zipfile.ZipFile(made, "w", zipfile.ZIP_DEFLATED) as jar:
+        for name, content in entries:
+            jar.writestr(name, content)
+        jar.filelist[:] = [info for info in jar.filelist if info.filename not in hidden]
+    return made.getvalue()
+
+
+def in_stream(entries):
+    """The jar as it is written to a pipe, with sums and lengths behind the bytes of each entry."""
+
+    class Pipe(io.BytesIO):
+        def seekable(self):
+            return False
+
+        def seek(self, *_):
+            raise io.UnsupportedOperation
+
+    made = Pipe()
+    with zipfile.ZipFile(made, "w", zipfile.ZIP_DEFLATED) as jar:
+        for name, content in entries:
+            jar.writestr(name, content)
+    return made.getvalue()
+
+
+def behind_bytes(content, value):
+    """The jar with another sum behind the bytes of its last entry."""
+    at = content.rindex(b"PK\7\x08") + 4
+    return content[:at] + struct.pack("<L", value) + content[at + 4 :]
+
+
+def more_packed(content, name, added):
+    """The jar with more bytes behind the packed ones of its last entry, and counted with them."""
+    place, packed = struct.unpack("<L", content[-6:-2])[0], content.rindex(name.encode("ascii")) - NAME + PACKED
+    length = struct.unpack_from("<L", content, packed)[0] + len(added)
+    content = in_both(content, name, PACKED, "<L", length)
+    end = content[-6:].replace(struct.pack("<L", place), struct.pack("<L", place + len(added)))
+    return content[:place] + added + content[place:-6] + end
+
+
+def with_extra(entries, extra):
+    """The jar with an extra field at an entry more."""
+    made = io.BytesIO(jar_of(entries))
+    with zipfile.ZipFile(made, "a") as jar:
+        info = zipfile.ZipInfo("a/X.bin")
+        info.extra = extra
+        jar.writestr(info, b"some bytes")
+    return made.getvalue()
+
+
+def zeros(count, ending, length):
+    """Entries of so many zeros, of which a jar has few bytes."""
+    return [(f"a/Z{number}{ending}", bytes(length)) for number in range(count)]
+
+
 def of_two_readings(entries):
     """Files that two readers may take for different jars."""
-    whole = jar_of(entries)
-    odd = jar_of([*entries, ("a/X.bin", b"some bytes")])
-    stored = jar_of([*entries, ("a/X.bin", b"some bytes")], method=zipfile.ZIP_STORED)
+    whole, hidden = jar_of(entries), ("a/X.bin", b"some bytes")
+    odd, streamed = jar_of([*entries, hidden]), in_stream([*entries, hidden])
+    stored = jar_of([*entries, hidden], method=zipfile.ZIP_STORED)
+    packed = len(zlib.compress(b"some bytes", wbits=-15))
     two = "its name can be read in two ways"
+    neither = "'a/X.bin': it is neither stored nor deflated"
+    length = "'a/X.bin': its length can be read in two ways"
+    extra = "'a/X.bin': its extra fields can be read in two ways"
     return [
         ("a text", b"This is a text, and no jar, whatever its name is.\n", NO_JAR),
         ("an empty file", b"", NO_JAR),
@@ -71,14 +146,43 @@ def of_two_readings(entries):
         ("another jar behind it", whole + whole, NO_JAR),
         ("a remark at its end", jar_of(entries, b"a remark"), NO_JAR),
         ("what looks like a longer end", jar_of(entries, last=b"PK\6\7" + bytes(16)), NO_JAR),
+        ("a hidden entry before all", not_counted([hidden, *entries], ["a/X.bin"]), NO_JAR),
+        ("a hidden entry between", not_counted([*entries[:2], hidden, *entries[2:]], ["a/X.bin"]), NO_JAR),
+        ("a hidden entry behind all", not_counted([*entries, hidden], ["a/X.bin"]), NO_JAR),
+        ("a directory with more", told_otherwise(odd, "a/X.bin", 32, "<H", 1), NO_JAR),
         ("a name with a zero byte", odd.replace(b"a/X.bin", b"a/X\0bin"), f"'a/X\\x00bin': {two}"),
         ("a name that is no UTF-8", odd.replace(b"a/X.bin", b"a/\xe4.bin"), f"'a/\\u03a3.bin': {two}"),
-        ("another name before the bytes", odd.replace(b"a/X.bin", b"a/Y.bin", 1), "a/X.bin: File name in directory"),
-        ("encrypted", told_otherwise(odd, "a/X.bin", FLAGS, "<H", 1), "'a/X.bin': it is neither stored nor deflated"),
-        ("another compression", told_otherwise(odd, "a/X.bin", METHOD, "<H", 12), "'a/X.bin': it is neither stored nor deflated"),
-        ("another sum", told_otherwise(odd, "a/X.bin", SUM, "<L", 7), "a/X.bin: Bad CRC-32"),
-        ("a length that is too long", told_otherwise(odd, "a/X.bin", LENGTH, "<L", 11), "a/X.bin: its length is another than is told"),
-        ("two lengths of what is stored", told_otherwise(stored, "a/X.bin", LENGTH, "<L", 9), "'a/X.bin': its two lengths differ"),
+        ("another name before the bytes", odd.replace(b"a/X.bin", b"a/Y.bin", 1), f"a/X.bin: {HEADER}"),
+        ("no header", in_header(odd, "a/X.bin", SOONER, "<L", 0), f"a/X.bin: {HEADER}"),
+        ("another sum in the header", in_header(odd, "a/X.bin", SUM, "<L", 0), f"a/X.bin: {HEADER}"),
+        ("another length in the header", in_header(odd, "a/X.bin", LENGTH, "<L", 0), f"a/X.bin: {HEADER}"),
+        ("a header that tells sum and lengths behind the bytes", in_header(odd, "a/X.bin", FLAGS, "<H", 8), f"a/X.bin: {HEADER}"),
+        ("another length in the header of one that does", in_header(streamed, "a/X.bin", LENGTH, "<L", 9), f"a/X.bin: {HEADER}"),
+        ("another sum behind the bytes", behind_bytes(streamed, 7), f"a/X.bin: {HEADER}"),
+        ("encrypted", in_both(odd, "a/X.bin", FLAGS, "<H", 1), neither),
+        ("another compression", in_both(odd, "a/X.bin", METHOD, "<H", 12), neither),
+        ("another sum", in_both(odd, "a/X.bin", SUM, "<L", 7), "a/X.bin: its sum is another than is told"),
+        ("a length that is too long", in_both(odd, "a/X.bin", LENGTH, "<L", 11), "a/X.bin: its length is another than is told"),
+        ("a length that is too short", in_both(odd, "a/X.bin", LENGTH, "<L", 9), "a/X.bin: its length is another than is told"),
+        ("fewer bytes than are packed", in_both(odd, "a/X.bin", PACKED, "<L", packed - 1), "a/X.bin: its length is another than is told"),
+        ("more bytes than are packed", more_packed(odd, "a/X.bin", b"more"), "a/X.bin: its length is another than is told"),
+        ("two lengths of what is stored", in_both(stored, "a/X.bin", LENGTH, "<L", 9), length),
+        ("stored bytes whose length stands behind", in_both(stored, "a/X.bin", FLAGS, "<H", 8), length),
+        ("long lengths", with_extra(entries, LONG_LENGTHS), extra),
+        ("another name as an extra field", with_extra(entries, OTHER_NAME), extra),
+        ("an extra field that is cut short", with_extra(entries, b"\x75\x55\0"), extra),
+    ]
+
+
+def too_long(entries):
+    """Jars of which no more is unpacked than conspecj reads, and than a machine has room for."""
+    mib = 1 << 20
+    more = "bytes unpacked, which is more than"
+    long = told_otherwise(jar_of([*entries, ("a/X.bin", b"")]), "a/X.bin", LENGTH, "<L", 1 << 29)
+    return [
+        ("a class file that is too long", jar_of([*entries, *zeros(1, ".class", mib + 1)]), f"a/Z0.class: it has {mib + 1} {more} {mib}"),
+        ("class files that are too long", jar_of([*entries, *zeros(17, ".class", mib)]), "its class files have "),
+        ("another entry that is too long", long, "a/X.bin: it has "),
     ]
 
 
@@ -117,7 +221,7 @@ def with_other_classes(entries):
 
 def odd_jars(entries):
     """Each with what it is, its bytes, and how what is told of it begins."""
-    return of_two_readings(entries) + with_other_classes(entries)
+    return of_two_readings(entries) + too_long(entries) + with_other_classes(entries)
 
 
 # ---- stand-ins for conspecj
