@@ -5,6 +5,7 @@ pub mod Handling
 pub mod Tests
 pub mod Told
 pub mod RulesHold
+pub mod Leaving
 pub mod SameEvents
 pub mod Threads
 pub mod Composing

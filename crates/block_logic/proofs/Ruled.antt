@@ -51,8 +51,7 @@ module _ (program : Program) (policy : Policy) (certificate : Certificate) where
     pub past : goes_on (opcode_of next.0) ≡ true → LeadsTo frame (frame.at + 1) r.past
     pub jump : (to : ℕ) → Contains (jump_targets next.0) to → LeadsTo frame to r.jump
     -- what a handler finds that takes what is thrown here
-    pub caught : (asked : Asked) (class : Name) (handler : Handler) → r.thrown ≡ Some asked → handler_of program frame class ≡ Some handler
-        → LeadsTo frame handler.at asked
+    pub caught : (class : Name) (handler : Handler) → handler_of program frame class ≡ Some handler → LeadsTo frame handler.at r.thrown
     -- such a handler has room on the stack
     pub room : (class : Name) (handler : Handler) → handler_of program frame class ≡ Some handler → 0 < of.max_stack
     -- a granted call is caught, whatever it throws, where that is a duty

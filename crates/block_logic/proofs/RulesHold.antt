@@ -233,12 +233,11 @@ module _ (program : Program) (policy : Policy) (certificate : Certificate) (o : 
           reaches = o.closed.caught frame.class frame.method frame.at n.i.m handler n.reaches n.i.method_there is.0 covered.1 covered.2;
         }
 
-    caught_leads : (r : Row) → its_row ≡ Some r → (asked : Asked) (class : Name) (handler : Handler) → r.thrown ≡ Some asked → handler_of program frame class ≡ Some handler
-        → Leads handler.at asked
-    caught_leads r has asked class handler thrown e =
+    caught_leads : (r : Row) → its_row ≡ Some r → (class : Name) (handler : Handler) → handler_of program frame class ≡ Some handler → Leads handler.at r.thrown
+    caught_leads r has class handler e =
         let t = takes class handler e in
-        let of_row : list_all (note_passes (meets the_rules) told asked) (handlers_of frame.at n.i.m.handlers) ≡ true = rw (has, thrown) at last_rule.2 in
-        leads handler.at asked t.reaches (taking_passes program frame.at class (note_passes (meets the_rules) told asked) n.i.m.handlers handler of_row t.found)
+        let of_row : list_all (note_passes (meets the_rules) told r.thrown) (handlers_of frame.at n.i.m.handlers) ≡ true = rw has at last_rule.2 in
+        leads handler.at r.thrown t.reaches (taking_passes program frame.at class (note_passes (meets the_rules) told r.thrown) n.i.m.handlers handler of_row t.found)
 
     -- ---- room for what is caught
 

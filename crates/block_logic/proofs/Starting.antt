@@ -180,7 +180,8 @@ module _ (program : Program) (policy : Policy) (certificate : Certificate) (o : 
       let c = there_or_none (class_fault policy.vars) (slice_get program.classes at.0) (length policy.vars) at.2 in
       let both = no_other (wrong_field c.0.file.pool 0 policy.vars c.0.file.fields) (if has_no_more policy.vars c.0 then None else Some (length policy.vars)) c.2 in
       let more = passes_if (has_no_more policy.vars c.0) (length policy.vars) both.1 in
-      let fields = and_parts (bytes_eq c.0.parent (codes "java/lang/Object")) (has_none c.0.file.interfaces && (has_none c.0.methods && (length c.0.file.fields == length policy.vars))) more in
+      let flags = and_parts (c.0.file.flags == 0x0021) _ more in
+      let fields = and_parts (bytes_eq c.0.parent (codes "java/lang/Object")) (has_none c.0.file.interfaces && (has_none c.0.methods && (length c.0.file.fields == length policy.vars))) flags.1 in
       let methods = and_parts (has_none c.0.file.interfaces) (has_none c.0.methods && (length c.0.file.fields == length policy.vars)) fields.1 in
       let many = and_parts (has_none c.0.methods) (length c.0.file.fields == length policy.vars) methods.1 in
       let is : state ≡ at.0 = ap (λ (found : Option ℕ). option_map_or (λ (i : ℕ). i) found (length program.classes)) at.1 in

@@ -1,5 +1,5 @@
 -- What the code tells of terms, notes and rows without building them, and what each is. (docs/CERTIFICATES.md)
-use Rattle.std.specs.Prelude.{List, [], ◌∷◌, ◌++◌, Some, None, false, if◌then◌else◌, slice_set}
+use Rattle.std.specs.Prelude.{List, [], ◌∷◌, ◌++◌, false, if◌then◌else◌, slice_set}
 use Rattle.cert_format.specs.declared.note.Note.{Note}
 use Rattle.cert_format.specs.declared.note.Note.TheVariants as notes
 use Rattle.cert_format.specs.declared.note.Term.{Term}
@@ -71,9 +71,8 @@ due_lent due.Open = Open
 due_lent (due.Due site stage) = Given (notes.Owed site stage false false)
 
 abbrev pub row_lent : RowRef → Row
-row_lent (rows.Leads asked) = record { past = asked_lent asked; jump = asked_lent asked; thrown = None }
-row_lent rows.Open = record { past = Open; jump = Open; thrown = Some Open }
+row_lent (rows.Leads asked) = record { past = asked_lent asked; jump = asked_lent asked; thrown = Open }
 row_lent (rows.Tests check jumps) =
-    if jumps then record { past = Given (failing (check_lent check)); jump = Given (holding_on (check_lent check)); thrown = None }
-    else record { past = Given (holding_on (check_lent check)); jump = Given (failing (check_lent check)); thrown = None }
-row_lent (rows.Calls past thrown) = record { past = due_lent past; jump = Nothing; thrown = Some (due_lent thrown) }
+    if jumps then record { past = Given (failing (check_lent check)); jump = Given (holding_on (check_lent check)); thrown = Open }
+    else record { past = Given (holding_on (check_lent check)); jump = Given (failing (check_lent check)); thrown = Open }
+row_lent (rows.Calls past thrown) = record { past = due_lent past; jump = Nothing; thrown = due_lent thrown }

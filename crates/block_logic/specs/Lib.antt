@@ -10,4 +10,5 @@ pub mod Accepted
 pub mod Meaning
 pub mod Fitting
 pub mod Obeying
+pub mod Outside
 pub mod Locking

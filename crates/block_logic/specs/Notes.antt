@@ -110,13 +110,12 @@ handlers_of at [] = []
 handlers_of at (handler ∷ later) =
     if covers at handler then handler.at ∷ (if is_some handler.class then handlers_of at later else []) else handlers_of at later
 
-abbrev pub thrown_of : Option Row → Option Asked
-thrown_of row = option_and_then (λ (r : Row). r.thrown) row
+abbrev pub thrown_of : Option Row → Asked
+thrown_of row = option_map_or (λ (r : Row). r.thrown) row Nothing
 
--- The test passes for each of these handlers, where something is asked of them.
+-- The test passes for each of these handlers.
 abbrev pub handlers_pass : (Asked → Note → Bool) → List Note → Option Row → Method → Here → Bool
-handlers_pass test told row method here =
-    option_map_or (λ (asked : Asked). list_all (note_passes test told asked) (handlers_of here.at method.handlers)) (thrown_of row) true
+handlers_pass test told row method here = list_all (note_passes test told (thrown_of row)) (handlers_of here.at method.handlers)
 
 abbrev pub all_pass : (Asked → Note → Bool) → List Note → Option Row → Method → Here → Bool
 all_pass test told row method here = next_pass test told row here && handlers_pass test told row method here

@@ -43,15 +43,17 @@ pub data Asked : Type 0 where
   -- what no note is
   Nothing : Asked
 
--- what is asked of the next instruction, of those that are jumped to, and, of an instruction that may throw, of its handlers
+-- What is asked of the next instruction, of those that are jumped to, and of the handlers that may take what is thrown. A Java
+-- machine may throw an error at any instruction (The Java Virtual Machine Specification, section 6.3): so each row asks of handlers,
+-- and but for a call that is granted it asks that the thread is out of its block.
 pub record Row : Type 0 where
   pub past : Asked
   pub jump : Asked
-  pub thrown : Option Asked
+  pub thrown : Asked
 
--- the same of each instruction that may come next, of an instruction that throws nothing
+-- the same of each instruction that may come next, and no block where an error is caught
 abbrev pub leads : Asked → Option Row
-leads asked = Some (record { past = asked; jump = asked; thrown = None })
+leads asked = Some (record { past = asked; jump = asked; thrown = Open })
 
 abbrev pub gives : Note → Option Row
 gives note = leads (Given note)
@@ -71,7 +73,7 @@ first_row None other = other
 abbrev pub free_row : Rules → Shape → Target → Option Row
 free_row rules shape ref =
     if pushes_state shape ref then leads Taking
-    else only_if (not (is_some (variable_named rules.state ref))) (Some (record { past = Open; jump = Open; thrown = Some Open }))
+    else only_if (not (is_some (variable_named rules.state ref))) (leads Open)
 
 -- ---- Taking
 
@@ -184,8 +186,8 @@ failing c = notes.Held c.site (c.failed + 1) 0 (without 2 c.terms) c.map
 -- the jump by the atom's relation, or by the other one
 abbrev pub tested : Check → Rel → Relation → Option Row
 tested c rel relation =
-    if is_relation rel relation then Some (record { past = Given (failing c); jump = Given (holding_on c); thrown = None })
-    else only_if (is_negation rel relation) (Some (record { past = Given (holding_on c); jump = Given (failing c); thrown = None }))
+    if is_relation rel relation then Some (record { past = Given (failing c); jump = Given (holding_on c); thrown = Open })
+    else only_if (is_negation rel relation) (Some (record { past = Given (holding_on c); jump = Given (failing c); thrown = Open }))
 
 abbrev pub tests : Policy → Check → Relation → Option Row
 tests policy c relation =
@@ -279,7 +281,7 @@ granted_row rules site locked count top shape ref =
     (first_row (only_if (locked && (not top && pushes_state shape ref)) (gives (notes.Granted site locked count true)))
     (first_row (only_if (locked && (top && leaves shape)) (gives (notes.Granted site false count false)))
     (only_if (not top && ((count == needs rules.policy site.method) && (beq locked (is_hold rules.mode) && calls_of site shape ref)))
-    (Some (record { past = returned rules site; jump = Nothing; thrown = Some (thrown rules site) })))))
+    (Some (record { past = returned rules site; jump = Nothing; thrown = thrown rules site })))))
 
 -- ---- Owed
 

@@ -64,11 +64,12 @@ abbrev pub has_none : {A : Type 0} → List A → Bool
 has_none [] = true
 has_none (x ∷ xs) = false
 
--- It has nothing but the fields of the variables.
+-- It is public, and a class and no interface, and has nothing but the fields of the variables.
 abbrev pub has_no_more : List Var → LinkedClass → Bool
 has_no_more vars class =
-    bytes_eq class.parent (codes "java/lang/Object")
-    && (has_none class.file.interfaces && (has_none class.methods && (length class.file.fields == length vars)))
+    (class.file.flags == 0x0021)
+    && (bytes_eq class.parent (codes "java/lang/Object")
+    && (has_none class.file.interfaces && (has_none class.methods && (length class.file.fields == length vars))))
 
 abbrev pub class_fault : List Var → LinkedClass → Option ℕ
 class_fault vars class = option_or (wrong_field class.file.pool 0 vars class.file.fields) (if has_no_more vars class then None else Some (length vars))

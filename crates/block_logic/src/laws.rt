@@ -2,6 +2,7 @@
 
 ghost use Rattle.block_logic.specs.Locking.{FreeLockIsTaken};
 ghost use Rattle.block_logic.specs.Obeying.{AcceptedObeys, LockOrders};
+ghost use Rattle.block_logic.specs.Outside.{ErrorsLeaveBlocks};
 
 use conspec_automaton::seen_is_enough;
 use guest_model::steps_are_enabled;
@@ -14,6 +15,12 @@ pub fn accepted_obeys()
 {
     seen_is_enough();
 }
+
+/// A Java machine may throw an error at any instruction. Of an accepted program, but at a granted call, each handler that may
+/// take it stands out of each block: no lock is held there, no call with a clause before it is granted, and nothing is owed.
+pub fn errors_leave_blocks()
+    ensures leaves { ErrorsLeaveBlocks }
+{}
 
 /// What is promised of the lock is not empty: where nobody holds it, and a thread stands before `monitorenter` with the lock on
 /// top of its operands, the step of this thread is enabled, and behind it the thread holds the lock.

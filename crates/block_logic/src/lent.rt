@@ -94,15 +94,13 @@ pub enum AskedRef<'a> {
     Nothing,
 }
 
-/// What is asked of the next instruction, of those that are jumped to, and, of an instruction that may throw, of its
-/// handlers.
+/// What is asked of the next instruction, of those that are jumped to, and of the handlers that may take what is thrown.
 #[derive(Clone, Copy)]
 pub enum RowRef<'a> {
-    /// The same of each instruction that may come next, of an instruction that throws nothing.
+    /// The same of each instruction that may come next, and no block where an error is caught.
     Leads(AskedRef<'a>),
-    /// That the thread is in no block, of each instruction that may come next and of the handlers.
-    Open,
-    /// That the check goes on, with its next atom holding where it jumps, or else where it does not.
+    /// That the check goes on, with its next atom holding where it jumps, or else where it does not; and no block where
+    /// an error is caught.
     Tests { check: CheckRef<'a>, jumps: bool },
     /// What is due behind a call, and where it throws. It jumps nowhere.
     Calls { past: DueRef, thrown: DueRef },
@@ -129,7 +127,7 @@ pub struct CheckRef<'a> {
     pub map: &'a [Term],
 }
 
-/// The same is asked of each instruction that may come next, of an instruction that throws nothing.
+/// The same is asked of each instruction that may come next, and no block where an error is caught.
 pub fn leads(asked: AskedRef<'_>) -> Option<RowRef<'_>>
     ensures { option_map row_lent result ≡ leads (asked_lent asked.entry) }
 {

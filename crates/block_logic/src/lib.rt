@@ -14,7 +14,7 @@ mod terms;
 
 pub use checks::{check_row, failing, holding_on};
 pub use clauses::{clause_at, clause_of, needs, result_kind};
-pub use laws::{accepted_obeys, free_lock_is_taken};
+pub use laws::{accepted_obeys, errors_leave_blocks, free_lock_is_taken};
 pub use lent::{
     AskedRef, CheckRef, DueRef, HeldRef, NoteRef, RowRef, TermsRef, WideTerm, due_asked, gives,
     leads,

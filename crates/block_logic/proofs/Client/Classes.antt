@@ -141,7 +141,8 @@ module _ (program : Program) where
       by : (wrong : Option ℕ) → option_or wrong (cond (has_no_more vars c) None (Some (length vars))) ≡ None → c.methods ≡ []
       by (Some at) e = absurd cc
       by None e =
-          let a = and_parts (bytes_eq c.parent _) _ (more (has_no_more vars c) e) in
+          let flags = and_parts (c.file.flags == 0x0021) _ (more (has_no_more vars c) e) in
+          let a = and_parts (bytes_eq c.parent _) _ flags.1 in
           let b = and_parts (has_none c.file.interfaces) _ a.1 in
           none_there c.methods (and_parts (has_none c.methods) _ b.1).0
 

@@ -57,7 +57,7 @@ call_pushes shape ref e = ap (λ (s : Shape). pushes_state s ref) (call_shape sh
 -- ---- the row of the client
 
 abbrev open_row : Row
-open_row = record { past = Open; jump = Open; thrown = Some Open }
+open_row = record { past = Open; jump = Open; thrown = Open }
 
 row_open : (rules : Rules) (shape : Shape) (ref : Target) (r : Row) → pushes_state shape ref ≡ false → free_row rules shape ref ≡ Some r → r ≡ open_row
 row_open rules shape ref r apart e = by (pushes_state shape ref) apart e where
@@ -120,7 +120,7 @@ module _ (program : Program) (policy : Policy) (certificate : Certificate) where
         record {
           past = λ goes. open_at frame (frame.at + 1) h.r.past (ap (λ (r : Row). r.past) is) (h.past goes);
           jump = λ to has. open_at frame to h.r.jump (ap (λ (r : Row). r.jump) is) (h.jump to has);
-          caught = λ class handler found. open_at frame handler.at Open refl (h.caught Open class handler (ap (λ (r : Row). r.thrown) is) found);
+          caught = λ class handler found. open_at frame handler.at h.r.thrown (ap (λ (r : Row). r.thrown) is) (h.caught class handler found);
         }
 
     -- a call without a clause, at which a frame waits

@@ -57,9 +57,9 @@ state_is other e = absurd cc
 row_taking : (rules : Rules) (shape : Shape) (ref : Target) (r : Row) → pushes_state shape ref ≡ true → free_row rules shape ref ≡ Some r → r.past ≡ Taking
 row_taking rules shape ref r pushes e = by (pushes_state shape ref) pushes e where
   by : (b : Bool) → b ≡ true
-      → cond b (leads Taking) (cond (not (is_some (variable_named rules.state ref))) (Some (record { past = Open; jump = Open; thrown = Some Open })) None) ≡ Some r
+      → cond b (leads Taking) (cond (not (is_some (variable_named rules.state ref))) (leads Open) None) ≡ Some r
       → r.past ≡ Taking
-  by true f e = let same : record { past = Taking; jump = Taking; thrown = None } ≡ r = some_is _ r e in ap (λ (x : Row). x.past) (sym same)
+  by true f e = let same : record { past = Taking; jump = Taking; thrown = Open } ≡ r = some_is _ r e in ap (λ (x : Row). x.past) (sym same)
   by false f e = absurd (false≢true f)
 
 module _ (program : Program) (policy : Policy) where

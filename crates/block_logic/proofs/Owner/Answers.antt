@@ -302,8 +302,9 @@ module _ (program : Program) (policy : Policy) (certificate : Certificate) (o : 
 
     leads_caught : LeadsTo program policy certificate frame catches.0.at (Given (notes.Owed thrown_site 1 false false))
     leads_caught =
-        ruled.caught (Given (notes.Owed thrown_site 1 false false)) class catches.0
-        (ap (λ (r : Row). r.thrown) row_is.is ∙ ap Some (thrown_held rules c.site (ap is_hold c.hold))) catches.1
+        subst (LeadsTo program policy certificate frame catches.0.at)
+        (ap (λ (r : Row). r.thrown) row_is.is ∙ thrown_held rules c.site (ap is_hold c.hold))
+        (ruled.caught class catches.0 catches.1)
 
     throws_well : ChangesOwner program policy certificate number seen (with_event (goes (with_object world (bare_object class)) thread (caught ∷ below)) (Some excepted))
     throws_well =

@@ -1,5 +1,5 @@
 -- Steps of a check: terms are pushed, added and compared, variables are written, and the lock is left once the check is done.
-use Rattle.std.proofs.Common.{◌≡◌, ℕ, ◌+◌, Bool, true, false, cond, List, [], ◌∷◌, ◌++◌, drop, reverse, Option, Some, None, refl, sym, ap, ◌∙◌, subst, inl, inr}
+use Rattle.std.proofs.Common.{◌≡◌, ℕ, ◌+◌, Bool, true, false, cond, List, [], ◌∷◌, ◌++◌, drop, reverse, Option, Some, refl, sym, ap, ◌∙◌, subst, inl, inr}
 use Rattle.std.specs.Prelude.{not, option_and_then, slice_get, slice_set}
 use Rattle.std.specs.Option.{option_map_or}
 use Rattle.std.specs.Int.{w32, int_wrapping_add}
@@ -78,15 +78,15 @@ writes_is shape e = absurd cc
 -- ---- the row of a test
 
 first_tested : (c : Check) (rel : Rel) (relation : Relation) (r : Row) → is_relation rel relation ≡ true → tested c rel relation ≡ Some r
-    → r ≡ record { past = Given (failing c); jump = Given (holding_on c); thrown = None }
+    → r ≡ record { past = Given (failing c); jump = Given (holding_on c); thrown = Open }
 first_tested c rel relation r same e =
-    let row : Some (record { past = Given (failing c); jump = Given (holding_on c); thrown = None }) ≡ Some r = rw same at e in
+    let row : Some (record { past = Given (failing c); jump = Given (holding_on c); thrown = Open }) ≡ Some r = rw same at e in
     sym (some_is _ r row)
 
 other_tested : (c : Check) (rel : Rel) (relation : Relation) (r : Row) → is_relation rel relation ≡ false → tested c rel relation ≡ Some r
-    → (is_negation rel relation ≡ true) × (r ≡ record { past = Given (holding_on c); jump = Given (failing c); thrown = None })
+    → (is_negation rel relation ≡ true) × (r ≡ record { past = Given (holding_on c); jump = Given (failing c); thrown = Open })
 other_tested c rel relation r other e =
-    let row : only_if (is_negation rel relation) (Some (record { past = Given (holding_on c); jump = Given (failing c); thrown = None })) ≡ Some r = rw other at e in
+    let row : only_if (is_negation rel relation) (Some (record { past = Given (holding_on c); jump = Given (failing c); thrown = Open })) ≡ Some r = rw other at e in
     let w = where_so _ _ r row in
     (w.0, sym (some_is _ r w.1))
 
@@ -270,13 +270,13 @@ module _ (program : Program) (policy : Policy) (certificate : Certificate) (o : 
         let c = compares_tops program machine a change next h.step relation to is in
         jumps_or_not (jump outcome) outcome known asks c.0 c.1 c.2.there c.3.there (by c.0 c.1 (compared_so c.0 c.1 c.2.there c.3.there)) c.4
 
-    by_relation : is_relation atom.rel relation ≡ true → r ≡ record { past = Given (failing check); jump = Given (holding_on check); thrown = None } → Changes
+    by_relation : is_relation atom.rel relation ≡ true → r ≡ record { past = Given (failing check); jump = Given (holding_on check); thrown = Open } → Changes
     by_relation same row = elim (cases_Bool so) [
       | inl known ↦ jumping true known (λ b. b) (λ y x e. relates_same atom.rel relation (number_of x) (number_of y) same ∙ sym e ∙ known) (ap (λ (x : Row). x.jump) row)
       | inr known ↦ jumping false known (λ b. b) (λ y x e. relates_same atom.rel relation (number_of x) (number_of y) same ∙ sym e ∙ known) (ap (λ (x : Row). x.past) row)
     ]
 
-    by_negation : is_negation atom.rel relation ≡ true → r ≡ record { past = Given (holding_on check); jump = Given (failing check); thrown = None } → Changes
+    by_negation : is_negation atom.rel relation ≡ true → r ≡ record { past = Given (holding_on check); jump = Given (failing check); thrown = Open } → Changes
     by_negation other row = elim (cases_Bool so) [
       | inl known ↦ jumping true known not (λ y x e. relates_not atom.rel relation (number_of x) (number_of y) other ∙ ap not (sym e ∙ known)) (ap (λ (x : Row). x.past) row)
       | inr known ↦ jumping false known not (λ y x e. relates_not atom.rel relation (number_of x) (number_of y) other ∙ ap not (sym e ∙ known)) (ap (λ (x : Row). x.jump) row)
@@ -341,7 +341,7 @@ module _ (program : Program) (policy : Policy) (certificate : Certificate) (o : 
             absurd (never_unlocked program policy certificate o rules_hold p.hold a.frame next site 0 h.acts.there (ap ends is) leads)
         | inr behind ↦
             let asked : left site ≡ Open = rw behind refl in
-            gives_up program policy certificate o machine a next change _ fields h seen open_is_free is (record { past = asks.past ∙ asked; jump = asks.jump ∙ asked })
+            gives_up program policy certificate o machine a next change _ fields h seen open_is_free is (record { past = asks.past ∙ asked; jump = asks.jump ∙ asked; thrown = asks.thrown })
             (lock_alone only) p.end p.ranged (passed_leads program policy certificate o seen fields a.frame site site.phase m.state p.end m.event behind m.due p.taken) p.variables
       ]
 

@@ -54,7 +54,7 @@ module _ (rules : Rules) (site : Site) (locked : Bool) (count : ℕ) (top : Bool
     pub all : count ≡ needs rules.policy site.method
     pub locks : beq locked (is_hold rules.mode) ≡ true
     pub calls : calls_of site shape ref ≡ true
-    pub is : r ≡ record { past = returned rules site; jump = Nothing; thrown = Some (thrown rules site) }
+    pub is : r ≡ record { past = returned rules site; jump = Nothing; thrown = thrown rules site }
 
   pub granted_cases : granted_row rules site locked count top shape ref ≡ Some r → LoadsNext ⊎ (PushesLock ⊎ (LeavesLock ⊎ CallsMethod))
   granted_cases e = elim (one_row _ _ r e) [
@@ -87,7 +87,7 @@ module _ (rules : Rules) (site : Site) (locked : Bool) (count : ℕ) (top : Bool
             let p = and_parts (not top) _ w.0 in
             let q = and_parts (count == needs rules.policy site.method) _ p.1 in
             let u = and_parts (beq locked (is_hold rules.mode)) _ q.1 in
-            let row : record { past = returned rules site; jump = Nothing; thrown = Some (thrown rules site) } ≡ r = cc in
+            let row : record { past = returned rules site; jump = Nothing; thrown = thrown rules site } ≡ r = cc in
             inr (record { bare = not-true top p.0; all = eqb-true count (needs rules.policy site.method) q.0; locks = u.0; calls = u.1; is = sym row })
       ])
     ])

@@ -6,7 +6,7 @@ use Rattle.insn_codec.specs.declared.shape.Shape.{Shape}
 use Rattle.insn_codec.specs.declared.shape.Shape.TheVariants as shapes
 use Rattle.cert_format.specs.declared.note.Note.{Note}
 use Rattle.block_logic.specs.Operands.{enters, leaves}
-use Rattle.block_logic.specs.Rows.{Asked, Given, Row, first_row, gives, leads, only_if}
+use Rattle.block_logic.specs.Rows.{Asked, Given, Open, Row, first_row, gives, leads, only_if}
 
 pub where_so : (test : Bool) (row : Option Row) (r : Row) → only_if test row ≡ Some r → (test ≡ true) × (row ≡ Some r)
 where_so true row r e = (refl, e)
@@ -16,13 +16,16 @@ pub one_row : (first second : Option Row) (r : Row) → first_row first second �
 one_row (Some row) second r e = inl e
 one_row None second r e = inr e
 
--- The same is asked of each instruction that may come next.
+-- The same is asked of each instruction that may come next, and of handlers that the thread is in no block.
 pub record Asks (r : Row) (asked : Asked) : Type 0 where
   pub past : r.past ≡ asked
   pub jump : r.jump ≡ asked
+  pub thrown : r.thrown ≡ Open
 
 pub leads_asks : (asked : Asked) (r : Row) → leads asked ≡ Some r → Asks r asked
-leads_asks asked r e = let same : record { past = asked; jump = asked; thrown = None } ≡ r = cc in record { past = sym (ap (λ (x : Row). x.past) same); jump = sym (ap (λ (x : Row). x.jump) same) }
+leads_asks asked r e =
+    let same : record { past = asked; jump = asked; thrown = Open } ≡ r = cc in
+    record { past = sym (ap (λ (x : Row). x.past) same); jump = sym (ap (λ (x : Row). x.jump) same); thrown = sym (ap (λ (x : Row). x.thrown) same) }
 
 pub gives_asks : (note : Note) (r : Row) → gives note ≡ Some r → Asks r (Given note)
 gives_asks note r e = leads_asks (Given note) r e
