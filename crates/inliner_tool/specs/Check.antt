@@ -7,6 +7,7 @@ use Rattle.cert_checker.specs.declared.checking.Accepted.{Accepted}
 use Rattle.cert_checker.specs.declared.fault.CheckFault.{CheckFault}
 use Rattle.cert_checker.specs.declared.fault.CheckFault.TheVariants.{Shape, StateClass, Typing, Local}
 use Rattle.block_logic.specs.Accepted.{IsAccepted}
+use Rattle.block_logic.specs.Outside.{LeavesBlocks}
 use Rattle.cert_checker.specs.Acceptance.{verdict}
 use Rattle.cert_checker.specs.Secure.{Secure}
 use Rattle.cert_format.specs.declared.certificate.Certificate.{Certificate}
@@ -63,10 +64,12 @@ link_inputs main inputs = program_of inputs.listing inputs.classes main Inlined
 abbrev pub check_answer : List ℕ → CheckInputs → Answer
 check_answer main inputs = linked_answer inputs.policy inputs.certificate (link_inputs main inputs)
 
--- The program is accepted with the certificate, and obeys the policy for every list of guest steps, as its mode promises.
+-- The program is accepted with the certificate, and obeys the policy for every list of guest steps, as its mode promises; and
+-- an error that a Java machine throws in a block leads out of it.
 pub record ProgramIsChecked (policy : PolicyTree) (certificate : Certificate) (program : Program) : Type 0 where
   pub accepted : IsAccepted program (built policy) certificate
   pub secure : Secure certificate.mode program (built policy)
+  pub errors : LeavesBlocks program (built policy) certificate
 
 -- The inputs link to such a program.
 pub record IsChecked (main : List ℕ) (inputs : CheckInputs) : Type 0 where
