@@ -1,13 +1,13 @@
 //! Interfaces of the files that ask for methods which some class of the library has. Where there is none, no class leaves a method
 //! to the library.
 
-ghost use Rattle.std.specs.Prelude.{◌≡◌, ◌||◌, ◌&&◌, ℕ, List, [], bytes_eq, IfOk, OnOk};
+ghost use Rattle.std.specs.Prelude.{◌≡◌, ◌||◌, ◌&&◌, ℕ, List, bytes_eq, IfOk, OnOk};
 ghost use Rattle.std.specs.List.{list_any};
 ghost use Rattle.api_listing.specs.BuiltIn.{method_rows};
 ghost use Rattle.api_listing.specs.Seen.{has_id};
 ghost use Rattle.bytecode_model.specs.Conditions.{is_run};
 ghost use Rattle.bytecode_model.specs.LeftMethods.{is_asked};
-ghost use Rattle.class_index.specs.Asking.{asks_library, is_asked_of_library, is_library_name, is_listed_name, is_row_name};
+ghost use Rattle.class_index.specs.Asking.{asks_library, is_asked_of_library, is_library_name, is_row_name, key, AreListedNames};
 
 use crate::members::id_of;
 use crate::numbers::key_of;
@@ -32,8 +32,7 @@ pub fn any_asks_library(
 
 /// The names and descriptors of the methods.
 fn listed_names(alloc: Global, methods: &[ListedMethod]) -> Result<BTreeSet<MethodId>, NoMemory>
-    ensures { IfOk result (λ names. (name desc : List ℕ)
-        → has_id names (record { class = []; name = name; desc = desc }) ≡ is_listed_name methods.now name desc) }
+    ensures { IfOk result (λ names. AreListedNames names methods.now) }
 {
     let mut names = BTreeSet::new(alloc);
     for method in methods {
@@ -44,8 +43,8 @@ fn listed_names(alloc: Global, methods: &[ListedMethod]) -> Result<BTreeSet<Meth
 
 /// Adds the name and the descriptor.
 fn add_key(alloc: Global, names: &mut BTreeSet<MethodId>, id: &MethodId) -> Result<(), NoMemory>
-    ensures { OnOk result ((name desc : List ℕ) → has_id names.new (record { class = []; name = name; desc = desc })
-        ≡ ((bytes_eq id.now.name name && bytes_eq id.now.desc desc) || has_id names.old (record { class = []; name = name; desc = desc }))) }
+    ensures { OnOk result ((name desc : List ℕ) → has_id names.new (key name desc)
+        ≡ ((bytes_eq id.now.name name && bytes_eq id.now.desc desc) || has_id names.old (key name desc))) }
 {
     names.insert(key_of(alloc, &id.name, &id.desc)?)?;
     Ok(())
@@ -58,8 +57,7 @@ fn any_asks(
     listed: &[ListedMethod],
     files: &[ClassFile],
 ) -> Result<bool, NoMemory>
-    requires { (name desc : List ℕ)
-        → has_id names.now (record { class = []; name = name; desc = desc }) ≡ is_listed_name listed.now name desc }
+    requires { AreListedNames names.now listed.now }
     ensures { IfOk result (λ asks. asks ≡ list_any (asks_library listed.now) files.now) }
 {
     let mut left = files;
@@ -79,8 +77,7 @@ fn asks(
     listed: &[ListedMethod],
     file: &ClassFile,
 ) -> Result<bool, NoMemory>
-    requires { (name desc : List ℕ)
-        → has_id names.now (record { class = []; name = name; desc = desc }) ≡ is_listed_name listed.now name desc }
+    requires { AreListedNames names.now listed.now }
     ensures { IfOk result (λ asks. asks ≡ list_any (is_asked_of_library listed.now file.now.pool) file.now.methods) }
 {
     let pool = file.pool.as_slice();
@@ -101,8 +98,7 @@ fn is_asked_of_library(
     pool: &[Const],
     member: &Member,
 ) -> Result<bool, NoMemory>
-    requires { (name desc : List ℕ)
-        → has_id names.now (record { class = []; name = name; desc = desc }) ≡ is_listed_name listed.now name desc }
+    requires { AreListedNames names.now listed.now }
     ensures { IfOk result (λ asked. asked ≡ is_asked_of_library listed.now pool.now member.now) }
 {
     if !is_asked(pool, member) {
@@ -129,8 +125,7 @@ fn is_library_name(
     name: &[u8],
     desc: &[u8],
 ) -> Result<bool, NoMemory>
-    requires { (name desc : List ℕ)
-        → has_id names.now (record { class = []; name = name; desc = desc }) ≡ is_listed_name listed.now name desc }
+    requires { AreListedNames names.now listed.now }
     ensures { IfOk result (λ is. is ≡ is_library_name listed.now name.now desc.now) }
 {
     let key = id_of(alloc, b"".as_slice(), name, desc)?;

@@ -90,7 +90,8 @@ fn left_among(
     members: &[Member],
 ) -> Result<Option<Bytes>, NoMemory>
     ensures { IfOk result (λ left. left ≡ option_map (λ (id : MethodId). id.name)
-        (find (is_left index.now.files index.now.listing supers.now) (map (id_of name.now pool.now) (filter (is_asked pool.now) members.now)))) }
+        (find (is_left index.now.files index.now.listing supers.now)
+        (map (id_of name.now pool.now) (filter (is_asked pool.now) members.now)))) }
 {
     let mut left = members;
     while let [member, rest @ ..] = left {

@@ -15,7 +15,8 @@ ghost use Rattle.bytecode_model.specs.Sound.{IsSoundMethod};
 ghost use Rattle.class_linking.specs.Handlers.{handlers_linked};
 ghost use Rattle.class_linking.specs.declared.fault.LinkFault.TheVariants as faults;
 ghost use Rattle.class_linking.specs.Known.{AreRemembered};
-ghost use Rattle.class_linking.specs.Linking.{bare, with_code, code_told, read_of, code_linked, each_method_linked, method_linked, methods_linked, nothing_left};
+ghost use Rattle.class_linking.specs.Linking.{bare, with_code, code_told, read_of, code_linked};
+ghost use Rattle.class_linking.specs.Linking.{each_method_linked, method_linked, methods_linked, nothing_left};
 
 use crate::fault::LinkFault;
 use crate::handlers::{Starts, handlers_linked};
