@@ -41,10 +41,6 @@ there_kept : (p q : Note → Bool) → ((n : Note) → p n ≡ true → q n ≡ 
 there_kept p q kept None e = e
 there_kept p q kept (Some n) e = kept n e
 
-asked_kept : (p q : Asked → Bool) → ((a : Asked) → p a ≡ true → q a ≡ true) → (o : Option Asked) → option_map_or p o true ≡ true → option_map_or q o true ≡ true
-asked_kept p q kept None e = refl
-asked_kept p q kept (Some a) e = kept a e
-
 module _ (f g : Asked → Note → Bool) (weaker : (a : Asked) (n : Note) → f a n ≡ true → g a n ≡ true) where
   passes_kept : (told : List Note) (a : Asked) (at : ℕ) → note_passes f told a at ≡ true → note_passes g told a at ≡ true
   passes_kept told a at = there_kept (f a) (g a) (weaker a) (slice_get told at)
@@ -64,9 +60,7 @@ module _ (f g : Asked → Note → Bool) (weaker : (a : Asked) (n : Note) → f 
       (each_kept told jump jumps)
 
   handlers_kept : (told : List Note) (row : Option Row) (method : Method) (here : Here) → handlers_pass f told row method here ≡ true → handlers_pass g told row method here ≡ true
-  handlers_kept told row method here =
-      let at = handlers_of here.at method.handlers in
-      asked_kept (λ a. list_all (note_passes f told a) at) (λ a. list_all (note_passes g told a) at) (λ a. each_kept told a at) (thrown_of row)
+  handlers_kept told row method here = each_kept told (thrown_of row) (handlers_of here.at method.handlers)
 
   -- A test that a weaker one follows from.
   pub all_pass_kept : (told : List Note) (row : Option Row) (method : Method) (here : Here) → all_pass f told row method here ≡ true → all_pass g told row method here ≡ true

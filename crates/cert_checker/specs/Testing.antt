@@ -1,5 +1,5 @@
 -- How what is asked of a note is tested. (docs/CERTIFICATES.md)
-use Rattle.std.specs.Prelude.{ℕ, ◌+◌, ◌==◌, Bool, not, ◌&&◌, ◌||◌, List, Option, is_some}
+use Rattle.std.specs.Prelude.{◌+◌, ◌==◌, Bool, not, ◌&&◌, ◌||◌, List, Option, is_some}
 use Rattle.std.specs.List.{list_all}
 use Rattle.insn_codec.specs.Control.{jump_targets}
 use Rattle.insn_codec.specs.Opcodes.{goes_on}

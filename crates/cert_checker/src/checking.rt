@@ -9,6 +9,7 @@ ghost use Rattle.block_logic.specs.Accepted.{IsAccepted};
 ghost use Rattle.block_logic.specs.Meaning.{Promised};
 ghost use Rattle.block_logic.specs.Obeying.{FitsListing};
 ghost use Rattle.block_logic.specs.Operands.{has_clause};
+ghost use Rattle.block_logic.specs.Outside.{LeavesBlocks};
 ghost use Rattle.cert_checker.specs.Acceptance.{sites_of, verdict};
 ghost use Rattle.cert_checker.specs.Secure.{Secure};
 
@@ -16,7 +17,7 @@ use crate::fault::CheckFault;
 use crate::notes::notes_fault;
 use crate::shape::shape_fault;
 use crate::state::state_fault;
-use block_logic::{accepted_obeys, has_clause};
+use block_logic::{accepted_obeys, errors_leave_blocks, has_clause};
 use bytecode_model::{LinkedClass, Method, Program};
 use cert_format::{Certificate, Mode};
 use code_typing::{check_typing, typed_is_closed};
@@ -47,6 +48,10 @@ pub fn check(
     ensures ok { IsOk result ↔ IsAccepted program.now policy.now certificate.now }
     ensures secure { IsOk result → Promised certificate.now.mode policy.now → Secure certificate.now.mode program.now policy.now }
 
+    // In either mode an error that a Java machine throws in a block leads out of it: where it is caught no lock is held, no call
+    // with a clause before it is granted, and nothing is owed.
+    ensures leaves_blocks { IsOk result → LeavesBlocks program.now policy.now certificate.now }
+
     // Which answer it is: the first test that fails, with its first place.
     ensures exact { result ≡ verdict program.now policy.now certificate.now }
 {
@@ -75,6 +80,7 @@ pub fn check(
     }
     typed_is_closed();
     accepted_obeys();
+    errors_leave_blocks();
     Ok(Accepted {
         mode: certificate.mode,
         sites: sites_of(linked, policy),

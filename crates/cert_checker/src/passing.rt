@@ -6,7 +6,7 @@ ghost use Rattle.insn_codec.specs.Control.{jump_targets};
 ghost use Rattle.block_logic.specs.declared.lent.RowRef.TheVariants.{Tests};
 ghost use Rattle.block_logic.specs.Lent.{asked_lent, row_lent};
 ghost use Rattle.block_logic.specs.Notes.{all_pass, first_handler, handlers_of, handlers_pass, is_stop};
-ghost use Rattle.block_logic.specs.Notes.{is_taking, meets, next_pass, note_passes};
+ghost use Rattle.block_logic.specs.Notes.{is_taking, meets, next_pass, note_passes, thrown_of};
 ghost use Rattle.cert_checker.specs.Testing.{go_on_pass, passes};
 
 use block_logic::{
@@ -94,9 +94,6 @@ pub fn next_pass(
 {
     match row {
         Some(RowRef::Leads(asked)) => go_on_pass(rules, test, told, asked, asked, here),
-        Some(RowRef::Open) => {
-            go_on_pass(rules, test, told, &AskedRef::Open, &AskedRef::Open, here)
-        }
         Some(RowRef::Tests { check, jumps }) => tests_pass(rules, test, told, *check, *jumps, here),
         Some(RowRef::Calls { past, .. }) => {
             let past = due_asked(*past);
@@ -190,7 +187,19 @@ fn notes_pass(
 
 // ---- handlers
 
-/// Whether the notes of the handlers that may take what is thrown pass, where something is asked of them.
+/// What is asked of the handlers that may take what is thrown.
+fn asked_of_handlers<'a>(row: Option<&RowRef<'a>>) -> AskedRef<'a>
+    ensures { asked_lent result ≡ thrown_of (option_map row_lent (option_copied row.entry)) }
+{
+    match row {
+        Some(RowRef::Leads(_)) => AskedRef::Open,
+        Some(RowRef::Tests { .. }) => AskedRef::Open,
+        Some(RowRef::Calls { thrown, .. }) => due_asked(*thrown),
+        None => AskedRef::Nothing,
+    }
+}
+
+/// Whether the notes of the handlers that may take what is thrown pass.
 fn handlers_pass(
     rules: &Rules<'_>,
     test: Test,
@@ -201,23 +210,8 @@ fn handlers_pass(
 ) -> bool
     ensures { result ≡ handlers_pass (passes rules.now test) told.now (option_map row_lent (option_copied row.entry)) method.now here.now }
 {
-    match row {
-        Some(RowRef::Open) => {
-            covering_pass(
-                rules,
-                test,
-                told,
-                &AskedRef::Open,
-                here.at,
-                &method.handlers,
-            )
-        }
-        Some(RowRef::Calls { thrown, .. }) => {
-            let asked = due_asked(*thrown);
-            covering_pass(rules, test, told, &asked, here.at, &method.handlers)
-        }
-        _ => true,
-    }
+    let asked = asked_of_handlers(row);
+    covering_pass(rules, test, told, &asked, here.at, &method.handlers)
 }
 
 /// Whether the notes of the handlers that cover the instruction pass, up to the first that takes any class.

@@ -83,7 +83,7 @@ fn free_row<'a>(rules: &Rules<'_>, shape: Shape, target: &Target) -> Option<RowR
     if variable_named(rules.state, target).is_some() {
         return None;
     }
-    Some(RowRef::Open)
+    leads(AskedRef::Open)
 }
 
 // ---- Taking

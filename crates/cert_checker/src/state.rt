@@ -66,11 +66,12 @@ fn class_fault(vars: &[Var], class: &LinkedClass) -> Option<u32>
     }
 }
 
-/// Whether the class has nothing but the fields of the variables.
+/// Whether it is public, and a class and no interface, and has nothing but the fields of the variables.
 fn has_no_more(vars: &[Var], class: &LinkedClass) -> bool
     ensures { result ≡ has_no_more vars.now class.now }
 {
-    is_text(class.parent.as_slice(), "java/lang/Object")
+    class.file.flags == 0x0021
+        && is_text(class.parent.as_slice(), "java/lang/Object")
         && class.file.interfaces.is_empty()
         && class.methods.is_empty()
         && class.file.fields.len() == vars.len()

@@ -138,7 +138,7 @@ module _ (b : Body) (frames : List (Option FrameType)) (ready : IsReady b frames
       (own_none (plan b) (base b) (calls_within b.policy b.mode (base b)) (refs b) i k 0 ref e lt other)
 
   open_row : Row
-  open_row = record { past = Open; jump = Open; thrown = Some Open }
+  open_row = record { past = Open; jump = Open; thrown = Open }
 
   pub alone_passes : (i : ℕ) (insn : Insn) (ref : Target) → slice_get b.method.insns i ≡ Some insn → slice_get (refs b) i ≡ Some ref
       → has_block b.policy ref ≡ false → R (front b i + 0) → note_fault rules notes_told b.made (front b i + 0) ≡ None
@@ -327,11 +327,10 @@ module _ (b : Body) (frames : List (Option FrameType)) (ready : IsReady b frames
             sym (calling.place_is b.mode (bools_of b.policy) (base b) (clauses k)) ∙ ap (λ (y : Block). call_place y.insns) is ∙ same in
             calling.other_place b.mode (bools_of b.policy) (base b) (clauses k) place item e other at_index)
 
-        handlers_by : (o : Option Asked) → IfSome o (λ wants. wants ≡ Open)
-            → option_map_or (λ (wants : Asked). list_all (note_passes test notes_told wants) (handlers_of (begin + place) b.made.handlers)) o true ≡ true
-        handlers_by None f = refl
-        handlers_by (Some wants) f =
-            ap (λ (w : Asked). list_all (note_passes test notes_told w) (handlers_of (begin + place) b.made.handlers)) f
+        -- What it throws goes to the client.
+        handlers_pass_here : list_all (note_passes test notes_told of.row.thrown) (handlers_of (begin + place) b.made.handlers) ≡ true
+        handlers_pass_here =
+            ap (λ (w : Asked). list_all (note_passes test notes_told w) (handlers_of (begin + place) b.made.handlers)) of.thrown
             ∙ client_catches b frames ready (begin + place) (put b.pool (fronts b) begin own item.insn) insn_is reached missed_here
 
         -- The lock's class is pushed where the lock is taken.
@@ -382,6 +381,6 @@ module _ (b : Body) (frames : List (Option FrameType)) (ready : IsReady b frames
               caught = ap (λ (c : Bool). not c || option_map_or (catches_all rules notes_told (note k item.role)) (first_handler (begin + place) b.made.handlers) false) of.catches;
               pass =
                   and_from _ _ (next_passes (begin + place) (put b.pool (fronts b) begin own item.insn) operand of.row insn_is reached passes_next passes_jumps)
-                  (handlers_by of.row.thrown of.thrown);
+                  handlers_pass_here;
               first = first_opens;
             })

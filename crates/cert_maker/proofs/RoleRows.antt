@@ -91,7 +91,7 @@ module _ (b : Blocked) (pool : List Const) (fronts : List ℕ) (begin : ℕ) (ow
 
   lock_free : Is (roles.Lock Before false) (Want LDC_W StateClass)
   lock_free = record {
-    row = record { past = Taking; jump = Taking; thrown = None };
+    row = record { past = Taking; jump = Taking; thrown = Open };
     is = refl;
     variable = λ free. refl;
     pushes = λ free class. (refl, refl);
@@ -99,7 +99,7 @@ module _ (b : Blocked) (pool : List Const) (fronts : List ℕ) (begin : ℕ) (ow
     catches = refl;
     passes = λ p. ap (has_clauses b.policy) b.few ∙ b.has;
     lands = λ j. tt;
-    thrown = tt;
+    thrown = refl;
   }
 
   lock_owed : (p : Phase) (kept : Bool) → note b (roles.Lock p false) ≡ notes.Owed (site b p) 0 kept false
@@ -243,7 +243,7 @@ module _ (b : Blocked) (pool : List Const) (fronts : List ℕ) (begin : ℕ) (ow
       (λ q. same_inside b (notes.Stop (site b p) 1) (roles.Stop p 1) refl) (λ j. tt) refl)
   stop p (suc zero) x e =
       subst (Is (roles.Stop p 1)) (some_is (Want INVOKESTATIC Exit) x e) record {
-        row = record { past = Given (notes.Stop (site b p) 2); jump = Given (notes.Stop (site b p) 2); thrown = None };
+        row = record { past = Given (notes.Stop (site b p) 2); jump = Given (notes.Stop (site b p) 2); thrown = Open };
         is = rw exit_is refl;
         variable = λ free. refl;
         pushes = λ free. never free;
@@ -251,7 +251,7 @@ module _ (b : Blocked) (pool : List Const) (fronts : List ℕ) (begin : ℕ) (ow
         catches = refl;
         passes = λ q. same_inside b (notes.Stop (site b p) 2) (roles.Stop p 2) refl;
         lands = λ j. tt;
-        thrown = tt;
+        thrown = refl;
       }
   stop p (suc (suc zero)) x e =
       subst (Is (roles.Stop p 2)) (some_is (Plain ACONST_NULL) x e)

@@ -1,5 +1,5 @@
 -- Each instruction of a block has a row of its note, and what comes next meets it.
-use Rattle.std.proofs.Common.{◌≡◌, ℕ, zero, suc, ◌<◌, ◌≤◌, Bool, true, false, List, [], ◌∷◌, length, take, Option, Some, None, refl, sym, ap, subst, ◌∙◌, arith}
+use Rattle.std.proofs.Common.{◌≡◌, ℕ, zero, suc, ◌<◌, ◌≤◌, Bool, true, false, List, [], ◌∷◌, length, take, Option, Some, None, refl, sym, ap, ◌∙◌, arith}
 use Rattle.std.specs.Bool.{beq}
 use Rattle.std.specs.Prelude.{◌&&◌, ◌||◌, IfSome, is_some, slice_get, option_and_then}
 use Rattle.std.specs.Option.{option_map_or}
@@ -178,14 +178,14 @@ module _ (b : Blocked) where
       pub catches : (calls (shape_of (placed_here x)) && (has_clause b.policy (named_here x) && is_duty_of (rules b) (named_here x))) ≡ false
       pub passes : may_pass x ≡ true → Arrives b row.past (next b.mode (clauses b) role)
       pub lands : is_some (jump_of x) ≡ true → Arrives b row.jump (jumps b.mode (clauses b) role)
-      pub thrown : IfSome row.thrown (λ wants. wants ≡ Open)
+      pub thrown : row.thrown ≡ Open
 
     -- where its note is not Free
     pub held_noted : (role : Role) (x : BlockInsn) (n : Note) → note b role ≡ n → is_free n ≡ false → calls (shape_of (placed_here x)) ≡ false → (row : Row)
         → rows.row (rules b) n (shape_of (placed_here x)) (named_here x) ≡ Some row
         → (may_pass x ≡ true → Arrives b row.past (next b.mode (clauses b) role))
         → (is_some (jump_of x) ≡ true → Arrives b row.jump (jumps b.mode (clauses b) role))
-        → row.thrown ≡ None → IsNoted role x
+        → row.thrown ≡ Open → IsNoted role x
     held_noted role x n told held quiet row is passes lands thrown = record {
       row = row;
       is = ap (λ (m : Note). rows.row (rules b) m (shape_of (placed_here x)) (named_here x)) told ∙ is;
@@ -195,11 +195,11 @@ module _ (b : Blocked) where
       catches = and_none _ _ quiet;
       passes = passes;
       lands = lands;
-      thrown = subst (λ (o : Option Asked). IfSome o (λ wants. wants ≡ Open)) (sym thrown) tt;
+      thrown = thrown;
     }
 
     free_row : Row
-    free_row = record { past = Open; jump = Open; thrown = Some Open }
+    free_row = record { past = Open; jump = Open; thrown = Open }
 
     -- where its note is Free, and it does not push the lock's class
     pub free_noted : (role : Role) (x : BlockInsn) → note b role ≡ notes.Free → calls (shape_of (placed_here x)) ≡ false

@@ -93,7 +93,7 @@ module _ (rules : Rules) where
   granted_leaves site count t = refl
 
   abbrev pub called : Site → Row
-  called site = record { past = returned rules site; jump = Nothing; thrown = Some (thrown rules site) }
+  called site = record { past = returned rules site; jump = Nothing; thrown = thrown rules site }
 
   pub granted_calls : (site : Site) (how : How) → rows.granted_row rules site (is_hold rules.mode) (needs rules.policy site.method) false
       (shapes.Heap (heap.Call how)) (target.ApiMethod site.method) ≡ Some (called site)
@@ -136,7 +136,7 @@ module _ (rules : Rules) where
     tested = record {
       past = Given (notes.Held site failed (holding + 1) [] map);
       jump = Given (notes.Held site (failed + 1) 0 [] map);
-      thrown = None;
+      thrown = Open;
     }
 
     abbrev check : Atom → rows.Check

@@ -87,11 +87,9 @@ module _ (told : List Note) (method : Method) (here : Here) where
         by None e = absurd cc
         by (Some note) e = weaker wants note e
 
-    handlers_weaker : (o : Option Asked)
-        → option_map_or (λ (wants : Asked). list_all (note_passes p told wants) (handlers_of here.at method.handlers)) o true ≡ true
-        → option_map_or (λ (wants : Asked). list_all (note_passes q told wants) (handlers_of here.at method.handlers)) o true ≡ true
-    handlers_weaker None e = refl
-    handlers_weaker (Some wants) e =
+    handlers_weaker : (wants : Asked) → list_all (note_passes p told wants) (handlers_of here.at method.handlers) ≡ true
+        → list_all (note_passes q told wants) (handlers_of here.at method.handlers) ≡ true
+    handlers_weaker wants e =
         weaker_all (note_passes p told wants) (note_passes q told wants) (place_weaker wants) (handlers_of here.at method.handlers) e
 
     pass_weaker : (row : Row) → all_pass p told (Some row) method here ≡ true → all_pass q told (Some row) method here ≡ true

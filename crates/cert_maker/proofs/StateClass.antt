@@ -116,7 +116,7 @@ parent_name : (rest : List Const) → class_at (head ++ rest) 4 ≡ codes "java/
 unfolding class_name_at utf8_at
 parent_name rest = refl
 
--- It has the fields of the variables, and nothing else.
+-- It is public, and a class and no interface, and has the fields of the variables and nothing else.
 class_is : (vars : List Var) (class : LinkedClass) → length vars ≤ 16 → IsState vars class → IsSoundClass class → class_fault vars class ≡ None
 class_is vars class few is sound =
     let fields : wrong_field class.file.pool 0 vars class.file.fields ≡ None =
@@ -125,10 +125,11 @@ class_is vars class few is sound =
     let parent : class.parent ≡ codes "java/lang/Object" =
     sound.parent ∙ ap (λ (f : ClassFile). class_at f.pool f.super_class) is.file ∙ parent_name (values_from 0 vars) in
     let no_more : has_no_more vars class ≡ true =
-    and_from _ _ (ap (λ (t : List ℕ). bytes_eq t (codes "java/lang/Object")) parent)
+    and_from _ _ (ap (λ (f : ClassFile). f.flags == 0x0021) is.file)
+    (and_from _ _ (ap (λ (t : List ℕ). bytes_eq t (codes "java/lang/Object")) parent)
     (and_from _ _ (ap (λ (f : ClassFile). has_none f.interfaces) is.file)
     (and_from _ _ (ap has_none is.methods)
-    (ap (λ (f : ClassFile). length f.fields == length vars) is.file ∙ eq-eqb _ _ (fields_count 0 vars)))) in
+    (ap (λ (f : ClassFile). length f.fields == length vars) is.file ∙ eq-eqb _ _ (fields_count 0 vars))))) in
     ap (λ (o : Option ℕ). option_or o (cond (has_no_more vars class) None (Some (length vars)))) fields
     ∙ ap (λ (b : Bool). cond b None (Some (length vars))) no_more
 

@@ -66,3 +66,7 @@ returns-clause-secure c =
       listed = c.requires.listed;
     } in
     λ e. secure laws c.args.program.now c.args.policy.now c.args.certificate.now given (accepted_here c)
+
+pub returns-clause-leaves_blocks : goal.returns-clause-leaves_blocks
+returns-clause-leaves_blocks c =
+    λ e. c.errors_leave_blocks.ensures.leaves c.args.program.now c.args.policy.now c.args.certificate.now (accepted_here c)
