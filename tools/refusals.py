@@ -607,6 +607,7 @@ CHECKS = {
             ),
             "The certificate is of another version of the class.",
             "Rule 1: the program names a variable of `conspec/State` by itself.",
+            "Rules 7 and 8: a handler of the class leads into a block.",
         ),
         "Weave the files with `inline` for this policy; do not run a file that stays refused.",
     ),
@@ -614,8 +615,8 @@ CHECKS = {
         "`conspec/State` is not that of the policy",
         ("field",),
         (
-            "The class `conspec/State` has not just the policy's variables, with their types and first values. The "
-            "first field that is missing or wrong is told, from 0, or how many there should be."
+            "The class `conspec/State` has not just the policy's variables, with their types and first values, or it is "
+            "not public. The first field that is missing or wrong is told, from 0, or how many there should be."
         ),
         ("`conspec/State.class` is of another policy, or of an older text of it, or is not given.",),
         "Give the file that was written with the others, and the policy for which they were woven.",
