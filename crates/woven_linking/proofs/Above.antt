@@ -11,7 +11,8 @@ use Rattle.api_listing.specs.declared.types.ListedClass.{ListedClass}
 use Rattle.api_listing.specs.Listing.{is_known}
 use Rattle.api_listing.specs.Nearest.{class_named, upwards, names_of, interfaces_of}
 use Rattle.bytecode_model.specs.Conditions.{stays_within, runs_in_circle}
-use Rattle.bytecode_model.specs.SearchOrder.{Name, is_one_of, interfaces_above, with_name, with_above, reached, search_order}
+use Rattle.bytecode_model.specs.SearchOrder.{Name, is_one_of, interfaces_above, with_name, with_above, reached, superclasses, search_order}
+use Rattle.bytecode_model.specs.SearchOrder.{above_first, most, reached_in_turn, with_interfaces, each_with_interfaces, field_order}
 use Rattle.bytecode_model.proofs.Lists.{all_append, or_none}
 use Rattle.bytecode_model.proofs.Placing.{test_cases, same_name}
 
@@ -186,6 +187,11 @@ module _ (classes : List ListedClass) (s : ListedClass) (parents : AllByRecursio
       let count : length (classes ++ s ∷ []) ≡ suc (length classes) = omega (arith, length-append classes (s ∷ [])) in
       ap (λ (n : ℕ). stays_within (suc n) (classes ++ s ∷ []) name) count ∙ stays_same (suc (suc (length classes))) name other ∙ stays_less (suc (length classes)) name e
 
+  pub superclasses_same : ((name : List ℕ) → Ends (length classes) classes name) → (name : List ℕ) → name ≢ s.name → superclasses (classes ++ s ∷ []) name ≡ superclasses classes name
+  superclasses_same ends name other =
+      let count : length (classes ++ s ∷ []) ≡ suc (length classes) = omega (arith, length-append classes (s ∷ [])) in
+      ap (λ (n : ℕ). upwards n (classes ++ s ∷ []) name) count ∙ upwards_same (suc (length classes)) name other ∙ ends name
+
   module _ (alone : s.interfaces ≡ []) where
     above_same : (name : List ℕ) → interfaces_above (classes ++ s ∷ []) name ≡ interfaces_above classes name
     above_same name =
@@ -210,17 +216,45 @@ module _ (classes : List ListedClass) (s : ListedClass) (parents : AllByRecursio
 
     pub order_same : ((name : List ℕ) → Ends (length classes) classes name) → (name : List ℕ) → name ≢ s.name → search_order (classes ++ s ∷ []) name ≡ search_order classes name
     order_same ends name other =
-        let count : length (classes ++ s ∷ []) ≡ suc (length classes) = omega (arith, length-append classes (s ∷ [])) in
-        let up : upwards (length (classes ++ s ∷ [])) (classes ++ s ∷ []) name ≡ upwards (length classes) classes name =
-        ap (λ (n : ℕ). upwards n (classes ++ s ∷ []) name) count ∙ upwards_same (suc (length classes)) name other ∙ ends name in
-        let us = upwards (length classes) classes name in
+        let us = superclasses classes name in
         let begin : List ListedClass → List Name = λ xs. names_of xs ++ reached (length (interfaces_of xs) + length (interfaces_of (classes ++ s ∷ []))) (classes ++ s ∷ []) [] (interfaces_of xs) in
-        let one : search_order (classes ++ s ∷ []) name ≡ begin us = ap begin up in
+        let one : search_order (classes ++ s ∷ []) name ≡ begin us = ap begin (superclasses_same ends name other) in
         let two : begin us ≡ names_of us ++ reached (length (interfaces_of us) + length (interfaces_of classes)) (classes ++ s ∷ []) [] (interfaces_of us) =
         ap (λ (xs : List Name). names_of us ++ reached (length (interfaces_of us) + length xs) (classes ++ s ∷ []) [] (interfaces_of us)) interfaces_same in
         one ∙ two ∙ ap (λ (xs : List Name). names_of us ++ xs) (reached_same (length (interfaces_of us) + length (interfaces_of classes)) [] (interfaces_of us))
 
--- ---- the names in which is searched
+    first_same : (found : List Name) (name : Name) (waiting : List Name) → above_first (classes ++ s ∷ []) found name waiting ≡ above_first classes found name waiting
+    first_same found name waiting = ap (λ (xs : List Name). if is_one_of found name then waiting else xs ++ waiting) (above_same name)
+
+    turn_same : (n : ℕ) (found waiting : List Name) → reached_in_turn n (classes ++ s ∷ []) found waiting ≡ reached_in_turn n classes found waiting
+    turn_same zero found waiting = refl
+    turn_same (suc n) found [] = refl
+    turn_same (suc n) found (name ∷ waiting) =
+        ap (reached_in_turn n (classes ++ s ∷ []) (with_name found name)) (first_same found name waiting) ∙ turn_same n (with_name found name) (above_first classes found name waiting)
+
+    with_same : (found : List Name) (c : ListedClass) → with_interfaces (classes ++ s ∷ []) found c ≡ with_interfaces classes found c
+    with_same found c =
+        ap (λ (xs : List Name). reached_in_turn (length c.interfaces + length xs) (classes ++ s ∷ []) (with_name found c.name) c.interfaces) interfaces_same
+        ∙ turn_same (most classes c.interfaces) (with_name found c.name) c.interfaces
+
+    each_same : (found : List Name) (cs : List ListedClass) → each_with_interfaces (classes ++ s ∷ []) found cs ≡ each_with_interfaces classes found cs
+    each_same found [] = refl
+    each_same found (c ∷ cs) = ap (λ (names : List Name). each_with_interfaces (classes ++ s ∷ []) names cs) (with_same found c) ∙ each_same (with_interfaces classes found c) cs
+
+    pub field_order_same : ((name : List ℕ) → Ends (length classes) classes name) → (name : List ℕ) → name ≢ s.name → field_order (classes ++ s ∷ []) name ≡ field_order classes name
+    field_order_same ends name other =
+        ap (each_with_interfaces (classes ++ s ∷ []) []) (superclasses_same ends name other) ∙ each_same [] (superclasses classes name)
+
+-- where no name waits, none is reached
+pub none_reached : (n : ℕ) (classes : List ListedClass) (found : List Name) → reached n classes found [] ≡ found
+none_reached zero classes found = refl
+none_reached (suc n) classes found = refl
+
+pub none_in_turn : (n : ℕ) (classes : List ListedClass) (found : List Name) → reached_in_turn n classes found [] ≡ found
+none_in_turn zero classes found = refl
+none_in_turn (suc n) classes found = refl
+
+-- ---- the classes in which a field is looked for
 
 -- The names that the class says are such names.
 abbrev pub SaysOnly : (Name → Type 0) → ListedClass → Type 0
@@ -235,14 +269,6 @@ module _ (P : Name → Type 0) (classes : List ListedClass) (say : AllByRecursio
     by None is later = tt
     by (Some c) is later = ((found_fits (has_name name) (SaysOnly P) classes c say is).0, later c.parent)
 
-  names_say : (cs : List ListedClass) → AllByRecursion (SaysOnly P) cs → AllByRecursion P (names_of cs)
-  names_say [] h = tt
-  names_say (c ∷ cs) h = (h.0.0, names_say cs h.1)
-
-  interfaces_say : (cs : List ListedClass) → AllByRecursion (SaysOnly P) cs → AllByRecursion P (interfaces_of cs)
-  interfaces_say [] h = tt
-  interfaces_say (c ∷ cs) h = all_append P c.interfaces (interfaces_of cs) h.0.1 (interfaces_say cs h.1)
-
   above_say : (name : Name) → AllByRecursion P (interfaces_above classes name)
   above_say name = by (class_named classes name) refl where
     by : (o : Option ListedClass) → class_named classes name ≡ o → AllByRecursion P (option_map_or (λ (c : ListedClass). c.interfaces) o [])
@@ -255,21 +281,22 @@ module _ (P : Name → Type 0) (classes : List ListedClass) (say : AllByRecursio
     by true = h
     by false = all_append P found (name ∷ []) h (p, tt)
 
-  waiting_say : (found : List Name) (name : Name) (waiting : List Name) → AllByRecursion P waiting → AllByRecursion P (with_above classes found name waiting)
-  waiting_say found name waiting h = by (is_one_of found name) where
-    by : (b : Bool) → AllByRecursion P (if b then waiting else waiting ++ interfaces_above classes name)
+  first_says : (found : List Name) (name : Name) (waiting : List Name) → AllByRecursion P waiting → AllByRecursion P (above_first classes found name waiting)
+  first_says found name waiting h = by (is_one_of found name) where
+    by : (b : Bool) → AllByRecursion P (if b then waiting else interfaces_above classes name ++ waiting)
     by true = h
-    by false = all_append P waiting (interfaces_above classes name) h (above_say name)
+    by false = all_append P (interfaces_above classes name) waiting (above_say name) h
 
-  reached_say : (n : ℕ) (found waiting : List Name) → AllByRecursion P found → AllByRecursion P waiting → AllByRecursion P (reached n classes found waiting)
-  reached_say zero found waiting f w = f
-  reached_say (suc n) found [] f w = f
-  reached_say (suc n) found (name ∷ waiting) f w =
-      reached_say n (with_name found name) (with_above classes found name waiting) (name_says found name f w.0) (waiting_say found name waiting w.1)
+  turn_says : (n : ℕ) (found waiting : List Name) → AllByRecursion P found → AllByRecursion P waiting → AllByRecursion P (reached_in_turn n classes found waiting)
+  turn_says zero found waiting f w = f
+  turn_says (suc n) found [] f w = f
+  turn_says (suc n) found (name ∷ waiting) f w =
+      turn_says n (with_name found name) (above_first classes found name waiting) (name_says found name f w.0) (first_says found name waiting w.1)
 
-  pub search_says : (name : Name) → AllByRecursion P (search_order classes name)
-  search_says name =
-      let up = upwards (length classes) classes name in
-      let above = upwards_say (length classes) name in
-      let n = length (interfaces_of up) + length (interfaces_of classes) in
-      all_append P (names_of up) (reached n classes [] (interfaces_of up)) (names_say up above) (reached_say n [] (interfaces_of up) tt (interfaces_say up above))
+  each_says : (found : List Name) (cs : List ListedClass) → AllByRecursion P found → AllByRecursion (SaysOnly P) cs → AllByRecursion P (each_with_interfaces classes found cs)
+  each_says found [] f h = f
+  each_says found (c ∷ cs) f h =
+      each_says (with_interfaces classes found c) cs (turn_says (most classes c.interfaces) (with_name found c.name) c.interfaces (name_says found c.name f h.0.0) h.0.1) h.1
+
+  pub field_search_says : (name : Name) → AllByRecursion P (field_order classes name)
+  field_search_says name = each_says [] (superclasses classes name) tt (upwards_say (length classes) name)

@@ -13,7 +13,7 @@ use Rattle.class_codec.specs.Fits.{CanSpell}
 use Rattle.api_listing.specs.declared.types.ListedClass.{ListedClass}
 use Rattle.api_listing.specs.declared.types.ListedMethod.{ListedMethod}
 use Rattle.api_listing.specs.declared.types.Listing.{Listing}
-use Rattle.api_listing.specs.BuiltIn.{object, class_rows, built_in_classes, method_rows, is_method}
+use Rattle.api_listing.specs.BuiltIn.{object, class_rows, class_of_row, built_in_classes, method_rows, is_method}
 use Rattle.api_listing.specs.Listing.{is_known, has_method}
 use Rattle.api_listing.specs.Nearest.{class_named, upwards, names_of, interfaces_of}
 use Rattle.api_listing.specs.Words.{is_class_name}
@@ -22,11 +22,12 @@ use Rattle.bytecode_model.specs.declared.members.MemberKind.{MemberKind}
 use Rattle.bytecode_model.specs.declared.members.MemberKind.TheVariants as members
 use Rattle.bytecode_model.specs.declared.program.Side.TheVariants as sides
 use Rattle.bytecode_model.specs.declared.program.Target.TheVariants as target
-use Rattle.bytecode_model.specs.Conditions.{stays_within, runs_in_circle, stands_below, is_good_interface, has_supers, is_super, is_above}
+use Rattle.bytecode_model.specs.Conditions.{stays_within, runs_in_circle, stands_below, is_good_interface, is_below_own, has_supers, is_super, is_above}
 use Rattle.class_linking.specs.ClassConditions.{classes_linked}
 use Rattle.bytecode_model.specs.Heads.{class_at, head_of, heads_of, all_classes}
+use Rattle.bytecode_model.specs.LeftMethods.{left_to_library, left_in}
 use Rattle.bytecode_model.specs.Members.{Declared, members_from, members_of, file_members, given_from, listed_from, listed_fields_from, rows_from, methods_declared, fields_declared, first_of, first_found, in_class, method_of, field_of}
-use Rattle.bytecode_model.specs.SearchOrder.{Name, interfaces_from, search_order}
+use Rattle.bytecode_model.specs.SearchOrder.{Name, most, with_name, interfaces_from, superclasses, search_order, reached_in_turn, with_interfaces, each_with_interfaces, field_order}
 use Rattle.class_index.proofs.Declaring.{first_of-append}
 use Rattle.bytecode_model.proofs.Lists.{all_append, not_true, or_none}
 use Rattle.bytecode_model.proofs.Placing.{same_name}
@@ -38,13 +39,14 @@ use Rattle.woven_linking.proofs.Variables.{variable_found}
 use Rattle.std.proofs.lemmas.Slice.Eq.{bytes_eq-Decides}
 use Rattle.std.proofs.lemmas.Option.{slice_get_within}
 use Rattle.class_weaving.specs.Outcome.{Each, way_out, way_out_index}
-use Rattle.woven_linking.proofs.Above.{SaysOnly, has_name, find_none, found_fits, other_name, and_both, Ends, ordered, climbs, leaves, order_same, search_says}
+use Rattle.woven_linking.proofs.Above.{SaysOnly, has_name, find_none, found_fits, other_name, and_both, Ends, ordered, climbs, leaves, superclasses_same, order_same, field_order_same, none_reached, none_in_turn, field_search_says}
 use Rattle.woven_linking.proofs.Free.{IsFree, class_free}
 use Rattle.woven_linking.proofs.Kept.{IsKept}
+use Rattle.woven_linking.proofs.LeftMethods.{left_same, none_left}
 use Rattle.woven_linking.proofs.Listed.{IsListed, nameless}
 use Rattle.woven_linking.proofs.Named.{IsAdded}
 use Rattle.woven_linking.proofs.Same.{state_methods, state_strings, heads_kept, given_kept, literals_kept}
-use Rattle.woven_linking.proofs.Standing.{or_left, or_right, state_head, state_says, state_head_name, state_head_alone, IsGoodClass, all_good, none_taken, classes_stand}
+use Rattle.woven_linking.proofs.Standing.{or_left, or_right, state_head, state_says, state_head_name, state_head_alone, state_head_parent, state_head_is_class, IsGoodClass, all_good, none_taken, classes_stand}
 
 heads_append : (files : List ClassFile) (s : ClassFile) → heads_of (files ++ s ∷ []) ≡ heads_of files ++ head_of s ∷ []
 heads_append [] s = refl
@@ -96,6 +98,20 @@ system_other e =
 system_first : (others : List ListedClass) → (names : List Name) × (search_order (built_in_classes ++ others) way_out.class ≡ way_out.class ∷ names)
 unfolding class_rows
 system_first others = (_, refl)
+
+-- Object, which is below no class and has no interface
+abbrev object_head : ListedClass
+object_head = class_of_row (object, [])
+
+-- no fewer than two classes are built in
+built_in_many : (others : List ListedClass) → (n : ℕ) × (length (built_in_classes ++ others) ≡ suc (suc n))
+unfolding class_rows
+built_in_many others = (_, refl)
+
+object_alone : (others : List ListedClass) (n : ℕ) → class_named (built_in_classes ++ others) [] ≡ None → upwards (suc (suc n)) (built_in_classes ++ others) object ≡ object_head ∷ []
+unfolding class_rows
+object_alone others n unnamed =
+    ap (λ (o : Option ListedClass). object_head ∷ option_map_or (λ (c : ListedClass). c ∷ upwards n (built_in_classes ++ others) c.parent) o []) unnamed
 
 row_out : first_of (rows_from 0 method_rows) way_out ≡ Some (record { target = target.Builtin way_out_index; is_static = true })
 unfolding method_rows
@@ -246,7 +262,7 @@ module _ (vars : List Var) (few_vars : length vars ≤ 16) (listing : Listing) (
     circles = heads_as (λ (c : ListedClass). runs_in_circle heads c.name ≡ false) (λ file g. no_circle_of (head_of file) file.fields g.supers) olds goods where
       no_circle_of : (c : ListedClass) (fields : List Member) → has_supers heads c fields ≡ true → runs_in_circle heads c.name ≡ false
       no_circle_of c fields e =
-          let a = and_both (stands_below heads c) (is_good_interface c fields) e in
+          let a = and_both (stands_below heads c) (is_good_interface c fields && not (is_below_own c)) e in
           let b = and_both (is_super heads c.parent) (list_all (is_above heads) c.interfaces && not (runs_in_circle heads c.name)) a.0 in
           not_true (runs_in_circle heads c.name) (and_both (list_all (is_above heads) c.interfaces) (not (runs_in_circle heads c.name)) b.1).1
 
@@ -262,6 +278,13 @@ module _ (vars : List Var) (few_vars : length vars ≤ 16) (listing : Listing) (
   order : (name : List ℕ) → name ≢ state_name → search_order (all_classes listing new_files) name ≡ search_order all name
   order name other =
       ap (λ (xs : List ListedClass). search_order xs name) new_classes ∙ order_same all state_head parents state_head_alone ends name (λ e. other (e ∙ state_head_name))
+
+  field_ways : (name : List ℕ) → name ≢ state_name → field_order (all_classes listing new_files) name ≡ field_order all name
+  field_ways name other =
+      ap (λ (xs : List ListedClass). field_order xs name) new_classes ∙ field_order_same all state_head parents state_head_alone ends name (λ e. other (e ∙ state_head_name))
+
+  supers : (name : List ℕ) → name ≢ state_name → superclasses (all_classes listing new_files) name ≡ superclasses all name
+  supers name other = ap (λ (xs : List ListedClass). superclasses xs name) new_classes ∙ superclasses_same all state_head parents ends name (λ e. other (e ∙ state_head_name))
 
   -- ---- what is declared
 
@@ -312,24 +335,50 @@ module _ (vars : List Var) (few_vars : length vars ≤ 16) (listing : Listing) (
 
   fields : (id : MethodId) → id.class ≢ state_name → field_of new_files listing id ≡ field_of olds listing id
   fields id other =
-      let names = search_order all id.class in
-      ap (first_found (first_of (fields_declared new_files listing)) id) (order id.class other)
-      ∙ found_same (first_of (fields_declared olds listing)) (first_of (fields_declared new_files listing)) id (λ name. name ≢ state_name) (looks_same id) names (search_says (λ name. name ≢ state_name) all all_say id.class)
+      let names = field_order all id.class in
+      ap (first_found (first_of (fields_declared new_files listing)) id) (field_ways id.class other)
+      ∙ found_same (first_of (fields_declared olds listing)) (first_of (fields_declared new_files listing)) id (λ name. name ≢ state_name) (looks_same id) names (field_search_says (λ name. name ≢ state_name) all all_say id.class)
 
-  -- conspec/State is the first class in which its own fields are looked for
-  state_first : (names : List Name) × (search_order (all_classes listing new_files) state_name ≡ state_name ∷ names)
-  state_first =
-      let more = all ++ state_head ∷ [] in
+  -- ---- above conspec/State
+
+  abbrev more : List ListedClass
+  more = all ++ state_head ∷ []
+
+  state_supers : superclasses more state_name ≡ state_head ∷ object_head ∷ []
+  state_supers =
       let count : length more ≡ suc (length all) = omega (arith, length-append all (state_head ∷ [])) in
       let alone : class_named (state_head ∷ []) state_name ≡ Some state_head = ap (λ (name : Name). if bytes_eq name state_name then Some state_head else None) state_head_name in
       let found : class_named more state_name ≡ Some state_head =
       find-append (has_name state_name) all (state_head ∷ []) ∙ ap (λ (o : Option ListedClass). option_or o (class_named (state_head ∷ []) state_name)) (find_none (has_name state_name) all all_own) ∙ alone in
-      let above = upwards (length all) more state_head.parent in
-      let up : upwards (length more) more state_name ≡ state_head ∷ above =
-      ap (λ (n : ℕ). upwards n more state_name) count ∙ ap (λ (o : Option ListedClass). option_map_or (λ (c : ListedClass). c ∷ upwards (length all) more c.parent) o []) found in
+      let others = (l.others ++ heads) ++ state_head ∷ [] in
+      let begin : more ≡ built_in_classes ++ others = ap (λ (xs : List ListedClass). xs ++ state_head ∷ []) split ∙ append_assoc built_in_classes (l.others ++ heads) (state_head ∷ []) in
+      let none : class_named more [] ≡ None = find-append (has_name []) all (state_head ∷ []) ∙ ap (λ (o : Option ListedClass). option_or o (class_named (state_head ∷ []) [])) unnamed
+      ∙ ap (λ (name : Name). if bytes_eq name [] then Some state_head else None) state_head_name in
+      let many = built_in_many (l.others ++ heads) in
+      let above : upwards (length all) more object ≡ object_head ∷ [] =
+      ap (λ (n : ℕ). upwards n more object) (ap length split ∙ many.1) ∙ ap (λ (xs : List ListedClass). upwards (suc (suc many.0)) xs object) begin
+      ∙ object_alone others many.0 (ap (λ (xs : List ListedClass). class_named xs []) (sym begin) ∙ none) in
+      ap (λ (n : ℕ). upwards n more state_name) count ∙ ap (λ (o : Option ListedClass). option_map_or (λ (c : ListedClass). c ∷ upwards (length all) more c.parent) o []) found
+      ∙ ap (λ (name : Name). state_head ∷ upwards (length all) more name) state_head_parent ∙ ap (λ (xs : List ListedClass). state_head ∷ xs) above
+
+  state_order : search_order (all_classes listing new_files) state_name ≡ state_name ∷ object ∷ []
+  state_order =
       let begin : List ListedClass → List Name = λ cs. names_of cs ++ interfaces_from more (interfaces_of cs) in
-      let rest = names_of above ++ interfaces_from more (interfaces_of (state_head ∷ above)) in
-      (rest, ap (λ (cs : List ListedClass). search_order cs state_name) new_classes ∙ ap begin up ∙ ap (λ (name : Name). name ∷ rest) state_head_name)
+      ap (λ (cs : List ListedClass). search_order cs state_name) new_classes ∙ ap begin state_supers
+      ∙ ap (λ (name : Name). name ∷ object ∷ interfaces_from more (state_head.interfaces ++ [])) state_head_name
+      ∙ ap (λ (names : List Name). state_name ∷ object ∷ interfaces_from more (names ++ [])) state_head_alone
+      ∙ ap (λ (names : List Name). state_name ∷ object ∷ names) (none_reached (most more []) more [])
+
+  -- conspec/State is the first class in which its own fields are looked for
+  state_first : field_order (all_classes listing new_files) state_name ≡ state_name ∷ object ∷ []
+  state_first =
+      let own : with_interfaces more [] state_head ≡ state_name ∷ [] =
+      ap (λ (names : List Name). reached_in_turn (most more names) more (with_name [] state_head.name) names) state_head_alone ∙ none_in_turn (most more []) more (with_name [] state_head.name)
+      ∙ ap (λ (name : Name). name ∷ []) state_head_name in
+      ap (λ (cs : List ListedClass). field_order cs state_name) new_classes ∙ ap (each_with_interfaces more []) state_supers
+      ∙ ap (λ (names : List Name). with_interfaces more names object_head) own ∙ none_in_turn (most more []) more (state_name ∷ object ∷ [])
+
+  -- ---- what is found
 
   variables : (var : ℕ) (is_bool : Bool) → slice_get (map (λ (v : Var). v.is_bool) vars) var ≡ Some is_bool
       → field_of new_files listing (record { class = state_name; name = variable_name var; desc = variable_type is_bool }) ≡ Some (record { target = target.Field (length olds) var; is_static = true })
@@ -345,8 +394,7 @@ module _ (vars : List Var) (few_vars : length vars ≤ 16) (listing : Listing) (
       ∙ ap (λ (o : Option Found). option_or (option_or o (first_of (file_members members.Field (0 + length olds) (state_file vars)) id)) listed) (none_given members.Field 0 olds id heads_own)
       ∙ ap (λ (n : ℕ). option_or (first_of (file_members members.Field n (state_file vars)) id) listed) at
       ∙ ap (λ (o : Option Found). option_or o listed) (variable_found vars (length olds) var is_bool few e) in
-      let first = state_first in
-      ap (first_found look id) first.1 ∙ ap (λ (o : Option Found). option_or o (first_found look id first.0)) own
+      ap (first_found look id) state_first ∙ ap (λ (o : Option Found). option_or o (first_found look id (object ∷ []))) own
 
   out : method_of new_files listing way_out ≡ Some (record { target = target.Builtin way_out_index; is_static = true })
   out =
@@ -363,6 +411,20 @@ module _ (vars : List Var) (few_vars : length vars ≤ 16) (listing : Listing) (
       ∙ ap (first_found look way_out) (order way_out.class system_other ∙ ap (λ (xs : List ListedClass). search_order xs way_out.class) split ∙ first.1)
       ∙ ap (λ (o : Option Found). option_or o (first_found look way_out first.0)) declared
 
+  -- ---- what is left to the library
+
+  left : (head : ListedClass) → head.name ≢ state_name → left_to_library new_files listing head ≡ left_to_library olds listing head
+  left head other =
+      ap (λ (o : Option Name). if head.is_interface then None else o)
+      (left_same vars listing olds news fits kept new_heads methods head.name (order head.name other) (supers head.name other))
+
+  state_left : left_to_library new_files listing state_head ≡ None
+  state_left =
+      let given = taken object (built_in object built_in_object) in
+      let none : left_in new_files listing state_name ≡ None = none_left vars listing olds news fits kept new_heads methods state_name
+      (subst (AllByRecursion (λ (name : Name). is_known heads name ≡ false)) (sym state_order) (heads_own, (given, tt))) in
+      ap (λ (b : Bool). if b then None else left_in new_files listing state_head.name) state_head_is_class ∙ ap (left_in new_files listing) state_head_name ∙ none
+
   pub is_added : IsAdded (map (λ (v : Var). v.is_bool) vars) olds new_files listing
   is_added = record {
     known = λ name e. ap (λ (xs : List ListedClass). is_known xs name) new_classes ∙ list_any-append (has_name name) all (state_head ∷ []) ∙ or_left (is_known all name) (is_known (state_head ∷ []) name) e;
@@ -374,6 +436,8 @@ module _ (vars : List Var) (few_vars : length vars ≤ 16) (listing : Listing) (
     variables = variables;
     literals = literals_kept (state_file vars) (state_strings vars) olds news fits kept;
     out = out;
+    left = left;
+    state_left = state_left;
   }
 
   -- the classes of the new files

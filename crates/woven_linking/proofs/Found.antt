@@ -15,7 +15,7 @@ use Rattle.bytecode_model.specs.Arrays.{is_array}
 use Rattle.bytecode_model.specs.Heads.{all_classes}
 use Rattle.bytecode_model.specs.Members.{Declared, methods_declared, fields_declared, method_of, field_of}
 use Rattle.bytecode_model.specs.Operands.{element_is_known}
-use Rattle.bytecode_model.specs.SearchOrder.{Name, search_order}
+use Rattle.bytecode_model.specs.SearchOrder.{Name, field_order, search_order}
 use Rattle.class_linking.specs.declared.operand_fault.OperandFault.{OperandFault}
 use Rattle.class_linking.specs.declared.operand_fault.OperandFault.TheVariants as operand
 use Rattle.class_linking.proofs.Nearest.{looked_up, near_said, all_methods_said, all_fields_said}
@@ -48,7 +48,7 @@ module _ (P : Target → Type 0) where
     access_is own api static writes id t e =
         let look = looked_up (is_ok (whole_type id.desc)) (field_of files listing id) (field_fits static writes) (operand.Missing id.name) t e in
         let all = all_fields_said Declares files listing (λ i j file member here there. own i j) (λ i field there. api i) in
-        subst P look.is (near_said Declares (fields_declared files listing) id look.found (search_order (all_classes listing files) id.class) all look.there).said
+        subst P look.is (near_said Declares (fields_declared files listing) id look.found (field_order (all_classes listing files) id.class) all look.there).said
 
     pub call_is : ((class method : ℕ) → P (target.Method class method)) → ((method : ℕ) → P (target.ApiMethod method)) → ((method : ℕ) → P (target.Builtin method))
         → (static : Bool) (id : MethodId) (t : Target) → call_linked files listing static id ≡ Ok t → P t

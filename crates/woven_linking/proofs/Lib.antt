@@ -9,8 +9,9 @@ pub mod Pairs
 pub mod Found
 pub mod Calls
 pub mod Aims
-pub mod Named
 pub mod Standing
+pub mod Named
+pub mod LeftMethods
 pub mod Added
 pub mod Tables
 pub mod Again

@@ -1,5 +1,5 @@
 -- What operands name: a client's the same as before, and a block's what it wants.
-use Rattle.std.proofs.Common.{◌≡◌, ◌≢◌, ℕ, ◌+◌, Bool, true, false, List, [], ◌∷◌, length, map, Option, Some, Result, Ok, Err, refl, sym, ap, subst, ◌∙◌}
+use Rattle.std.proofs.Common.{◌≡◌, ◌≢◌, ℕ, ◌+◌, Bool, true, false, List, [], ◌∷◌, length, map, Option, Some, None, Result, Ok, Err, refl, sym, ap, subst, ◌∙◌}
 use Rattle.std.specs.Prelude.{ℤ, ◌==◌, ◌||◌, IsTrue, slice_get, if◌then◌else◌, ◌&&◌, ok_or, is_ok}
 use Rattle.std.proofs.lemmas.Bool.{eqb-true}
 use Rattle.std.specs.Bool.{beq}
@@ -16,6 +16,7 @@ use Rattle.insn_codec.specs.declared.insn.Insn.TheVariants as insns
 use Rattle.api_listing.specs.declared.descriptor.Element.{Element}
 use Rattle.api_listing.specs.declared.descriptor.Element.TheVariants as elements
 use Rattle.api_listing.specs.declared.descriptor.FieldType.{FieldType}
+use Rattle.api_listing.specs.declared.types.ListedClass.{ListedClass}
 use Rattle.api_listing.specs.declared.types.Listing.{Listing}
 use Rattle.api_listing.specs.Descriptor.{method_type, whole_type}
 use Rattle.api_listing.specs.Descriptor as descriptors
@@ -29,6 +30,7 @@ use Rattle.bytecode_model.specs.declared.operand.Use.TheVariants as uses
 use Rattle.bytecode_model.specs.declared.program.Target.{Target}
 use Rattle.bytecode_model.specs.declared.program.Target.TheVariants as target
 use Rattle.bytecode_model.specs.Heads.{all_classes, text_at}
+use Rattle.bytecode_model.specs.LeftMethods.{left_to_library}
 use Rattle.bytecode_model.specs.Members.{methods_declared, method_of, field_of}
 use Rattle.bytecode_model.specs.Arrays.{is_array}
 use Rattle.bytecode_model.specs.Operands.{known_in, literals_of, element_is_known, id_at, use_of, index_of}
@@ -52,6 +54,7 @@ use Rattle.woven_linking.proofs.Free.{IsFree, class_free}
 use Rattle.woven_linking.proofs.Kept.{IsLonger}
 use Rattle.woven_linking.proofs.Pairs.{each_append}
 use Rattle.woven_linking.proofs.Same.{text_longer}
+use Rattle.woven_linking.proofs.Standing.{state_head}
 use Rattle.woven_linking.proofs.Texts.{id_on}
 use Rattle.class_weaving.proofs.Wanted.{name_told, id_told, state_there, field_there, exit_there, number_there}
 
@@ -66,6 +69,8 @@ pub record IsAdded (kinds : List Bool) (files others : List ClassFile) (listing 
       → field_of others listing (record { class = state_name; name = variable_name var; desc = variable_type is_bool }) ≡ Some (record { target = target.Field (length files) var; is_static = true })
   pub literals : literals_of others ≡ literals_of files
   pub out : method_of others listing way_out ≡ Some (record { target = target.Builtin way_out_index; is_static = true })
+  pub left : (head : ListedClass) → head.name ≢ state_name → left_to_library others listing head ≡ left_to_library files listing head
+  pub state_left : left_to_library others listing state_head ≡ None
 
 if_still : {X E : Type 0} (b c : Bool) (x t : X) (fault : E) → (b ≡ true → c ≡ true) → ◌≡◌ {A = Result X E} (if b then Ok x else Err fault) (Ok t) → ◌≡◌ {A = Result X E} (if c then Ok x else Err fault) (Ok t)
 if_still true c x t fault f e = rw (f refl) e

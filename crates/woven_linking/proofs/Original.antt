@@ -27,6 +27,7 @@ use Rattle.class_linking.specs.Linking.{bare, body_linked, method_linked}
 use Rattle.bytecode_model.specs.Operands.{known_in, id_at, use_of, index_of}
 use Rattle.class_linking.specs.Operands.{class_linked, field_linked, call_linked, used, is_nothing, operand_linked}
 use Rattle.class_linking.proofs.Loop.{each_of}
+use Rattle.class_linking.proofs.Parts.{class_parts}
 use Rattle.offset_patch.specs.Entries.{state_name}
 use Rattle.class_weaving.specs.Woven.{first_code}
 use Rattle.class_weaving.specs.Outcome.{Each, IsFreeTarget}
@@ -95,7 +96,8 @@ module _ (files : List ClassFile) (listing : Listing) where
   classes_free [] free of = (tt, tt)
   classes_free (class ∷ classes) free of =
       let rest = classes_free classes free.1 of.1 in
-      let methods = each_of (method_linked files listing class.file) (λ (m : Method). AllByRecursion IsFreeTarget m.refs) (refs_free class.file free.0) 0 class.file.methods class.methods of.0.methods in
+      let parts = class_parts files listing class.file class.methods of.0.methods in
+      let methods = each_of (method_linked files listing class.file) (λ (m : Method). AllByRecursion IsFreeTarget m.refs) (refs_free class.file free.0) 0 class.file.methods class.methods parts.each in
       ((λ e. class_free class.file.pool class.file.this_class free.0 (sym of.0.name ∙ e), rest.0), (methods, rest.1))
 
 pub free : OriginalIsFree

@@ -21,7 +21,7 @@ use Rattle.class_linking.specs.declared.fault.LinkFault.{LinkFault}
 use Rattle.class_linking.specs.declared.fault.LinkFault.TheVariants as faults
 use Rattle.bytecode_model.specs.declared.program.Side.TheVariants as sides
 use Rattle.class_linking.specs.Fault.{Linked}
-use Rattle.bytecode_model.specs.Conditions.{is_free, names_own_class, may_be_extended, has_interface, is_super, is_above, stays_within, runs_in_circle, stands_below, is_good_interface, has_supers}
+use Rattle.bytecode_model.specs.Conditions.{is_free, names_own_class, may_be_extended, has_interface, is_super, is_above, stays_within, runs_in_circle, stands_below, is_good_interface, is_below_own, has_supers}
 use Rattle.class_linking.specs.ClassConditions.{class_linked, classes_linked}
 use Rattle.bytecode_model.specs.Heads.{head_of, heads_of}
 use Rattle.bytecode_model.proofs.Lists.{not_true}
@@ -72,6 +72,14 @@ state_head_name = refl
 pub state_head_alone : state_head.interfaces ≡ []
 unfolding state_head
 state_head_alone = refl
+
+pub state_head_parent : state_head.parent ≡ object
+unfolding state_head
+state_head_parent = refl
+
+pub state_head_is_class : state_head.is_interface ≡ false
+unfolding state_head
+state_head_is_class = refl
 
 -- ---- the conditions of a class
 
@@ -138,11 +146,12 @@ module _ (vars : List Var) (heads : List ListedClass) (parents : AllByRecursion 
   supers_still : (c : ListedClass) (fields : List Member) → c.name ≢ state_head.name → has_supers heads c fields ≡ true → has_supers (heads ++ state_head ∷ []) c fields ≡ true
   supers_still c fields other e =
       let all = heads ++ state_head ∷ [] in
-      let a = and_both (stands_below heads c) (is_good_interface c fields) e in
+      let rest = is_good_interface c fields && not (is_below_own c) in
+      let a = and_both (stands_below heads c) rest e in
       let b = and_both (is_super heads c.parent) (list_all (is_above heads) c.interfaces && not (runs_in_circle heads c.name)) a.0 in
       let d = and_both (list_all (is_above heads) c.interfaces) (not (runs_in_circle heads c.name)) b.1 in
       let circle = no_circle heads state_head parents c.name other (not_true (runs_in_circle heads c.name) d.1) in
-      and_holds (stands_below all c) (is_good_interface c fields)
+      and_holds (stands_below all c) rest
       (and_holds (is_super all c.parent) (list_all (is_above all) c.interfaces && not (runs_in_circle all c.name))
       (or_still (is_known heads c.parent) (is_known all c.parent) (may_be_extended c.parent) (known_still c.parent) b.0)
       (and_holds (list_all (is_above all) c.interfaces) (not (runs_in_circle all c.name)) (above_still c.interfaces d.0) (ap not circle))) a.1

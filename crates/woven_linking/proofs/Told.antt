@@ -31,6 +31,7 @@ use Rattle.class_weaving.specs.Woven.{WovenCode, folded, is_woven, sites_of, cli
 use Rattle.class_weaving.specs.Outcome.{Each, insns_woven}
 use Rattle.woven_linking.specs.Origins.{fronts_in, insn_woven, IsOfBlock, IsFrom, AreFrom, MethodIsFrom, with_code, ClassIsFrom, ClassesAreFrom, OriginsAreTrue}
 use Rattle.class_linking.proofs.Loop.{first_linked}
+use Rattle.class_linking.proofs.Parts.{class_parts}
 use Rattle.woven_linking.proofs.Pairs.{each_append}
 use Rattle.woven_linking.proofs.Steps.{conditions_of, coded}
 use Rattle.woven_linking.proofs.Whole.{get_behind, IsOf, program_of}
@@ -278,7 +279,8 @@ module _ (plan : Plan) (files : List ClassFile) (listing : Listing) where
       let done = two.0 in
       let is : file_put made class done ≡ one.0 = ok_is SpliceFault (file_put made class done) one.0 two.2 in
       let file = file_with class.file done.entries done.items in
-      let tell = members_tell plan done.entries files listing class class.file.methods (none_made class.file.pool) done [] class.methods refl refl sound.0.methods of.0.methods two.1 in
+      let parts = class_parts files listing class.file class.methods of.0.methods in
+      let tell = members_tell plan done.entries files listing class class.file.methods (none_made class.file.pool) done [] class.methods refl refl sound.0.methods parts.each two.1 in
       let here : ClassIsFrom plan class file done.origins = subst (Each (MethodIsFrom plan done.entries) (with_code class.methods class.file.methods)) (sym tell.1) tell.2 in
       let later = classes_tell one.0 last classes sound.1 of.1 one.2 in (
         file ∷ later.0,

@@ -1,5 +1,5 @@
 -- Files that were woven link to the program with its blocks.
-use Rattle.std.proofs.Common.{◌≡◌, ℕ, ◌+◌, Bool, true, List, [], ◌∷◌, ◌++◌, length, map, Option, Some, Ok, refl, sym, ap, subst, ◌∙◌, append_assoc, append-nil}
+use Rattle.std.proofs.Common.{◌≡◌, ℕ, ◌+◌, Bool, true, List, [], ◌∷◌, ◌++◌, length, map, Option, Some, None, Ok, refl, sym, ap, subst, ◌∙◌, append_assoc, append-nil}
 use Rattle.std.specs.Prelude.{slice_get}
 use Rattle.std.specs.List.{AllByRecursion}
 use Rattle.std.proofs.lemmas.List.{length-append, length-map}
@@ -20,8 +20,9 @@ use Rattle.bytecode_model.specs.declared.program.Side.TheVariants as sides
 use Rattle.class_linking.specs.ClassConditions.{classes_linked}
 use Rattle.class_linking.specs.Fault.{Linked, linked_from}
 use Rattle.bytecode_model.specs.Heads.{class_at, head_of, heads_of}
+use Rattle.bytecode_model.specs.LeftMethods.{left_to_library}
 use Rattle.bytecode_model.specs.Operands.{literals_of}
-use Rattle.class_linking.specs.Linking.{method_linked, methods_linked, each_linked, class_with, classes_with, main_of, assembled}
+use Rattle.class_linking.specs.Linking.{method_linked, each_method_linked, methods_linked, each_linked, class_with, classes_with, main_of, assembled}
 use Rattle.bytecode_model.specs.Sound.{IsSoundMethod, IsSoundClass}
 use Rattle.conspec_tree.specs.declared.types.Var.{Var}
 use Rattle.offset_patch.specs.Plan.{Plan, IsGood}
@@ -38,12 +39,12 @@ use Rattle.woven_linking.specs.Program.{MethodHasRoom, IsWovenOf}
 use Rattle.woven_linking.specs.Program as program
 use Rattle.woven_linking.proofs.Made.{class_is, HaveMethodsRoom, with_state}
 use Rattle.woven_linking.proofs.Added.{is_added, new_stand}
-use Rattle.woven_linking.proofs.Free.{IsFree}
+use Rattle.woven_linking.proofs.Free.{IsFree, class_free}
 use Rattle.woven_linking.proofs.Kept.{IsLonger, IsKept, IsFileOf, members_woven_of, file_kept, file_is, files_made}
 use Rattle.woven_linking.proofs.Listed.{listed}
 use Rattle.woven_linking.proofs.Named.{IsAdded}
 use Rattle.class_linking.proofs.Loop.{first_linked}
-use Rattle.class_linking.proofs.Parts.{program_parts}
+use Rattle.class_linking.proofs.Parts.{class_parts, program_parts}
 use Rattle.woven_linking.proofs.Same.{head_kept, literals_kept, main_kept, state_strings}
 use Rattle.woven_linking.proofs.Standing.{IsGoodClass, all_good, state_says, state_head_name}
 use Rattle.woven_linking.proofs.Steps.{one_step}
@@ -119,7 +120,17 @@ pub record IsOf (files : List ClassFile) (listing : Listing) (class : LinkedClas
   pub parent : class.parent ≡ class_at class.file.pool class.file.super_class
   pub methods : methods_linked files listing class.file ≡ Ok class.methods
 
+-- The methods link where each does and none is left to the library.
+methods_link : (files : List ClassFile) (listing : Listing) (file : ClassFile) (methods : List Method) → each_method_linked files listing file ≡ Ok methods → left_to_library files listing (head_of file) ≡ None
+    → methods_linked files listing file ≡ Ok methods
+methods_link files listing file methods each none = rw (each, none) refl
+
 module _ (kinds : List Bool) (plan : Plan) (good : IsGood kinds plan) (vars : List Var) (files others : List ClassFile) (listing : Listing) (added : IsAdded kinds files others listing) where
+  -- conspec/State has no method, and leaves none to the library.
+  state_links : methods_linked others listing (state_file vars) ≡ Ok []
+  state_links =
+      methods_link others listing (state_file vars) [] refl (ap (left_to_library others listing) (state_says vars) ∙ added.state_left)
+
   class_joined : (old : LinkedClass) (new : ClassFile) → IsSoundClass old → IsFree old.file.pool → IsOf files listing old → IsFileOf plan old new
       → (methods : List Method) × (methods_linked others listing new ≡ Ok methods) × IsWovenClass plan (length files) old (class_with new methods)
       × AllByRecursion IsSoundMethod methods × AllByRecursion (MethodHasRoom plan new.pool) old.methods
@@ -128,10 +139,14 @@ module _ (kinds : List Bool) (plan : Plan) (good : IsGood kinds plan) (vars : Li
       let head : head_of new ≡ head_of old.file = head_kept old.file new sound.fits k in
       let named : (head_of new).name ≡ (head_of old.file).name = ap (λ (c : ListedClass). c.name) head in
       let pool : w.made.entries ≡ new.pool = ap (λ (f : ClassFile). f.pool) w.is in
+      let parts = class_parts files listing old.file old.methods of.methods in
       let rest = members_rest kinds plan good old new files others listing added sound.fits.pool free k.longer named old.file.methods (none_made old.file.pool) w.made [] old.methods refl refl sound.methods
-      sound.fits.methods.each of.methods w.all pool in
+      sound.fits.methods.each parts.each w.all pool in
       let items : new.methods ≡ rest.items = ap (λ (f : ClassFile). f.methods) (sym w.is) ∙ rest.are in
-      let links : methods_linked others listing new ≡ Ok rest.linked = ap (linked_from (method_linked others listing new) 0) items ∙ rest.links in (
+      let each : each_method_linked others listing new ≡ Ok rest.linked = ap (linked_from (method_linked others listing new) 0) items ∙ rest.links in
+      let left : left_to_library others listing (head_of new) ≡ None =
+      ap (left_to_library others listing) head ∙ added.left (head_of old.file) (class_free old.file.pool old.file.this_class free) ∙ parts.left in
+      let links : methods_linked others listing new ≡ Ok rest.linked = methods_link others listing new rest.linked each left in (
         rest.linked,
         links,
         record {
@@ -160,9 +175,12 @@ module _ (kinds : List Bool) (plan : Plan) (good : IsGood kinds plan) (vars : Li
     sound : AllByRecursion (AllByRecursion IsSoundMethod) methods
     room : Each (λ (old : LinkedClass) (new : ClassFile). AllByRecursion (MethodHasRoom plan new.pool) old.methods) olds news
 
+  state_linked : (at : ℕ) → linked_from (λ i. methods_linked others listing) at (state_file vars ∷ []) ≡ Ok ([] ∷ [])
+  state_linked at = ap (λ (r : Linked (List Method)). r >>= λ x. Ok (x ∷ [])) state_links
+
   classes_joined : (at : ℕ) (olds : List LinkedClass) (news : List ClassFile) → AllByRecursion IsSoundClass olds → AllByRecursion (λ (c : LinkedClass). IsFree c.file.pool) olds
       → AllByRecursion (IsOf files listing) olds → Each (IsFileOf plan) olds news → AreJoined at olds news
-  classes_joined at [] [] sound free of w = record { methods = [] ∷ []; links = refl; own = []; are = refl; classes = tt; with = refl; sound = (tt, tt); room = tt }
+  classes_joined at [] [] sound free of w = record { methods = [] ∷ []; links = state_linked at; own = []; are = refl; classes = tt; with = refl; sound = (tt, tt); room = tt }
   classes_joined at [] (new ∷ news) sound free of w = absurd w
   classes_joined at (old ∷ olds) [] sound free of w = absurd w
   classes_joined at (old ∷ olds) (new ∷ news) sound free of w =
