@@ -1,6 +1,6 @@
 -- A class leaves the same methods to the library with conspec/State behind the classes, which is no interface and has no method.
 use Rattle.std.proofs.Common.{◌≡◌, ℕ, zero, suc, ◌+◌, Bool, true, false, ◌||◌, ◌&&◌, List, [], ◌∷◌, ◌++◌, length, map, Option, Some, None, refl, sym, ap, ap₂, ◌∙◌, arith}
-use Rattle.std.specs.Prelude.{bytes_eq, cond, filter, find, not, if◌then◌else◌, is_some, option_and_then, option_map, slice_get}
+use Rattle.std.specs.Prelude.{bytes_eq, filter, find, not, if◌then◌else◌, is_some, option_and_then, option_map, slice_get}
 use Rattle.std.specs.List.{AllByRecursion, flat_map}
 use Rattle.std.specs.Option.{option_map_or, option_or}
 use Rattle.std.proofs.lemmas.Bool.{false≢true}
