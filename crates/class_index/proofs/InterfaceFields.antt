@@ -1,22 +1,15 @@
 -- A set of names and descriptors of fields that interfaces declare.
-use Rattle.std.proofs.Common.{◌≡◌, ℕ, Bool, true, false, ◌||◌, List, [], Option, Some, None, refl, sym, ap, subst, ◌∙◌}
-use Rattle.std.specs.Prelude.{bytes_eq, is_some}
+use Rattle.std.proofs.Common.{◌≡◌, ℕ, Bool, true, false, ◌||◌, List, [], refl, sym, ap, subst, ◌∙◌}
+use Rattle.std.specs.Prelude.{bytes_eq}
 use Rattle.std.specs.Ordering.{is_eq}
-use Rattle.std.specs.BTreeMap.{BTreeMap}
 use Rattle.std.specs.BTreeSet.{BTreeSet}
 use Rattle.std.proofs.lemmas.Bool.{false≢true}
 use Rattle.std.proofs.lemmas.Slice.Eq.{bytes_eq-Decides}
 use Rattle.mon_base.specs.declared.method.MethodId.{MethodId}
-use Rattle.api_listing.specs.declared.types.ListedClass.{ListedClass}
 use Rattle.api_listing.specs.BuiltIn.{is_method}
-use Rattle.api_listing.specs.Nearest.{interfaces_of}
 use Rattle.api_listing.specs.Seen.{has_id, has_name, id_cmp}
-use Rattle.bytecode_model.specs.declared.members.Found.{Found}
 use Rattle.bytecode_model.specs.Members.{in_class}
-use Rattle.bytecode_model.specs.SearchOrder.{is_one_of}
 use Rattle.bytecode_model.proofs.Names.{id_cmp-is, same_id}
-use Rattle.class_index.specs.Index.{NamesSeen, found_in}
-use Rattle.class_index.specs.InterfaceFields.{AreInterfaceFields}
 
 -- a name and a descriptor are those of themselves
 own_key : (id : MethodId) → is_method [] id.name id.desc (record { class = []; name = id.name; desc = id.desc }) ≡ true
@@ -53,13 +46,3 @@ not_of_interface fields interfaces id q apart of was = by (has_id fields (in_cla
   by false true t e =
       absurd (false≢true (sym apart ∙ subst (λ (i : MethodId). has_name interfaces i.class ≡ true) (same_id q id (sym (id_cmp-is q id) ∙ t)) of))
   by false false t e = e
-
--- The set that was made of all that is declared.
-pub are_interface_fields : (fields : BTreeSet MethodId) (interfaces : BTreeSet (List ℕ)) (classes : List ListedClass) (declared : BTreeMap MethodId Found)
-    → NamesSeen interfaces (interfaces_of classes)
-    → ((q : MethodId) → has_name interfaces q.class ≡ true → is_some (found_in declared q) ≡ true → has_id fields (in_class q []) ≡ true)
-    → AreInterfaceFields fields classes (found_in declared)
-are_interface_fields fields interfaces classes declared seen all id apart name of = by (found_in declared (in_class id name)) refl where
-  by : (o : Option Found) → found_in declared (in_class id name) ≡ o → o ≡ None
-  by None e = refl
-  by (Some f) e = absurd (false≢true (sym apart ∙ all (in_class id name) (seen name ∙ of) (ap is_some e)))

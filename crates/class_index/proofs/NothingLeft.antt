@@ -1,5 +1,5 @@
 -- Where no interface asks for a method that some class of the library has, no class leaves one to the library.
-use Rattle.std.proofs.Common.{◌≡◌, ℕ, Bool, true, false, not, cond, ◌&&◌, ◌||◌, List, [], ◌∷◌, ◌++◌, Option, Some, None, map, filter, refl, sym, ap, subst, ◌∙◌}
+use Rattle.std.proofs.Common.{◌≡◌, ℕ, Bool, true, false, not, cond, ◌&&◌, ◌||◌, List, [], ◌∷◌, ◌++◌, Option, Some, None, map, filter, refl, sym, ap, ◌∙◌}
 use Rattle.std.specs.Prelude.{bytes_eq, find, option_and_then, option_map, slice_get}
 use Rattle.std.specs.List.{AllByRecursion, flat_map, list_any}
 use Rattle.std.specs.Option.{option_map_or}
@@ -15,11 +15,11 @@ use Rattle.api_listing.specs.Listing.{has_method}
 use Rattle.api_listing.specs.Nearest.{names_of}
 use Rattle.bytecode_model.specs.Conditions.{id_of, is_of_library, is_run, overrides_in}
 use Rattle.bytecode_model.specs.Heads.{all_classes, desc_of, heads_of, is_interface, name_of}
-use Rattle.bytecode_model.specs.LeftMethods.{asked_by, asked_by_named, given_interface, if_interface, is_asked, is_left, left_in, offered_in}
+use Rattle.bytecode_model.specs.LeftMethods.{asked_by, asked_by_named, if_interface, is_asked, is_left, offered_in}
 use Rattle.bytecode_model.specs.Members.{in_class}
 use Rattle.bytecode_model.specs.Places.{class_place}
 use Rattle.bytecode_model.specs.SearchOrder.{search_order, superclasses}
-use Rattle.bytecode_model.proofs.Lists.{all_get, some_is}
+use Rattle.bytecode_model.proofs.Lists.{all_get}
 use Rattle.class_index.specs.Asking.{NothingIsLeft, asks_library, is_asked_of_library, is_library_name, is_listed_name, is_row_name}
 
 -- ---- truth values

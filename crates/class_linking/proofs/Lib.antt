@@ -13,6 +13,7 @@ mod LinkedMembers
 mod LinkedOperands
 mod LinkedCalls
 mod LinkedTexts
+mod LeftMethods
 mod LinkedBodies
 mod LinkedPlaces
 mod LinkedUses

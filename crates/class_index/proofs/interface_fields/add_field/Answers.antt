@@ -1,11 +1,8 @@
-use Rattle.std.proofs.Common.{◌≡◌, ◌∙◌, ◌||◌, [], Bool, true, false, sym, ap, subst, refl}
+use Rattle.std.proofs.Common.{◌∙◌, [], sym}
 use Rattle.std.specs.Ordering.{is_eq}
-use Rattle.mon_base.specs.declared.method.MethodId.{MethodId}
-use Rattle.api_listing.specs.BuiltIn.{is_method}
-use Rattle.api_listing.specs.Seen.{has_id, has_name, id_cmp}
+use Rattle.api_listing.specs.Seen.{has_id, id_cmp}
 use Rattle.bytecode_model.specs.Members.{in_class}
 use Rattle.bytecode_model.proofs.Lists.{cond_or}
-use Rattle.bytecode_model.proofs.Names.{id_cmp-is, same_id}
 use Rattle.class_index.proofs.InterfaceFields.{is_kept, not_of_interface}
 use Rattle.class_index.proofs.interface_fields.add_field.Goals as goal
 

@@ -1,4 +1,4 @@
-use Rattle.std.proofs.Common.{◌≡◌, false, Some, ◌∙◌, sym, subst}
+use Rattle.std.proofs.Common.{◌≡◌, Some, ◌∙◌, sym, subst}
 use Rattle.std.specs.Prelude.{IfSome}
 use Rattle.api_listing.specs.Nearest.{names_of}
 use Rattle.bytecode_model.specs.Members.{first_found}
