@@ -1,0 +1,4 @@
+package api;
+
+/** What the library throws. */
+public class Broken extends Exception {}
