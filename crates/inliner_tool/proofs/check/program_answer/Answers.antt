@@ -1,6 +1,12 @@
-use Rattle.std.proofs.Common.{sym, subst}
+use Rattle.std.proofs.Common.{◌≡◌, true, ap, sym, subst}
+use Rattle.std.specs.Prelude.{is_ok}
 use Rattle.std.specs.List.{AllByRecursion}
+use Rattle.block_logic.specs.Accepted.{IsAccepted}
+use Rattle.block_logic.specs.Meaning.{Promised}
 use Rattle.block_logic.specs.Obeying.{FitsListing}
+use Rattle.block_logic.specs.Outside.{LeavesBlocks}
+use Rattle.cert_checker.specs.Secure.{Secure}
+use Rattle.conspec_automaton.specs.Building.{built}
 use Rattle.conspec_automaton.specs.declared.policy.Policy.{Policy}
 use Rattle.inliner_tool.proofs.Listed.{fits_listing}
 use Rattle.inliner_tool.proofs.check.program_answer.Goals as goal
@@ -15,3 +21,17 @@ pub check-requires-clause-listed : goal.check-requires-clause-listed
 check-requires-clause-listed c =
     subst (λ (p : Policy). AllByRecursion (FitsListing c.args.program.now.listing) p.clauses) (sym c.in-Ok.ensures.is)
     (fits_listing c.kinds_are_told.ensures.arguments c.kinds_are_told.ensures.results c.args.program.now.listing c.args.policy.now c.requires.listed c.requires.policy)
+
+pub returns-in-Ok-check-clause-checked : goal.returns-in-Ok-check-clause-checked
+returns-in-Ok-check-clause-checked c =
+    λ done.
+    let program = c.args.program.now in
+    let certificate = c.args.certificate.now in
+    let is : c.in-Ok.policy ≡ built c.args.policy.now = c.in-Ok.ensures.is in
+    let ok : is_ok c.check.result ≡ true = ap is_ok c.in-Ok-check.is in
+    let promised = subst (Promised certificate.mode) (sym is) (c.is_judged.ensures.promised c.if-not-is_judged.false) in
+    record {
+      accepted = subst (λ (p : Policy). IsAccepted program p certificate) is (c.check.ensures.ok.0 ok);
+      secure = subst (Secure certificate.mode program) is (c.check.ensures.secure ok promised);
+      errors = subst (λ (p : Policy). LeavesBlocks program p certificate) is (c.check.ensures.leaves_blocks ok);
+    }
