@@ -7,7 +7,7 @@ use Rattle.api_listing.specs.declared.events.Event.{Event}
 use Rattle.insn_codec.specs.declared.insn.Insn.{Insn}
 use Rattle.bytecode_model.specs.declared.program.Program.{Program}
 use Rattle.bytecode_model.specs.declared.program.Target.{Target}
-use Rattle.cert_format.specs.declared.certificate.Certificate.{Certificate}
+use Rattle.block_logic.specs.Annotations.{Annotations}
 use Rattle.cert_format.specs.declared.note.Note.{Note}
 use Rattle.cert_format.specs.declared.note.Note.TheVariants as notes
 use Rattle.cert_format.specs.declared.note.Site.{Site}
@@ -33,17 +33,17 @@ use Rattle.block_logic.proofs.Threads.{own_thread, was_thread}
 use Rattle.block_logic.proofs.Steps.{Acts, ChangesClient, ChangesOwner, ClientAnswers, ClientSteps, GivesUp, OwnerAnswers, OwnerSteps, StaysOwner, TakingSteps, TakingWaits}
 
 -- what the steps of threads change, by whether the thread holds the lock
-pub record StepLaws (program : Program) (policy : Policy) (certificate : Certificate) : Type 0 where
-  pub client_steps : ClientSteps program policy certificate
-  pub client_answers : ClientAnswers program policy certificate
-  pub taking_steps : TakingSteps program policy certificate
-  pub taking_waits : TakingWaits program policy certificate
-  pub owner_steps : OwnerSteps program policy certificate
-  pub owner_answers : OwnerAnswers program policy certificate
+pub record StepLaws (program : Program) (policy : Policy) (annotations : Annotations) : Type 0 where
+  pub client_steps : ClientSteps program policy annotations
+  pub client_answers : ClientAnswers program policy annotations
+  pub taking_steps : TakingSteps program policy annotations
+  pub taking_waits : TakingWaits program policy annotations
+  pub owner_steps : OwnerSteps program policy annotations
+  pub owner_answers : OwnerAnswers program policy annotations
 
-module _ (program : Program) (policy : Policy) (certificate : Certificate) (laws : StepLaws program policy certificate) where
+module _ (program : Program) (policy : Policy) (annotations : Annotations) (laws : StepLaws program policy annotations) where
   abbrev pub is_clean : Machine → Type 0
-  is_clean machine = IsCleanWorld program (state_of program policy certificate) (world_of machine)
+  is_clean machine = IsCleanWorld program (state_of program policy annotations) (world_of machine)
 
   -- ---- a thread that does not hold the lock
 
@@ -53,17 +53,17 @@ module _ (program : Program) (policy : Policy) (certificate : Certificate) (laws
     pub is : a.number ≡ number
     pub next : Insn × Target
     pub site : Site
-    pub acts : Acts program policy certificate machine a next (notes.Taking site)
+    pub acts : Acts program policy annotations machine a next (notes.Taking site)
     pub free : IsFree program policy a.frame (notes.Taking site)
     pub stepped : insn_stepped program machine a next ≡ Some change
 
   -- It changes nothing of the lock, or takes it.
   abbrev pub Moves : Machine → ℕ → Change → Type 0
-  Moves machine number change = ChangesClient program policy certificate (world_of machine) change ⊎ Takes machine number change
+  Moves machine number change = ChangesClient program policy annotations (world_of machine) change ⊎ Takes machine number change
 
   module _ (machine : Machine) (world : is_clean machine) (number : ℕ) (thread : Thread) (change : Change) where
-    frame_moves : (frame : Frame) (below : List Frame) (next : Insn × Target) (note : Note) → IsFrame program frame → AreBelow program policy certificate below
-        → insn_at program frame ≡ Some next → note_of program certificate frame ≡ Some note → IsFree program policy frame note
+    frame_moves : (frame : Frame) (below : List Frame) (next : Insn × Target) (note : Note) → IsFrame program frame → AreBelow program policy annotations below
+        → insn_at program frame ≡ Some next → note_of program annotations frame ≡ Some note → IsFree program policy frame note
         → insn_stepped program machine (record { number = number; thread = thread; frame = frame; below = below }) next ≡ Some change
         → Moves machine number change
     frame_moves frame below next notes.Free well waits there told free e =
@@ -84,7 +84,7 @@ module _ (program : Program) (policy : Policy) (certificate : Certificate) (laws
     frame_moves frame below next (notes.Owed site stage kept top) well waits there told free e = absurd free
     frame_moves frame below next (notes.Stop site place) well waits there told free e = absurd free
 
-    frames_move : (frames : List Frame) → AreClientFrames program policy certificate frames → frames_stepped program machine number thread frames ≡ Some change
+    frames_move : (frames : List Frame) → AreClientFrames program policy annotations frames → frames_stepped program machine number thread frames ≡ Some change
         → Moves machine number change
     frames_move [] client e = absurd cc
     frames_move (frame ∷ below) client e =
@@ -92,11 +92,11 @@ module _ (program : Program) (policy : Policy) (certificate : Certificate) (laws
         at_insn next.0 next.1 next.2 client.1 where
           at_insn : (next : Insn × Target) → insn_at program frame ≡ Some next
               → insn_stepped program machine (record { number = number; thread = thread; frame = frame; below = below }) next ≡ Some change
-              → IsClientFrame program policy certificate frame → Moves machine number change
+              → IsClientFrame program policy annotations frame → Moves machine number change
           at_insn next there e (inl none) = absurd cc
           at_insn next there e (inr noted) = frame_moves frame below next noted.0 client.0 client.2 there noted.1 noted.2 e
 
-    pub client_moves : (doing : Doing) (choice : Choice) → IsClientDoing program policy certificate thread.frames doing
+    pub client_moves : (doing : Doing) (choice : Choice) → IsClientDoing program policy annotations thread.frames doing
         → doing_stepped program machine number thread doing choice ≡ Some change → Moves machine number change
     client_moves doings.Running choices.Plain client e = frames_move thread.frames client e
     client_moves doings.Running (choices.Answer answer) client e = absurd cc
@@ -106,9 +106,9 @@ module _ (program : Program) (policy : Policy) (certificate : Certificate) (laws
 
     -- ---- a thread that holds it
 
-    owner_frames_move : (frames : List Frame) (seen : List Event) (fields : List Value) → AreOwnerFrames program policy certificate seen fields frames
-        → held_locks program machine.monitors ≡ locked_by program number → slice_get machine.statics (state_of program policy certificate) ≡ Some fields
-        → frames_stepped program machine number thread frames ≡ Some change → ChangesOwner program policy certificate number seen change
+    owner_frames_move : (frames : List Frame) (seen : List Event) (fields : List Value) → AreOwnerFrames program policy annotations seen fields frames
+        → held_locks program machine.monitors ≡ locked_by program number → slice_get machine.statics (state_of program policy annotations) ≡ Some fields
+        → frames_stepped program machine number thread frames ≡ Some change → ChangesOwner program policy annotations number seen change
     owner_frames_move [] seen fields owner locked variables e = absurd cc
     owner_frames_move (frame ∷ below) seen fields owner locked variables e =
         let a : Acting = record { number = number; thread = thread; frame = frame; below = below } in
@@ -116,9 +116,9 @@ module _ (program : Program) (policy : Policy) (certificate : Certificate) (laws
         laws.owner_steps machine a next.0 change owner.0.note seen fields
         (record { world = world; well = owner.0.well; there = next.1; told = owner.0.told; below = owner.1 }) owner.0.owns locked variables next.2
 
-    pub owner_moves : (doing : Doing) (choice : Choice) (seen : List Event) (fields : List Value) → IsOwnerDoing program policy certificate seen fields thread.frames doing
-        → held_locks program machine.monitors ≡ locked_by program number → slice_get machine.statics (state_of program policy certificate) ≡ Some fields
-        → doing_stepped program machine number thread doing choice ≡ Some change → ChangesOwner program policy certificate number seen change
+    pub owner_moves : (doing : Doing) (choice : Choice) (seen : List Event) (fields : List Value) → IsOwnerDoing program policy annotations seen fields thread.frames doing
+        → held_locks program machine.monitors ≡ locked_by program number → slice_get machine.statics (state_of program policy annotations) ≡ Some fields
+        → doing_stepped program machine number thread doing choice ≡ Some change → ChangesOwner program policy annotations number seen change
     owner_moves doings.Running choices.Plain seen fields owner locked variables e = owner_frames_move thread.frames seen fields owner locked variables e
     owner_moves doings.Running (choices.Answer answer) seen fields owner locked variables e = absurd cc
     owner_moves (doings.InCall method receiver arguments) choice seen fields owner locked variables e =
@@ -135,35 +135,35 @@ module _ (program : Program) (policy : Policy) (certificate : Certificate) (laws
 
     -- all threads but that of the step do not hold the lock
     abbrev pub AreOthersClients : Type 0
-    AreOthersClients = (n : ℕ) (other : Thread) → n ≢ number → slice_get machine.threads n ≡ Some other → IsClient program policy certificate other
+    AreOthersClients = (n : ℕ) (other : Thread) → n ≢ number → slice_get machine.threads n ≡ Some other → IsClient program policy annotations other
 
-    begun_client : (begins : Option Thread) (t : Thread) → IfSome begins (IsClient program policy certificate) → begins ≡ Some t → IsClient program policy certificate t
+    begun_client : (begins : Option Thread) (t : Thread) → IfSome begins (IsClient program policy annotations) → begins ≡ Some t → IsClient program policy annotations t
     begun_client None t client e = absurd cc
-    begun_client (Some begun) t client e = subst (IsClient program policy certificate) (some_is begun t e) client
+    begun_client (Some begun) t client e = subst (IsClient program policy annotations) (some_is begun t e) client
 
     module _ (there : slice_get machine.threads number ≡ Some thread) (seen : List Event) where
       within : number < length machine.threads
       within = slice_get_within machine.threads number thread there
 
-      clients_after : AreOthersClients → IsClient program policy certificate change.thread → IfSome change.begins (IsClient program policy certificate)
-          → (n : ℕ) (t : Thread) → slice_get now.threads n ≡ Some t → IsClient program policy certificate t
+      clients_after : AreOthersClients → IsClient program policy annotations change.thread → IfSome change.begins (IsClient program policy annotations)
+          → (n : ℕ) (t : Thread) → slice_get now.threads n ≡ Some t → IsClient program policy annotations t
       clients_after others own begins n t e =
           elim (was_thread machine.threads number change.thread change.begins n t e within) [
-            | inl is ↦ subst (IsClient program policy certificate) is.1 own
+            | inl is ↦ subst (IsClient program policy annotations) is.1 own
             | inr (inl other) ↦ others n t other.0 other.1
             | inr (inr begun) ↦ begun_client change.begins t begins begun
           ]
 
       -- ---- by a thread that does not hold the lock
 
-      module _ (c : ChangesClient program policy certificate (world_of machine) change) where
+      module _ (c : ChangesClient program policy annotations (world_of machine) change) where
         same_events : spoken policy seen ≡ spoken policy (more seen)
         same_events = same_spoken policy seen change.event c.event
 
         followed_after : IsFollowed policy seen → IsFollowed policy (more seen)
         followed_after followed = followed_too policy seen (more seen) same_events followed
 
-        pub unlocked_after : (fields : List Value) → IsUnlocked program policy certificate machine seen fields → IsUnlocked program policy certificate now (more seen) fields
+        pub unlocked_after : (fields : List Value) → IsUnlocked program policy annotations machine seen fields → IsUnlocked program policy annotations now (more seen) fields
         unlocked_after fields u =
             record {
               free = c.locks ∙ u.free;
@@ -175,25 +175,25 @@ module _ (program : Program) (policy : Policy) (certificate : Certificate) (laws
             }
 
         -- the thread that holds the lock is another
-        pub locked_after : (fields : List Value) (l : IsLocked program policy certificate machine seen fields) → l.owner ≢ number → IsLocked program policy certificate now (more seen) fields
+        pub locked_after : (fields : List Value) (l : IsLocked program policy annotations machine seen fields) → l.owner ≢ number → IsLocked program policy annotations now (more seen) fields
         locked_after fields l differ =
             record {
               owner = l.owner;
               locked = c.locks ∙ l.locked;
               thread = l.thread;
               there = other_stays number machine change l.owner differ (slice_get_within machine.threads l.owner l.thread l.there) ∙ l.there;
-              owns = owner_too policy seen (more seen) same_events program certificate fields l.thread l.owns;
+              owns = owner_too policy seen (more seen) same_events program annotations fields l.thread l.owns;
               others = λ n t differs e.
                   elim (was_thread machine.threads number change.thread change.begins n t e within) [
-                    | inl is ↦ subst (IsClient program policy certificate) is.1 c.thread
+                    | inl is ↦ subst (IsClient program policy annotations) is.1 c.thread
                     | inr (inl other) ↦ l.others n t differs other.1
                     | inr (inr begun) ↦ begun_client change.begins t c.begins begun
                   ];
             }
 
-        pub client_keeps : (fields : List Value) → IsFollowed policy seen → slice_get machine.statics (state_of program policy certificate) ≡ Some fields
-            → IsUnlocked program policy certificate now (more seen) fields ⊎ IsLocked program policy certificate now (more seen) fields
-            → IsKept program policy certificate now (more seen)
+        pub client_keeps : (fields : List Value) → IsFollowed policy seen → slice_get machine.statics (state_of program policy annotations) ≡ Some fields
+            → IsUnlocked program policy annotations now (more seen) fields ⊎ IsLocked program policy annotations now (more seen) fields
+            → IsKept program policy annotations now (more seen)
         client_keeps fields followed variables lock =
             record {
               followed = followed_after followed;
@@ -202,8 +202,8 @@ module _ (program : Program) (policy : Policy) (certificate : Certificate) (laws
 
       -- ---- by the thread that holds it, or takes it
 
-      module _ (c : ChangesOwner program policy certificate number seen change) (others : AreOthersClients) where
-        others_after : (n : ℕ) (t : Thread) → n ≢ number → slice_get now.threads n ≡ Some t → IsClient program policy certificate t
+      module _ (c : ChangesOwner program policy annotations number seen change) (others : AreOthersClients) where
+        others_after : (n : ℕ) (t : Thread) → n ≢ number → slice_get now.threads n ≡ Some t → IsClient program policy annotations t
         others_after n t differs e =
             elim (was_thread machine.threads number change.thread change.begins n t e within) [
               | inl is ↦ absurd (differs is.0)
@@ -211,7 +211,7 @@ module _ (program : Program) (policy : Policy) (certificate : Certificate) (laws
               | inr (inr begun) ↦ let none = c.begins in absurd cc
             ]
 
-        stays_locked : (s : StaysOwner program policy certificate number seen change) → IsLocked program policy certificate now (more seen) s.fields
+        stays_locked : (s : StaysOwner program policy annotations number seen change) → IsLocked program policy annotations now (more seen) s.fields
         stays_locked s =
             record {
               owner = number;
@@ -222,7 +222,7 @@ module _ (program : Program) (policy : Policy) (certificate : Certificate) (laws
               others = others_after;
             }
 
-        is_given_up : (g : GivesUp program policy certificate seen change) → IsUnlocked program policy certificate now (more seen) g.fields
+        is_given_up : (g : GivesUp program policy annotations seen change) → IsUnlocked program policy annotations now (more seen) g.fields
         is_given_up g =
             record {
               free = g.locks;
@@ -233,10 +233,10 @@ module _ (program : Program) (policy : Policy) (certificate : Certificate) (laws
               threads = clients_after others g.client (rw c.begins tt);
             }
 
-        owner_fits : is_clean now → StaysOwner program policy certificate number seen change ⊎ GivesUp program policy certificate seen change
-            → Fits program policy certificate now (more seen)
+        owner_fits : is_clean now → StaysOwner program policy annotations number seen change ⊎ GivesUp program policy annotations seen change
+            → Fits program policy annotations now (more seen)
         owner_fits clean (inl s) = record { world = clean; fields = s.fields; there = s.variables; lock = inr (stays_locked s) }
         owner_fits clean (inr g) = record { world = clean; fields = g.fields; there = g.variables; lock = inl (is_given_up g) }
 
-        pub owner_keeps : IsKept program policy certificate now (more seen)
+        pub owner_keeps : IsKept program policy annotations now (more seen)
         owner_keeps = record { followed = c.followed; fits = λ goes. let made = c.goes goes in owner_fits made.0 made.1 }

@@ -5,7 +5,7 @@ use Rattle.std.specs.Option.{option_to_list}
 use Rattle.std.proofs.lemmas.Bool.{cases_eq}
 use Rattle.api_listing.specs.declared.events.Event.{Event}
 use Rattle.bytecode_model.specs.declared.program.Program.{Program}
-use Rattle.cert_format.specs.declared.certificate.Certificate.{Certificate}
+use Rattle.block_logic.specs.Annotations.{Annotations}
 use Rattle.conspec_automaton.specs.declared.policy.Policy.{Policy}
 use Rattle.conspec_automaton.specs.Obeys.{IsFollowed}
 use Rattle.guest_heap.specs.declared.thread.Thread.{Thread}
@@ -25,60 +25,60 @@ unless_stopped : {A B : Type 0} (stop : Option A) (o : Option B) (x : B) → con
 unless_stopped None o x e = (refl, e)
 unless_stopped (Some s) o x e = absurd cc
 
-module _ (program : Program) (policy : Policy) (certificate : Certificate) (laws : StepLaws program policy certificate) where
+module _ (program : Program) (policy : Policy) (annotations : Annotations) (laws : StepLaws program policy annotations) where
   -- a step of a thread that is there
-  module _ (machine : Machine) (seen : List Event) (fits : Fits program policy certificate machine seen) (step : Step) (thread : Thread) (change : Change)
+  module _ (machine : Machine) (seen : List Event) (fits : Fits program policy annotations machine seen) (step : Step) (thread : Thread) (change : Change)
       (there : slice_get machine.threads step.thread ≡ Some thread) (made : doing_stepped program machine step.thread thread thread.doing step.choice ≡ Some change) where
     -- what a thread does that does not hold the lock
-    pub moves : IsClient program policy certificate thread → Moves program policy certificate laws machine step.thread change
-    moves client = client_moves program policy certificate laws machine fits.world step.thread thread change thread.doing step.choice client made
+    pub moves : IsClient program policy annotations thread → Moves program policy annotations laws machine step.thread change
+    moves client = client_moves program policy annotations laws machine fits.world step.thread thread change thread.doing step.choice client made
 
     -- It does not take the lock where another thread holds it.
     pub does_not_take : (owner : ℕ) → held_locks program machine.monitors ≡ locked_by program owner → owner ≢ step.thread
-        → Takes program policy certificate laws machine step.thread change → ⊥
+        → Takes program policy annotations laws machine step.thread change → ⊥
     does_not_take owner locked differ t =
         let waits = laws.taking_waits machine t.a t.next t.site owner t.acts t.free locked (λ same. differ (sym same ∙ t.is)) in
         let steps = t.stepped in
         absurd cc
 
     pub client_changes : (owner : ℕ) → held_locks program machine.monitors ≡ locked_by program owner → owner ≢ step.thread
-        → Moves program policy certificate laws machine step.thread change → ChangesClient program policy certificate (world_of machine) change
+        → Moves program policy annotations laws machine step.thread change → ChangesClient program policy annotations (world_of machine) change
     client_changes owner locked differ (inl c) = c
     client_changes owner locked differ (inr t) = absurd (does_not_take owner locked differ t)
 
     abbrev Now : Type 0
-    Now = IsKept program policy certificate (applied step.thread machine change) (seen ++ option_to_list change.event)
+    Now = IsKept program policy annotations (applied step.thread machine change) (seen ++ option_to_list change.event)
 
     module _ (followed : IsFollowed policy seen) where
       -- Nobody held the lock.
-      from_unlocked : (u : IsUnlocked program policy certificate machine seen fits.fields) → Moves program policy certificate laws machine step.thread change → Now
+      from_unlocked : (u : IsUnlocked program policy annotations machine seen fits.fields) → Moves program policy annotations laws machine step.thread change → Now
       from_unlocked u (inl c) =
-          client_keeps program policy certificate laws machine fits.world step.thread thread change there seen c fits.fields followed fits.there
-          (inl (unlocked_after program policy certificate laws machine fits.world step.thread thread change there seen c fits.fields u))
+          client_keeps program policy annotations laws machine fits.world step.thread thread change there seen c fits.fields followed fits.there
+          (inl (unlocked_after program policy annotations laws machine fits.world step.thread thread change there seen c fits.fields u))
       from_unlocked u (inr t) =
           let c = laws.taking_steps machine t.a t.next change t.site seen fits.fields u.state t.acts t.free u.free u.ranged u.led u.variables fits.there t.stepped in
-          owner_keeps program policy certificate laws machine fits.world step.thread thread change there seen
-          (subst (λ (n : ℕ). ChangesOwner program policy certificate n seen change) t.is c) (λ n other differ e. u.threads n other e)
+          owner_keeps program policy annotations laws machine fits.world step.thread thread change there seen
+          (subst (λ (n : ℕ). ChangesOwner program policy annotations n seen change) t.is c) (λ n other differ e. u.threads n other e)
 
       -- One thread held it: the one that steps, or another.
-      from_own : (l : IsLocked program policy certificate machine seen fits.fields) → l.owner ≡ step.thread → Now
+      from_own : (l : IsLocked program policy annotations machine seen fits.fields) → l.owner ≡ step.thread → Now
       from_own l same =
           let at_step : slice_get machine.threads step.thread ≡ Some l.thread = rw same at l.there in
           let is : l.thread ≡ thread = some_is l.thread thread (sym at_step ∙ there) in
           let locked : held_locks program machine.monitors ≡ locked_by program step.thread = rw same at l.locked in
-          let owner : IsOwner program policy certificate seen fits.fields thread = subst (IsOwner program policy certificate seen fits.fields) is l.owns in
-          owner_keeps program policy certificate laws machine fits.world step.thread thread change there seen
-          (owner_moves program policy certificate laws machine fits.world step.thread thread change thread.doing step.choice seen fits.fields owner locked fits.there made)
+          let owner : IsOwner program policy annotations seen fits.fields thread = subst (IsOwner program policy annotations seen fits.fields) is l.owns in
+          owner_keeps program policy annotations laws machine fits.world step.thread thread change there seen
+          (owner_moves program policy annotations laws machine fits.world step.thread thread change thread.doing step.choice seen fits.fields owner locked fits.there made)
           (λ n other differ e. l.others n other (λ number. differ (number ∙ same)) e)
 
-      from_other : (l : IsLocked program policy certificate machine seen fits.fields) → l.owner ≢ step.thread → Now
+      from_other : (l : IsLocked program policy annotations machine seen fits.fields) → l.owner ≢ step.thread → Now
       from_other l differ =
           let client = l.others step.thread thread (λ number. differ (sym number)) there in
           let c = client_changes l.owner l.locked differ (moves client) in
-          client_keeps program policy certificate laws machine fits.world step.thread thread change there seen c fits.fields followed fits.there
-          (inr (locked_after program policy certificate laws machine fits.world step.thread thread change there seen c fits.fields l differ))
+          client_keeps program policy annotations laws machine fits.world step.thread thread change there seen c fits.fields followed fits.there
+          (inr (locked_after program policy annotations laws machine fits.world step.thread thread change there seen c fits.fields l differ))
 
-      keeps : IsUnlocked program policy certificate machine seen fits.fields ⊎ IsLocked program policy certificate machine seen fits.fields → Now
+      keeps : IsUnlocked program policy annotations machine seen fits.fields ⊎ IsLocked program policy annotations machine seen fits.fields → Now
       keeps (inl u) = from_unlocked u (moves (u.threads step.thread thread there))
       keeps (inr l) =
           elim (cases_eq l.owner step.thread) [
@@ -99,14 +99,14 @@ module _ (program : Program) (policy : Policy) (certificate : Certificate) (laws
       let t = and_then_of (λ (t : Thread). doing_stepped program machine step.thread t t.doing step.choice) (slice_get machine.threads step.thread) change go.1 in
       record { goes = go.0; thread = t.0; there = t.1; made = t.2 }
 
-  pub change_keeps : EachChangeKeeps program (IsKept program policy certificate)
+  pub change_keeps : EachChangeKeeps program (IsKept program policy annotations)
   change_keeps machine seen step change kept e =
       let m = is_made machine step change e in
       let fits = kept.fits m.goes in
       keeps machine seen fits step m.thread change m.there m.made kept.followed fits.lock
 
   -- After every list of steps the events obey, and the machine is as the notes say.
-  pub always_kept : StartsWell program policy certificate → (steps : List Step) → IsKept program policy certificate (exec program steps) (trace program steps)
+  pub always_kept : StartsWell program policy annotations → (steps : List Step) → IsKept program policy annotations (exec program steps) (trace program steps)
   always_kept starts steps =
-      let first : IsKept program policy certificate (start_of program) [] = record { followed = inl refl; fits = λ goes. starts } in
-      holds_always program (IsKept program policy certificate) first change_keeps steps
+      let first : IsKept program policy annotations (start_of program) [] = record { followed = inl refl; fits = λ goes. starts } in
+      holds_always program (IsKept program policy annotations) first change_keeps steps

@@ -11,8 +11,8 @@ use Rattle.insn_codec.specs.Shapes.{shape_of}
 use Rattle.bytecode_model.specs.declared.program.Method.{Method}
 use Rattle.bytecode_model.specs.declared.program.Program.{Program}
 use Rattle.bytecode_model.specs.declared.program.Target.{Target}
-use Rattle.cert_format.specs.declared.certificate.Certificate.{Certificate}
-use Rattle.cert_format.specs.declared.certificate.Mode.{Mode}
+use Rattle.block_logic.specs.declared.held_calls.HeldCalls.{HeldCalls}
+use Rattle.block_logic.specs.Annotations.{Annotations, holds_round}
 use Rattle.cert_format.specs.declared.note.Note.{Note}
 use Rattle.cert_format.specs.declared.note.Note.TheVariants as notes
 use Rattle.cert_format.specs.declared.note.Phase8.TheVariants.{Before}
@@ -23,14 +23,14 @@ use Rattle.conspec_tree.specs.declared.types.Rel.{Rel}
 use Rattle.conspec_automaton.specs.declared.policy.Clause.{Clause}
 use Rattle.conspec_automaton.specs.declared.policy.Policy.{Policy}
 use Rattle.conspec_automaton.specs.Next.{has_clauses}
-use Rattle.block_logic.specs.Accepted.{IsAccepted, rules_of}
+use Rattle.block_logic.specs.Accepted.{AreAccepted, rules_of}
 use Rattle.block_logic.specs.Clauses.{clause_at, clause_of}
 use Rattle.block_logic.specs.Meaning.{note_at}
 use Rattle.block_logic.specs.Notes.{Here, handlers_of, handlers_pass, meets, next_pass, note_passes}
 use Rattle.block_logic.specs.Operands.{adds, compared, enters, goes, leaves, pushes_state, variable_named, writes_static}
 use Rattle.block_logic.specs.Outside.{ErrorsLeaveBlocks, IsOutside, LeavesBlocks, StandsOutside, is_granted_call}
 use Rattle.block_logic.specs.Rows.{Asked, Check, Given, Open, Row, Rules, Taking, adding_row, all_hold, asks_atom, begins_owed, calls_of, check_row, comparing_row, failing, first_row, free_row, gives, granted_row, held_row, holding_on, is_negation, is_on_way, is_relation, last_term, leads, leaves_done, left, next_atom, note_taken, only_if, owed_row, pushing_row, row, sum_on_top, term_pushed, tested, tests, with_terms, without, writes, writing_row}
-use Rattle.block_logic.specs.Standing.{is_hold, is_open, needs_no_grant}
+use Rattle.block_logic.specs.Standing.{is_open, needs_no_grant}
 use Rattle.block_logic.proofs.Owner.GrantedRows.{granted_cases}
 use Rattle.block_logic.proofs.Tests.{it_is_there, not_there, passed_by}
 use Rattle.block_logic.proofs.Told.{IsIn, here_at, is_in, is_reached, notes_of, rules_hold_at, told_in_method}
@@ -167,55 +167,55 @@ row_out rules (notes.Stop site place) shape ref other =
 
 -- ---- an open note
 
-open_outside : (mode : Mode) (policy : Policy) (note : Note) → is_open mode policy note ≡ true → IsOutside policy note
-open_outside mode policy notes.Free e = tt
-open_outside mode policy (notes.Taking site) e = absurd cc
-open_outside mode policy (notes.Held site failed holding list map) e = absurd cc
-open_outside mode policy (notes.Granted site locked count top) e =
-    let parts = and_parts (needs_no_grant mode policy site) (not locked && ((count == 0) && not top)) e in
+open_outside : (held : HeldCalls) (policy : Policy) (note : Note) → is_open held policy note ≡ true → IsOutside policy note
+open_outside held policy notes.Free e = tt
+open_outside held policy (notes.Taking site) e = absurd cc
+open_outside held policy (notes.Held site failed holding list map) e = absurd cc
+open_outside held policy (notes.Granted site locked count top) e =
+    let parts = and_parts (needs_no_grant held policy site) (not locked && ((count == 0) && not top)) e in
     let left = and_parts (not locked) ((count == 0) && not top) parts.1 in
-    let asked = and_parts (not (is_hold mode)) (has_clauses policy site.method && not (is_some (clause_at policy site.method Before))) parts.0 in
+    let asked = and_parts (not (holds_round held site.method)) (has_clauses policy site.method && not (is_some (clause_at policy site.method Before))) parts.0 in
     let none = and_parts (has_clauses policy site.method) (not (is_some (clause_at policy site.method Before))) asked.1 in
     (not-true locked left.0, not_there (clause_at policy site.method Before) none.1)
-open_outside mode policy (notes.Owed site stage kept top) e = absurd cc
-open_outside mode policy (notes.Stop site place) e = absurd cc
+open_outside held policy (notes.Owed site stage kept top) e = absurd cc
+open_outside held policy (notes.Stop site place) e = absurd cc
 
 -- ---- an instruction of an accepted program
 
-module _ (program : Program) (policy : Policy) (certificate : Certificate) (accepted : IsAccepted program policy certificate) where
+module _ (program : Program) (policy : Policy) (annotations : Annotations) (accepted : AreAccepted program policy annotations) where
   abbrev rules : Rules
-  rules = rules_of program policy certificate
+  rules = rules_of program policy annotations
 
-  module _ (class method at : ℕ) (next : Insn × Target) (i : IsIn program policy certificate class method at next) where
+  module _ (class method at : ℕ) (next : Insn × Target) (i : IsIn program policy annotations class method at next) where
     abbrev told : List Note
-    told = notes_of program policy certificate i.c class method
+    told = notes_of program policy annotations i.c class method
 
     abbrev test : ℕ → Bool
     test = note_passes (meets rules) told Open
 
     -- where the notes of these instructions are open, they stand out of each block
-    stand_outside : (places : List ℕ) → list_all test places ≡ true → AllByRecursion (StandsOutside program policy certificate class method) places
+    stand_outside : (places : List ℕ) → list_all test places ≡ true → AllByRecursion (StandsOutside program policy annotations class method) places
     stand_outside [] all = tt
     stand_outside (to ∷ places) all =
         let both = and_parts (test to) (list_all test places) all in
-        let found = passed_by (is_open certificate.mode policy) (slice_get told to) both.0 in (
+        let found = passed_by (is_open annotations.held policy) (slice_get told to) both.0 in (
           record {
             note = found.0;
-            told = told_in_method program policy certificate class method at next i to ∙ found.1;
-            outside = open_outside certificate.mode policy found.0 found.2;
+            told = told_in_method program policy annotations class method at next i to ∙ found.1;
+            outside = open_outside annotations.held policy found.0 found.2;
           },
           stand_outside places both.1,
         )
 
-    handlers_outside : (note : Note) → note_at program certificate class method at ≡ Some note → is_granted_call note (shape_of next.0) next.1 ≡ false
-        → AllByRecursion (StandsOutside program policy certificate class method) (handlers_of at i.m.handlers)
+    handlers_outside : (note : Note) → note_at program annotations class method at ≡ Some note → is_granted_call note (shape_of next.0) next.1 ≡ false
+        → AllByRecursion (StandsOutside program policy annotations class method) (handlers_of at i.m.handlers)
     handlers_outside note e other =
-        let here : Here = here_at program policy certificate at next in
+        let here : Here = here_at program policy annotations at next in
         let its_row : Option Row = row rules note (shape_of next.0) next.1 in
-        let r = is_reached program policy certificate class method at note e in
-        let there : slice_get told at ≡ Some note = sym (told_in_method program policy certificate class method at next i at) ∙ r.1 in
-        let hold = rules_hold_at program policy certificate class method at next i note r.0 (accepted.noted class method at) there in
-        let begins : Bool = not (at == 0) || is_open certificate.mode policy note in
+        let r = is_reached program policy annotations class method at note e in
+        let there : slice_get told at ≡ Some note = sym (told_in_method program policy annotations class method at next i at) ∙ r.1 in
+        let hold = rules_hold_at program policy annotations class method at next i note r.0 (accepted.noted class method at) there in
+        let begins : Bool = not (at == 0) || is_open annotations.held policy note in
         let nexts : Bool = next_pass (meets rules) told its_row here in
         let handlers : Bool = handlers_pass (meets rules) told its_row i.m here in
         let whole = and_parts (is_some its_row) ((nexts && handlers) && begins) hold.1.1.1.1.1.1.1.0 in
@@ -225,12 +225,12 @@ module _ (program : Program) (policy : Policy) (certificate : Certificate) (acce
         let passes : list_all (note_passes (meets rules) told has.0.thrown) (handlers_of at i.m.handlers) ≡ true = rw has.1 at both.1 in
         stand_outside (handlers_of at i.m.handlers) (subst (λ (asked : Asked). list_all (note_passes (meets rules) told asked) (handlers_of at i.m.handlers) ≡ true) out passes)
 
-  leaves_blocks : LeavesBlocks program policy certificate
+  leaves_blocks : LeavesBlocks program policy annotations
   leaves_blocks class method at insn ref note there e other =
-      let i = is_in program policy certificate class method at there.of (insn, ref) there.there there.is in
+      let i = is_in program policy annotations class method at there.of (insn, ref) there.there there.is in
       let same : i.m ≡ there.of = same_Some i.m there.of (sym i.method_there ∙ there.there) in
-      subst (λ (m : Method). AllByRecursion (StandsOutside program policy certificate class method) (handlers_of at m.handlers)) same
+      subst (λ (m : Method). AllByRecursion (StandsOutside program policy annotations class method) (handlers_of at m.handlers)) same
       (handlers_outside class method at (insn, ref) i note e other)
 
 pub errors_leave_blocks : ErrorsLeaveBlocks
-errors_leave_blocks program policy certificate accepted = leaves_blocks program policy certificate accepted
+errors_leave_blocks program policy annotations accepted = leaves_blocks program policy annotations accepted

@@ -7,7 +7,7 @@ use Rattle.std.proofs.lemmas.Bool.{and_parts, cases_Bool}
 use Rattle.api_listing.specs.declared.events.Event.{Event}
 use Rattle.api_listing.specs.declared.events.Event.TheVariants as events
 use Rattle.bytecode_model.specs.declared.program.Program.{Program}
-use Rattle.cert_format.specs.declared.certificate.Certificate.{Certificate}
+use Rattle.block_logic.specs.Annotations.{Annotations, annotations_of, held_in}
 use Rattle.cert_format.specs.declared.certificate.Mode.{Mode}
 use Rattle.cert_format.specs.declared.certificate.Mode.TheVariants as modes
 use Rattle.conspec_automaton.specs.declared.policy.Policy.{Policy}
@@ -24,7 +24,7 @@ use Rattle.guest_model.specs.Runs.{exec, seen, trace}
 use Rattle.guest_model.specs.Stepping.{changed}
 use Rattle.guest_model.proofs.Options.{some_is}
 use Rattle.block_logic.specs.Fitting.{Fits, IsKept, IsLocked, IsUnlocked, held_locks, locked_by}
-use Rattle.block_logic.specs.Meaning.{Promised}
+use Rattle.block_logic.specs.Meaning.{IsJudged}
 use Rattle.block_logic.specs.Obeying.{AcceptedObeys, IsObeying, LockOrders}
 use Rattle.block_logic.proofs.Composing.{StepLaws}
 use Rattle.block_logic.proofs.Keeping.{IsMade, always_kept, client_changes, is_made, moves}
@@ -80,9 +80,9 @@ all_accepted policy seen denies (inr (before, last, is, returned, led)) =
     let calls = no_return policy last denies (last_passes (has_clause policy) seen before last is) in
     absurd cc
 
-obeyed : (mode : Mode) (policy : Policy) (seen : List Event) → Promised mode policy → IsFollowed policy seen → Obeys mode policy seen
-obeyed modes.Hold policy seen promised followed = followed
-obeyed modes.Release policy seen (inl held) followed = absurd cc
+obeyed : (mode : Mode) (policy : Policy) (seen : List Event) → IsJudged (held_in mode) policy → IsFollowed policy seen → Obeys mode policy seen
+obeyed modes.Hold policy seen judged followed = followed
+obeyed modes.Release policy seen (inl held) followed = let no : false ≡ true = held 0 in absurd cc
 obeyed modes.Release policy seen (inr denies) followed = all_accepted policy seen denies followed
 
 -- ---- the lock
@@ -94,7 +94,7 @@ one_owner program number other e = ap owner_in e where
   owner_in [] = 0
   owner_in (m ∷ others) = m.owner
 
-module _ (program : Program) (policy : Policy) (certificate : Certificate) (laws : StepLaws program policy certificate) where
+module _ (program : Program) (policy : Policy) (annotations : Annotations) (laws : StepLaws program policy annotations) where
   abbrev IsUnseen : List Event → Type 0
   IsUnseen events = AllByRecursion (λ (e : Event). has_clause policy e ≡ false) events
 
@@ -104,39 +104,40 @@ module _ (program : Program) (policy : Policy) (certificate : Certificate) (laws
 
   -- A step of another thread than the one that holds the lock.
   module _ (machine : Machine) (events : List Event) (step : Step) (owner : ℕ) (locked : held_locks program machine.monitors ≡ locked_by program owner) (differ : step.thread ≢ owner) where
-    unlocked_not : (fields : List Value) → IsUnlocked program policy certificate machine events fields → ⊥
+    unlocked_not : (fields : List Value) → IsUnlocked program policy annotations machine events fields → ⊥
     unlocked_not fields u = let free = u.free in absurd cc
 
-    other_changes : (change : Change) (m : IsMade program policy certificate laws machine step change) (fits : Fits program policy certificate machine events)
-        → IsUnlocked program policy certificate machine events fits.fields ⊎ IsLocked program policy certificate machine events fits.fields
-        → ChangesClient program policy certificate (world_of machine) change
+    other_changes : (change : Change) (m : IsMade program policy annotations laws machine step change) (fits : Fits program policy annotations machine events)
+        → IsUnlocked program policy annotations machine events fits.fields ⊎ IsLocked program policy annotations machine events fits.fields
+        → ChangesClient program policy annotations (world_of machine) change
     other_changes change m fits (inl u) = absurd (unlocked_not fits.fields u)
     other_changes change m fits (inr l) =
         let same : l.owner ≡ owner = one_owner program l.owner owner (sym l.locked ∙ locked) in
         let client = l.others step.thread m.thread (λ number. differ (number ∙ same)) m.there in
-        client_changes program policy certificate laws machine events fits step m.thread change m.there m.made owner locked (λ number. differ (sym number))
-        (moves program policy certificate laws machine events fits step m.thread change m.there m.made client)
+        client_changes program policy annotations laws machine events fits step m.thread change m.there m.made owner locked (λ number. differ (sym number))
+        (moves program policy annotations laws machine events fits step m.thread change m.there m.made client)
 
-    unseen : (kept : IsKept program policy certificate machine events) (change : Option Change) → changed program machine step ≡ change
+    unseen : (kept : IsKept program policy annotations machine events) (change : Option Change) → changed program machine step ≡ change
         → IsUnseen (option_map_or (λ (made : Machine × Option Event). option_to_list made.1) (option_map (λ (c : Change). (applied step.thread machine c, c.event)) change) [])
     unseen kept None e = tt
     unseen kept (Some change) e =
-        let m = is_made program policy certificate laws machine step change e in
+        let m = is_made program policy annotations laws machine step change e in
         let fits = kept.fits m.goes in
         unseen_one change.event (other_changes change m fits fits.lock).event
 
 -- what is proved of steps, and of the start
 pub record Proved : Type 0 where
-  pub steps : (program : Program) (policy : Policy) (certificate : Certificate) → IsObeying program policy certificate → StepLaws program policy certificate
-  pub starts : (program : Program) (policy : Policy) (certificate : Certificate) → IsObeying program policy certificate → StartsWell program policy certificate
+  pub steps : (program : Program) (policy : Policy) (annotations : Annotations) → IsObeying program policy annotations → StepLaws program policy annotations
+  pub starts : (program : Program) (policy : Policy) (annotations : Annotations) → IsObeying program policy annotations → StartsWell program policy annotations
 
 pub accepted_obeys : Proved → AcceptedObeys
 accepted_obeys proved program policy certificate o steps =
-    obeyed certificate.mode policy (trace program steps) o.promised
-    (always_kept program policy certificate (proved.steps program policy certificate o) (proved.starts program policy certificate o) steps).followed
+    let annotations = annotations_of certificate in
+    obeyed certificate.mode policy (trace program steps) o.judged
+    (always_kept program policy annotations (proved.steps program policy annotations o) (proved.starts program policy annotations o) steps).followed
 
 pub lock_orders : Proved → LockOrders
-lock_orders proved program policy certificate o steps owner step locked differ =
-    let laws = proved.steps program policy certificate o in
-    unseen program policy certificate laws (exec program steps) (trace program steps) step owner locked differ
-    (always_kept program policy certificate laws (proved.starts program policy certificate o) steps) (changed program (exec program steps) step) refl
+lock_orders proved program policy annotations o steps owner step locked differ =
+    let laws = proved.steps program policy annotations o in
+    unseen program policy annotations laws (exec program steps) (trace program steps) step owner locked differ
+    (always_kept program policy annotations laws (proved.starts program policy annotations o) steps) (changed program (exec program steps) step) refl

@@ -12,7 +12,7 @@ use Rattle.bytecode_model.specs.declared.program.Program.{Program}
 use Rattle.bytecode_model.specs.declared.program.Target.{Target}
 use Rattle.bytecode_model.specs.declared.program.Target.TheVariants as target
 use Rattle.bytecode_model.specs.SearchOrder.{Name}
-use Rattle.cert_format.specs.declared.certificate.Certificate.{Certificate}
+use Rattle.block_logic.specs.Annotations.{Annotations}
 use Rattle.cert_format.specs.declared.note.Note.{Note}
 use Rattle.cert_format.specs.declared.note.Note.TheVariants as notes
 use Rattle.conspec_automaton.specs.declared.policy.Policy.{Policy}
@@ -26,14 +26,14 @@ use Rattle.block_logic.specs.Operands.{calls, has_clause, is_way_out, variable_n
 use Rattle.block_logic.specs.Rows.{Asked, Row, Rules, is_duty, row}
 use Rattle.block_logic.specs.Standing.{is_open}
 
-module _ (program : Program) (policy : Policy) (certificate : Certificate) where
+module _ (program : Program) (policy : Policy) (annotations : Annotations) where
   abbrev pub rules : Rules
-  rules = rules_of program policy certificate
+  rules = rules_of program policy annotations
 
   -- The instruction of this index has a note, which is as it is asked to be.
   pub record LeadsTo (frame : Frame) (to : ℕ) (asked : Asked) : Type 0 where
     pub note : Note
-    pub told : note_at program certificate frame.class frame.method to ≡ Some note
+    pub told : note_at program annotations frame.class frame.method to ≡ Some note
     pub meets : meets rules asked note ≡ true
 
   pub record IsRuled (frame : Frame) (next : Insn × Target) (note : Note) : Type 0 where
@@ -60,14 +60,14 @@ module _ (program : Program) (policy : Policy) (certificate : Certificate) where
 
   -- Wherever a frame stands at an instruction that is reached and has a note, the rules hold.
   abbrev pub RulesHold : Type 0
-  RulesHold = (frame : Frame) (next : Insn × Target) (note : Note) → insn_at program frame ≡ Some next → note_of program certificate frame ≡ Some note
+  RulesHold = (frame : Frame) (next : Insn × Target) (note : Note) → insn_at program frame ≡ Some next → note_of program annotations frame ≡ Some note
       → IsRuled frame next note
 
   -- Each method with code begins in no block.
   abbrev pub BeginsOpen : Type 0
   BeginsOpen = (class method : ℕ) (of : Method) → method_at program class method ≡ Some of → 0 < length of.insns
-      → (note_at program certificate class method 0 ≡ Some notes.Free)
+      → (note_at program annotations class method 0 ≡ Some notes.Free)
 
   -- To be in no block is to be in the client's code, where the lock is held round calls, or calls are denied.
   abbrev pub OpenIsFree : Type 0
-  OpenIsFree = (note : Note) → is_open certificate.mode policy note ≡ true → note ≡ notes.Free
+  OpenIsFree = (note : Note) → is_open annotations.held policy note ≡ true → note ≡ notes.Free

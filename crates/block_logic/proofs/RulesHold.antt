@@ -23,8 +23,8 @@ use Rattle.bytecode_model.specs.Rules.{Caught, Depth, Entry, Frames, Local, Made
 use Rattle.bytecode_model.specs.SearchOrder.{Name}
 use Rattle.bytecode_model.specs.Sound.{IsSoundClass, IsSoundMethod}
 use Rattle.bytecode_model.specs.Typed.{frames_in, frames_told, place_at, reached, row_fault}
-use Rattle.cert_format.specs.declared.certificate.Certificate.{Certificate}
-use Rattle.cert_format.specs.declared.certificate.Mode.{Mode}
+use Rattle.block_logic.specs.declared.held_calls.HeldCalls.{HeldCalls}
+use Rattle.block_logic.specs.Annotations.{Annotations, holds_round}
 use Rattle.cert_format.specs.declared.note.Note.{Note}
 use Rattle.cert_format.specs.declared.note.Note.TheVariants as notes
 use Rattle.cert_format.specs.declared.note.Phase8.TheVariants.{Before}
@@ -41,12 +41,12 @@ use Rattle.guest_model.specs.Throwing.{catches, handler_of}
 use Rattle.guest_model.proofs.Catching.{caught_at}
 use Rattle.guest_model.proofs.Options.{all_get, and_then_of, find_is}
 use Rattle.block_logic.specs.Clauses.{clause_at, is_of_phase}
-use Rattle.block_logic.specs.Meaning.{Promised, note_at}
+use Rattle.block_logic.specs.Meaning.{IsJudged, note_at}
 use Rattle.block_logic.specs.Notes.{Here, all_pass, catches_all, first_handler, handlers_of, handlers_pass, is_asked_taking, is_duty_of, is_free, is_granted, is_owed_for_throw, is_stop, jump_of, meets, next_pass, note_passes, past_of, rules_at, thrown_by, told_fault}
 use Rattle.block_logic.specs.Obeying.{IsObeying}
 use Rattle.block_logic.specs.Operands.{calls, has_clause, is_way_out, pushes_state, variable_named}
 use Rattle.block_logic.specs.Rows.{Asked, Row, Rules, is_duty, row}
-use Rattle.block_logic.specs.Standing.{is_hold, is_open, needs_no_grant}
+use Rattle.block_logic.specs.Standing.{is_open, needs_no_grant}
 use Rattle.block_logic.proofs.Handling.{catching_covers, first_takes, taking_passes}
 use Rattle.block_logic.proofs.Ruled.{BeginsOpen, LeadsTo, OpenIsFree, RulesHold, rules}
 use Rattle.block_logic.proofs.Tests.{all_passed, chosen, get_within, if_so, it_is_there, not_chosen, not_there, passed_by}
@@ -94,85 +94,85 @@ denied_before method (c ∷ clauses) all e =
       | inr fails ↦ rw fails (denied_before method clauses all.1 (rw fails at e))
     ]
 
-module _ (program : Program) (policy : Policy) (certificate : Certificate) (o : IsObeying program policy certificate) where
+module _ (program : Program) (policy : Policy) (annotations : Annotations) (o : IsObeying program policy annotations) where
   abbrev the_rules : Rules
-  the_rules = rules program policy certificate
+  the_rules = rules program policy annotations
 
   abbrev is_told : ℕ → ℕ → ℕ → Note → Type 0
-  is_told class method at note = note_at program certificate class method at ≡ Some note
+  is_told class method at note = note_at program annotations class method at ≡ Some note
 
   -- ---- no block
 
-  grant_needed : (mode : Mode) (site : Site) → Promised mode policy → needs_no_grant mode policy site ≡ true → ⊥
-  grant_needed mode site (inl hold) e = let held : is_hold mode ≡ true = rw hold refl in absurd cc
-  grant_needed mode site (inr denies) e =
-      let parts = and_parts (not (is_hold mode)) (has_clauses policy site.method && not (is_some (clause_at policy site.method Before))) e in
+  grant_needed : (held : HeldCalls) (site : Site) → IsJudged held policy → needs_no_grant held policy site ≡ true → ⊥
+  grant_needed held site (inl all) e = let is : holds_round held site.method ≡ true = all site.method in absurd cc
+  grant_needed held site (inr denies) e =
+      let parts = and_parts (not (holds_round held site.method)) (has_clauses policy site.method && not (is_some (clause_at policy site.method Before))) e in
       let both = and_parts (has_clauses policy site.method) (not (is_some (clause_at policy site.method Before))) parts.1 in
       let before = denied_before site.method policy.clauses denies.clauses both.0 in
       absurd cc
 
-  pub open_is_free : OpenIsFree program policy certificate
+  pub open_is_free : OpenIsFree program policy annotations
   open_is_free notes.Free e = refl
   open_is_free (notes.Taking site) e = absurd cc
   open_is_free (notes.Held site failed holding terms map) e = absurd cc
   open_is_free (notes.Granted site locked loaded top) e =
-      absurd (grant_needed certificate.mode site o.promised
-      ((and_parts (needs_no_grant certificate.mode policy site) (not locked && ((loaded == 0) && not top)) e).0))
+      absurd (grant_needed annotations.held site o.judged
+      ((and_parts (needs_no_grant annotations.held policy site) (not locked && ((loaded == 0) && not top)) e).0))
   open_is_free (notes.Owed site stage kept top) e = absurd cc
   open_is_free (notes.Stop site place) e = absurd cc
 
   -- ---- an instruction with a note
 
   record IsNoted (class method at : ℕ) (next : Insn × Target) (note : Note) : Type 0 where
-    pub i : IsIn program policy certificate class method at next
-    pub reaches : reached program certificate.typing class method at ≡ true
-    pub told : slice_get (notes_of program policy certificate i.c class method) at ≡ Some note
+    pub i : IsIn program policy annotations class method at next
+    pub reaches : reached program annotations.typing class method at ≡ true
+    pub told : slice_get (notes_of program policy annotations i.c class method) at ≡ Some note
     -- the rules in their order
     pub hold : AllByRecursion (λ (rule : ℕ × Bool). rule.1 ≡ true)
-        (rules_at the_rules (notes_of program policy certificate i.c class method) i.m note (here_at program policy certificate at next) (row the_rules note (shape_of next.0) next.1))
+        (rules_at the_rules (notes_of program policy annotations i.c class method) i.m note (here_at program policy annotations at next) (row the_rules note (shape_of next.0) next.1))
 
   is_noted : (class method at : ℕ) (m : Method) (next : Insn × Target) (note : Note) → method_at program class method ≡ Some m → insn_in m at ≡ Some next
       → is_told class method at note → IsNoted class method at next note
   is_noted class method at m next note there is told =
-      let i = is_in program policy certificate class method at m next there is in
-      let r = is_reached program policy certificate class method at note told in
-      let n : slice_get (notes_of program policy certificate i.c class method) at ≡ Some note = sym (told_in_method program policy certificate class method at next i at) ∙ r.1 in
+      let i = is_in program policy annotations class method at m next there is in
+      let r = is_reached program policy annotations class method at note told in
+      let n : slice_get (notes_of program policy annotations i.c class method) at ≡ Some note = sym (told_in_method program policy annotations class method at next i at) ∙ r.1 in
       record {
         i = i;
         reaches = r.0;
         told = n;
-        hold = rules_hold_at program policy certificate class method at next i note r.0 (o.accepted.noted class method at) n;
+        hold = rules_hold_at program policy annotations class method at next i note r.0 (o.accepted.noted class method at) n;
       }
 
   module _ (frame : Frame) (next : Insn × Target) (note : Note) (n : IsNoted frame.class frame.method frame.at next note) where
     abbrev told : List Note
-    told = notes_of program policy certificate n.i.c frame.class frame.method
+    told = notes_of program policy annotations n.i.c frame.class frame.method
 
     abbrev here : Here
-    here = here_at program policy certificate frame.at next
+    here = here_at program policy annotations frame.at next
 
     abbrev its_row : Option Row
     its_row = row the_rules note (shape_of next.0) next.1
 
     abbrev Leads : ℕ → Asked → Type 0
-    Leads to asked = LeadsTo program policy certificate frame to asked
+    Leads to asked = LeadsTo program policy annotations frame to asked
 
     -- an instruction that is reached, and whose note is tested
-    leads : (to : ℕ) (asked : Asked) → reached program certificate.typing frame.class frame.method to ≡ true
+    leads : (to : ℕ) (asked : Asked) → reached program annotations.typing frame.class frame.method to ≡ true
         → note_passes (meets the_rules) told asked to ≡ true → Leads to asked
     leads to asked reaches passes =
         let p = passed_by (meets the_rules asked) (slice_get told to) passes in
         record {
           note = p.0;
-          told = note_there program policy certificate frame.class frame.method to p.0 reaches
-              (told_in_method program policy certificate frame.class frame.method frame.at next n.i to ∙ p.1);
+          told = note_there program policy annotations frame.class frame.method to p.0 reaches
+              (told_in_method program policy annotations frame.class frame.method frame.at next n.i to ∙ p.1);
           meets = p.2;
         }
 
     here_is : IsAt program frame.class frame.method frame.at next.0 next.1
     here_is = record { of = n.i.m; there = n.i.method_there; is = rw (n.i.insn_there, n.i.ref_there) refl }
 
-    goes_to : (to : ℕ) → Contains (successors frame.at next.0) to → reached program certificate.typing frame.class frame.method to ≡ true
+    goes_to : (to : ℕ) → Contains (successors frame.at next.0) to → reached program annotations.typing frame.class frame.method to ≡ true
     goes_to to among = o.closed.next frame.class frame.method frame.at next.0 next.1 n.reaches here_is to among
 
     -- ---- what comes next
@@ -186,7 +186,7 @@ module _ (program : Program) (policy : Policy) (certificate : Certificate) (o : 
     -- the last rule: there is a row, and the next instructions and the handlers are as it has them
     last_rule : (is_some its_row ≡ true) × (next_passes ≡ true) × (handlers_agree ≡ true)
     last_rule =
-        let begins = not (frame.at == 0) || is_open the_rules.mode the_rules.policy note in
+        let begins = not (frame.at == 0) || is_open the_rules.held the_rules.policy note in
         let whole = and_parts (is_some its_row) ((next_passes && handlers_agree) && begins) n.hold.1.1.1.1.1.1.1.0 in
         let both = and_parts next_passes handlers_agree ((and_parts (next_passes && handlers_agree) begins whole.1).0) in
         (whole.0, both.0, both.1)
@@ -219,7 +219,7 @@ module _ (program : Program) (policy : Policy) (certificate : Certificate) (o : 
       pub found : find (catches program frame.at class) n.i.m.handlers ≡ Some handler
       pub among : Contains n.i.m.handlers handler
       pub covers : covers frame.at handler ≡ true
-      pub reaches : reached program certificate.typing frame.class frame.method handler.at ≡ true
+      pub reaches : reached program annotations.typing frame.class frame.method handler.at ≡ true
 
     takes : (class : Name) (handler : Handler) → handler_of program frame class ≡ Some handler → Takes class handler
     takes class handler e =
@@ -242,21 +242,21 @@ module _ (program : Program) (policy : Policy) (certificate : Certificate) (o : 
     -- ---- room for what is caught
 
     abbrev frames : Frames
-    frames = frames_in n.i.c.methods (frames_told certificate.typing frame.class) frame.method
+    frames = frames_in n.i.c.methods (frames_told annotations.typing frame.class) frame.method
 
     abbrev place : InsnPlace
     place = place_at program frame.class n.i.c n.i.m frame.at next.0
 
     row_typed : (f : FrameType) → frame_of frames frame.at ≡ Some f → Caught frames place f ≡ true
     row_typed f e =
-        let same : row_fault program certificate.typing frame.class frame.method frame.at ≡ row_failing frames place (frame_of frames frame.at) =
+        let same : row_fault program annotations.typing frame.class frame.method frame.at ≡ row_failing frames place (frame_of frames frame.at) =
         rw (n.i.class_there, n.i.in_class, n.i.insn_there) refl in
         caught_well frames place f (ap (row_failing frames place) (sym e) ∙ sym same ∙ o.accepted.typed frame.class frame.method frame.at)
 
     room_for : (class : Name) (handler : Handler) → handler_of program frame class ≡ Some handler → 0 < n.i.m.max_stack
     room_for class handler e =
         let t = takes class handler e in
-        let f = it_is_there (frame_of frames frame.at) (has_frame program policy certificate frame.class frame.method frame.at next n.i n.reaches) in
+        let f = it_is_there (frame_of frames frame.at) (has_frame program policy annotations frame.class frame.method frame.at next n.i n.reaches) in
         let handled = all_passed (is_handled frames place f.0) n.i.m.handlers handler (row_typed f.0 f.1) t.among in
         let caught = is_below program (class_caught handler) throwable && option_map_or (catches_frame place f.0 handler) (frame_of frames handler.at) false in
         let room = if_so (covers frame.at handler) (nat_le 1 n.i.m.max_stack && caught) handled t.covers in
@@ -297,7 +297,7 @@ module _ (program : Program) (policy : Policy) (certificate : Certificate) (o : 
         let taken = first_takes program frame.at class n.i.m.handlers first.0 first.1 any in
         (taken.0, rw n.i.method_there taken.1)
 
-  pub rules_hold : RulesHold program policy certificate
+  pub rules_hold : RulesHold program policy annotations
   rules_hold frame next note e is_told =
       let m = and_then_of (λ (m : Method). insn_in m frame.at) (method_at program frame.class frame.method) next e in
       let n = is_noted frame.class frame.method frame.at m.0 next note m.1 m.2 is_told in
@@ -329,25 +329,25 @@ module _ (program : Program) (policy : Policy) (certificate : Certificate) (o : 
       let ref = get_within of.refs 0 (omega (arith, well.refs, some)) in
       ((insn.0, ref.0), rw (insn.1, ref.1) refl)
 
-  note_begins : (class method : ℕ) (next : Insn × Target) (i : IsIn program policy certificate class method 0 next) → reached program certificate.typing class method 0 ≡ true
-      → (note : Note) × (note_at program certificate class method 0 ≡ Some note)
+  note_begins : (class method : ℕ) (next : Insn × Target) (i : IsIn program policy annotations class method 0 next) → reached program annotations.typing class method 0 ≡ true
+      → (note : Note) × (note_at program annotations class method 0 ≡ Some note)
   note_begins class method next i reaches =
-      let told : List Note = notes_of program policy certificate i.c class method in
-      let there = is_told_there the_rules told i.m (here_at program policy certificate 0 next) (slice_get told 0)
-      (fault_free program policy certificate class method 0 next i reaches (o.accepted.noted class method 0)) in
-      (there.0, note_there program policy certificate class method 0 there.0 reaches (told_in_method program policy certificate class method 0 next i 0 ∙ there.1))
+      let told : List Note = notes_of program policy annotations i.c class method in
+      let there = is_told_there the_rules told i.m (here_at program policy annotations 0 next) (slice_get told 0)
+      (fault_free program policy annotations class method 0 next i reaches (o.accepted.noted class method 0)) in
+      (there.0, note_there program policy annotations class method 0 there.0 reaches (told_in_method program policy annotations class method 0 next i 0 ∙ there.1))
 
-  begins_in_none : (class method : ℕ) (next : Insn × Target) (note : Note) → IsNoted class method 0 next note → is_open certificate.mode policy note ≡ true
+  begins_in_none : (class method : ℕ) (next : Insn × Target) (note : Note) → IsNoted class method 0 next note → is_open annotations.held policy note ≡ true
   begins_in_none class method next note n =
       let its_row = row the_rules note (shape_of next.0) next.1 in
-      let passes = all_pass (meets the_rules) (notes_of program policy certificate n.i.c class method) its_row n.i.m (here_at program policy certificate 0 next) in
-      let begins = is_open certificate.mode policy note in
+      let passes = all_pass (meets the_rules) (notes_of program policy annotations n.i.c class method) its_row n.i.m (here_at program policy annotations 0 next) in
+      let begins = is_open annotations.held policy note in
       (and_parts passes begins ((and_parts (is_some its_row) (passes && begins) n.hold.1.1.1.1.1.1.1.0).1)).1
 
-  pub begins_open : BeginsOpen program policy certificate
+  pub begins_open : BeginsOpen program policy annotations
   begins_open class method of there some =
       let next = first_insn class method of there some in
-      let i = is_in program policy certificate class method 0 of next.0 there next.1 in
+      let i = is_in program policy annotations class method 0 of next.0 there next.1 in
       let note = note_begins class method next.0 i (o.closed.begin class method of there some) in
       let n = is_noted class method 0 of next.0 note.0 there next.1 note.1 in
       rw (← (open_is_free note.0 (begins_in_none class method next.0 note.0 n))) note.1

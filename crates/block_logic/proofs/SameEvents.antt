@@ -6,8 +6,8 @@ use Rattle.std.proofs.lemmas.List.{append-nil}
 use Rattle.std.proofs.lemmas.List.Elements.{filter-append}
 use Rattle.api_listing.specs.declared.events.Event.{Event}
 use Rattle.bytecode_model.specs.declared.program.Program.{Program}
-use Rattle.cert_format.specs.declared.certificate.Certificate.{Certificate}
-use Rattle.cert_format.specs.declared.certificate.Mode.{Mode}
+use Rattle.block_logic.specs.declared.held_calls.HeldCalls.{HeldCalls}
+use Rattle.block_logic.specs.Annotations.{Annotations}
 use Rattle.cert_format.specs.declared.note.Note.{Note}
 use Rattle.cert_format.specs.declared.note.Note.TheVariants as notes
 use Rattle.cert_format.specs.declared.note.Phase8.{Phase8}
@@ -63,11 +63,11 @@ module _ (policy : Policy) (seen more : List Event) (same : spoken policy seen �
   owed_too site (suc (suc zero)) clause state kept locals rest d = leads_too state d
   owed_too site (suc (suc (suc n))) clause state kept locals rest d = absurd d
 
-  module _ (program : Program) (certificate : Certificate) (fields : List Value) where
-    owns_too : (mode : Mode) (frame : Frame) (note : Note) → Owns program policy mode seen fields frame note → Owns program policy mode more fields frame note
-    owns_too mode frame notes.Free d = absurd d
-    owns_too mode frame (notes.Taking site) d = absurd d
-    owns_too mode frame (notes.Held site failed holding list map) d =
+  module _ (program : Program) (annotations : Annotations) (fields : List Value) where
+    owns_too : (held : HeldCalls) (frame : Frame) (note : Note) → Owns program policy held seen fields frame note → Owns program policy held more fields frame note
+    owns_too held frame notes.Free d = absurd d
+    owns_too held frame (notes.Taking site) d = absurd d
+    owns_too held frame (notes.Held site failed holding list map) d =
         record {
           clause = d.clause;
           there = d.there;
@@ -82,7 +82,7 @@ module _ (policy : Policy) (seen more : List Event) (same : spoken policy seen �
           pushed = d.pushed;
           above = d.above;
         }
-    owns_too mode frame (notes.Granted site locked count top) d = (
+    owns_too held frame (notes.Granted site locked count top) d = (
       d.0,
       record {
         holds = d.1.holds;
@@ -96,7 +96,7 @@ module _ (policy : Policy) (seen more : List Event) (same : spoken policy seen �
         above = d.1.above;
       },
     )
-    owns_too mode frame (notes.Owed site stage kept top) d = (
+    owns_too held frame (notes.Owed site stage kept top) d = (
       d.0,
       record {
         behind = d.1.behind;
@@ -107,14 +107,14 @@ module _ (policy : Policy) (seen more : List Event) (same : spoken policy seen �
         owed = owed_too site stage (clause_of policy site) d.1.state kept frame.locals d.1.above.rest d.1.owed;
       },
     )
-    owns_too mode frame (notes.Stop site place) d = record { followed = followed_too d.followed; stopping = d.stopping }
+    owns_too held frame (notes.Stop site place) d = record { followed = followed_too d.followed; stopping = d.stopping }
 
-    owner_frames_too : (frames : List Frame) → AreOwnerFrames program policy certificate seen fields frames → AreOwnerFrames program policy certificate more fields frames
+    owner_frames_too : (frames : List Frame) → AreOwnerFrames program policy annotations seen fields frames → AreOwnerFrames program policy annotations more fields frames
     owner_frames_too [] d = absurd d
     owner_frames_too (frame ∷ below) d =
-        (record { well = d.0.well; note = d.0.note; told = d.0.told; owns = owns_too certificate.mode frame d.0.note d.0.owns }, d.1)
+        (record { well = d.0.well; note = d.0.note; told = d.0.told; owns = owns_too annotations.held frame d.0.note d.0.owns }, d.1)
 
-    owner_call_too : (method : ℕ) (frames : List Frame) → AreOwnerCall program policy certificate seen fields method frames → AreOwnerCall program policy certificate more fields method frames
+    owner_call_too : (method : ℕ) (frames : List Frame) → AreOwnerCall program policy annotations seen fields method frames → AreOwnerCall program policy annotations more fields method frames
     owner_call_too method [] d = absurd d
     owner_call_too method (frame ∷ below) d = (
       record {
@@ -131,10 +131,10 @@ module _ (policy : Policy) (seen more : List Event) (same : spoken policy seen �
       d.1,
     )
 
-    owner_doing_too : (frames : List Frame) (doing : Doing) → IsOwnerDoing program policy certificate seen fields frames doing → IsOwnerDoing program policy certificate more fields frames doing
+    owner_doing_too : (frames : List Frame) (doing : Doing) → IsOwnerDoing program policy annotations seen fields frames doing → IsOwnerDoing program policy annotations more fields frames doing
     owner_doing_too frames doings.Running d = owner_frames_too frames d
     owner_doing_too frames (doings.InCall method receiver arguments) d = (d.0, owner_call_too method frames d.1, d.2)
     owner_doing_too frames doings.Ended d = absurd d
 
-    pub owner_too : (thread : Thread) → IsOwner program policy certificate seen fields thread → IsOwner program policy certificate more fields thread
+    pub owner_too : (thread : Thread) → IsOwner program policy annotations seen fields thread → IsOwner program policy annotations more fields thread
     owner_too thread d = owner_doing_too thread.frames thread.doing d

@@ -18,7 +18,7 @@ use Rattle.bytecode_model.specs.declared.program.LinkedClass.{LinkedClass}
 use Rattle.bytecode_model.specs.declared.program.Program.{Program}
 use Rattle.bytecode_model.specs.Heads.{desc_of, is_static, name_of, text_at}
 use Rattle.bytecode_model.specs.Operands.{place_of}
-use Rattle.cert_format.specs.declared.certificate.Certificate.{Certificate}
+use Rattle.block_logic.specs.Annotations.{Annotations}
 use Rattle.conspec_tree.specs.declared.types.Var.{Var}
 use Rattle.conspec_automaton.specs.declared.policy.Policy.{Policy}
 use Rattle.conspec_automaton.specs.Next.{initial}
@@ -162,9 +162,9 @@ module _ (program : Program) (file : ClassFile) where
 
 -- ---- the class that holds them
 
-module _ (program : Program) (policy : Policy) (certificate : Certificate) (o : IsObeying program policy certificate) where
+module _ (program : Program) (policy : Policy) (annotations : Annotations) (o : IsObeying program policy annotations) where
   abbrev state : ℕ
-  state = state_of program policy certificate
+  state = state_of program policy annotations
 
   -- It is there, with a field for each variable and nothing else.
   record IsThere : Type 0 where
@@ -201,13 +201,13 @@ module _ (program : Program) (policy : Policy) (certificate : Certificate) (o : 
 
   -- ---- the start
 
-  one_thread : (begun : Thread) → IsClient program policy certificate begun → (number : ℕ) (thread : Thread) → slice_get (begun ∷ []) number ≡ Some thread
-      → IsClient program policy certificate thread
-  one_thread begun client zero thread e = subst (IsClient program policy certificate) (some_is begun thread e) client
+  one_thread : (begun : Thread) → IsClient program policy annotations begun → (number : ℕ) (thread : Thread) → slice_get (begun ∷ []) number ≡ Some thread
+      → IsClient program policy annotations thread
+  one_thread begun client zero thread e = subst (IsClient program policy annotations) (some_is begun thread e) client
   one_thread begun client (suc number) thread e = absurd cc
 
   -- a thread that begins methods does not hold the lock
-  pub starts_well : ((to_begin : List Given) → IsClient program policy certificate (rests program to_begin)) → StartsWell program policy certificate
+  pub starts_well : ((to_begin : List Given) → IsClient program policy annotations (rests program to_begin)) → StartsWell program policy annotations
   starts_well rests_client =
       let to_begin : List Given = initialisers program ++ (program.main_class, program.main_method) ∷ [] in
       record {

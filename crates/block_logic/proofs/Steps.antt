@@ -5,7 +5,7 @@ use Rattle.api_listing.specs.declared.events.Event.{Event}
 use Rattle.insn_codec.specs.declared.insn.Insn.{Insn}
 use Rattle.bytecode_model.specs.declared.program.Program.{Program}
 use Rattle.bytecode_model.specs.declared.program.Target.{Target}
-use Rattle.cert_format.specs.declared.certificate.Certificate.{Certificate}
+use Rattle.block_logic.specs.Annotations.{Annotations}
 use Rattle.cert_format.specs.declared.note.Note.{Note}
 use Rattle.cert_format.specs.declared.note.Note.TheVariants as notes
 use Rattle.cert_format.specs.declared.note.Site.{Site}
@@ -25,25 +25,25 @@ use Rattle.block_logic.specs.Fitting.{AreBelow, AreOwnerCall, ArePassed, Fits, I
 use Rattle.block_logic.specs.Meaning.{AreState, IsFrame, IsFree, Leads, Owns, note_of}
 use Rattle.conspec_automaton.specs.Next.{has_clauses}
 
-module _ (program : Program) (policy : Policy) (certificate : Certificate) where
+module _ (program : Program) (policy : Policy) (annotations : Annotations) where
   -- ---- a thread that does not hold the lock
 
   -- What its step changes: nothing of the lock and of the policy's variables; and it has no event with a clause.
   pub record ChangesClient (shared : World) (change : Change) : Type 0 where
-    pub world : IsCleanWorld program (state_of program policy certificate) change.world
+    pub world : IsCleanWorld program (state_of program policy annotations) change.world
     pub locks : held_locks program change.world.monitors ≡ held_locks program shared.monitors
-    pub variables : slice_get change.world.statics (state_of program policy certificate) ≡ slice_get shared.statics (state_of program policy certificate)
-    pub thread : IsClient program policy certificate change.thread
-    pub begins : IfSome change.begins (IsClient program policy certificate)
+    pub variables : slice_get change.world.statics (state_of program policy annotations) ≡ slice_get shared.statics (state_of program policy annotations)
+    pub thread : IsClient program policy annotations change.thread
+    pub begins : IfSome change.begins (IsClient program policy annotations)
     pub event : IfSome change.event (λ (e : Event). has_clause policy e ≡ false)
 
   -- a thread that acts in a frame with this note
   pub record Acts (machine : Machine) (a : Acting) (next : Insn × Target) (note : Note) : Type 0 where
-    pub world : IsCleanWorld program (state_of program policy certificate) (world_of machine)
+    pub world : IsCleanWorld program (state_of program policy annotations) (world_of machine)
     pub well : IsFrame program a.frame
     pub there : insn_at program a.frame ≡ Some next
-    pub told : note_of program certificate a.frame ≡ Some note
-    pub below : AreBelow program policy certificate a.below
+    pub told : note_of program annotations a.frame ≡ Some note
+    pub below : AreBelow program policy annotations a.below
 
   -- An instruction of the client, and the one that pushes the lock's class.
   abbrev pub ClientSteps : Type 0
@@ -55,8 +55,8 @@ module _ (program : Program) (policy : Policy) (certificate : Certificate) where
   abbrev pub ClientAnswers : Type 0
   ClientAnswers =
       (world : World) (number : ℕ) (thread : Thread) (method : ℕ) (receiver : Option Value) (arguments : List Value) (choice : Choice) (change : Change)
-      → IsCleanWorld program (state_of program policy certificate) world → has_clauses policy method ≡ false
-      → IsClientCall program policy certificate method thread.frames → ArePassed program receiver arguments
+      → IsCleanWorld program (state_of program policy annotations) world → has_clauses policy method ≡ false
+      → IsClientCall program policy annotations method thread.frames → ArePassed program receiver arguments
       → call_stepped program world number thread method receiver arguments choice ≡ Some change → ChangesClient world change
 
   -- ---- a thread that takes, holds or leaves the lock
@@ -65,8 +65,8 @@ module _ (program : Program) (policy : Policy) (certificate : Certificate) where
   pub record StaysOwner (number : ℕ) (seen : List Event) (change : Change) : Type 0 where
     pub locks : held_locks program change.world.monitors ≡ locked_by program number
     pub fields : List Value
-    pub variables : slice_get change.world.statics (state_of program policy certificate) ≡ Some fields
-    pub owns : IsOwner program policy certificate (seen ++ option_to_list change.event) fields change.thread
+    pub variables : slice_get change.world.statics (state_of program policy annotations) ≡ Some fields
+    pub owns : IsOwner program policy annotations (seen ++ option_to_list change.event) fields change.thread
 
   -- It gives the lock up, and the variables are the state after the events.
   pub record GivesUp (seen : List Event) (change : Change) : Type 0 where
@@ -75,16 +75,16 @@ module _ (program : Program) (policy : Policy) (certificate : Certificate) where
     pub ranged : in_range policy state ≡ true
     pub led : Leads policy (seen ++ option_to_list change.event) state
     pub fields : List Value
-    pub variables : slice_get change.world.statics (state_of program policy certificate) ≡ Some fields
+    pub variables : slice_get change.world.statics (state_of program policy annotations) ≡ Some fields
     pub are : AreState fields state
-    pub client : IsClient program policy certificate change.thread
+    pub client : IsClient program policy annotations change.thread
 
   -- What a step of the thread that holds the lock, or takes it, changes; unless it stops the program.
   pub record ChangesOwner (number : ℕ) (seen : List Event) (change : Change) : Type 0 where
     pub begins : change.begins ≡ None
     pub followed : IsFollowed policy (seen ++ option_to_list change.event)
     pub goes : change.stops ≡ None
-        → IsCleanWorld program (state_of program policy certificate) change.world × (StaysOwner number seen change ⊎ GivesUp seen change)
+        → IsCleanWorld program (state_of program policy annotations) change.world × (StaysOwner number seen change ⊎ GivesUp seen change)
 
   -- The lock is taken where nobody holds it.
   abbrev pub TakingSteps : Type 0
@@ -92,7 +92,7 @@ module _ (program : Program) (policy : Policy) (certificate : Certificate) where
       (machine : Machine) (a : Acting) (next : Insn × Target) (change : Change) (site : Site) (seen : List Event) (fields : List Value) (state : Values)
       → Acts machine a next (notes.Taking site) → IsFree program policy a.frame (notes.Taking site)
       → held_locks program machine.monitors ≡ [] → in_range policy state ≡ true → Leads policy seen state → AreState fields state
-      → slice_get machine.statics (state_of program policy certificate) ≡ Some fields
+      → slice_get machine.statics (state_of program policy annotations) ≡ Some fields
       → insn_stepped program machine a next ≡ Some change → ChangesOwner a.number seen change
 
   -- It waits while another thread holds it.
@@ -106,9 +106,9 @@ module _ (program : Program) (policy : Policy) (certificate : Certificate) where
   abbrev pub OwnerSteps : Type 0
   OwnerSteps =
       (machine : Machine) (a : Acting) (next : Insn × Target) (change : Change) (note : Note) (seen : List Event) (fields : List Value)
-      → Acts machine a next note → Owns program policy certificate.mode seen fields a.frame note
+      → Acts machine a next note → Owns program policy annotations.held seen fields a.frame note
       → held_locks program machine.monitors ≡ locked_by program a.number
-      → slice_get machine.statics (state_of program policy certificate) ≡ Some fields
+      → slice_get machine.statics (state_of program policy annotations) ≡ Some fields
       → insn_stepped program machine a next ≡ Some change → ChangesOwner a.number seen change
 
   -- An answer to a call that was granted.
@@ -116,13 +116,13 @@ module _ (program : Program) (policy : Policy) (certificate : Certificate) where
   OwnerAnswers =
       (world : World) (number : ℕ) (thread : Thread) (method : ℕ) (receiver : Option Value) (arguments : List Value) (choice : Choice) (change : Change)
       (seen : List Event) (fields : List Value)
-      → IsCleanWorld program (state_of program policy certificate) world → has_clauses policy method ≡ true
-      → AreOwnerCall program policy certificate seen fields method thread.frames → ArePassed program receiver arguments
+      → IsCleanWorld program (state_of program policy annotations) world → has_clauses policy method ≡ true
+      → AreOwnerCall program policy annotations seen fields method thread.frames → ArePassed program receiver arguments
       → held_locks program world.monitors ≡ locked_by program number
-      → slice_get world.statics (state_of program policy certificate) ≡ Some fields
+      → slice_get world.statics (state_of program policy annotations) ≡ Some fields
       → call_stepped program world number thread method receiver arguments choice ≡ Some change → ChangesOwner number seen change
 
   -- ---- the start
 
   abbrev pub StartsWell : Type 0
-  StartsWell = Fits program policy certificate (start_of program) []
+  StartsWell = Fits program policy annotations (start_of program) []

@@ -12,7 +12,7 @@ use Rattle.bytecode_model.specs.declared.program.Target.{Target}
 use Rattle.bytecode_model.specs.Rules.{frame_of}
 use Rattle.bytecode_model.specs.Layout.{has_code}
 use Rattle.bytecode_model.specs.Typed.{frames_in, frames_told, reached}
-use Rattle.cert_format.specs.declared.certificate.Certificate.{Certificate}
+use Rattle.block_logic.specs.Annotations.{Annotations}
 use Rattle.cert_format.specs.declared.note.Note.{Note}
 use Rattle.conspec_automaton.specs.declared.policy.Policy.{Policy}
 use Rattle.guest_model.specs.Places.{insn_in, method_at}
@@ -44,7 +44,7 @@ insn_parts m at next e =
     let ref : r.0 ≡ next.1 = ap (λ (p : Insn × Target). p.1) r.2 in
     (rw insn at i.1, rw ref at r.1)
 
-module _ (program : Program) (policy : Policy) (certificate : Certificate) where
+module _ (program : Program) (policy : Policy) (annotations : Annotations) where
   -- the instruction of this index, in its class and method
   pub record IsIn (class method at : ℕ) (next : Insn × Target) : Type 0 where
     pub c : LinkedClass
@@ -63,50 +63,50 @@ module _ (program : Program) (policy : Policy) (certificate : Certificate) where
 
   -- the notes of its method
   abbrev pub notes_of : LinkedClass → ℕ → ℕ → List Note
-  notes_of c class method = notes_in c.methods (notes_told certificate class) method
+  notes_of c class method = notes_in c.methods (notes_told annotations class) method
 
   abbrev pub here_at : ℕ → Insn × Target → Here
   here_at at next = record { at = at; insn = next.0; ref = next.1 }
 
   -- It is reached.
-  pub is_reached : (class method at : ℕ) (note : Note) → note_at program certificate class method at ≡ Some note
-      → (reached program certificate.typing class method at ≡ true) × (note_in program certificate class method at ≡ Some note)
-  is_reached class method at note e = if_true (reached program certificate.typing class method at) (note_in program certificate class method at) note e
+  pub is_reached : (class method at : ℕ) (note : Note) → note_at program annotations class method at ≡ Some note
+      → (reached program annotations.typing class method at ≡ true) × (note_in program annotations class method at ≡ Some note)
+  is_reached class method at note e = if_true (reached program annotations.typing class method at) (note_in program annotations class method at) note e
 
-  pub note_there : (class method at : ℕ) (note : Note) → reached program certificate.typing class method at ≡ true
-      → note_in program certificate class method at ≡ Some note → note_at program certificate class method at ≡ Some note
+  pub note_there : (class method at : ℕ) (note : Note) → reached program annotations.typing class method at ≡ true
+      → note_in program annotations class method at ≡ Some note → note_at program annotations class method at ≡ Some note
   note_there class method at note reaches e = rw reaches e
 
   module _ (class method at : ℕ) (next : Insn × Target) (i : IsIn class method at next) where
     -- its note, out of those of its method
-    pub told_in_method : (to : ℕ) → note_in program certificate class method to ≡ slice_get (notes_of i.c class method) to
+    pub told_in_method : (to : ℕ) → note_in program annotations class method to ≡ slice_get (notes_of i.c class method) to
     told_in_method to = rw i.class_there refl
 
-    pub has_frame : reached program certificate.typing class method at ≡ true
-        → is_some (frame_of (frames_in i.c.methods (frames_told certificate.typing class) method) at) ≡ true
+    pub has_frame : reached program annotations.typing class method at ≡ true
+        → is_some (frame_of (frames_in i.c.methods (frames_told annotations.typing class) method) at) ≡ true
     has_frame reaches =
-        let same : reached program certificate.typing class method at ≡ (has_code i.m && is_some (frame_of (frames_in i.c.methods (frames_told certificate.typing class) method) at)) =
+        let same : reached program annotations.typing class method at ≡ (has_code i.m && is_some (frame_of (frames_in i.c.methods (frames_told annotations.typing class) method) at)) =
         rw (i.class_there, i.in_class) refl in
-        (and_parts (has_code i.m) (is_some (frame_of (frames_in i.c.methods (frames_told certificate.typing class) method) at)) (sym same ∙ reaches)).1
+        (and_parts (has_code i.m) (is_some (frame_of (frames_in i.c.methods (frames_told annotations.typing class) method) at)) (sym same ∙ reaches)).1
 
     -- no rule is broken there
-    pub fault_free : reached program certificate.typing class method at ≡ true → note_fault_at program policy certificate class method at ≡ None
-        → told_fault (rules_of program policy certificate) (notes_of i.c class method) i.m (here_at at next) (slice_get (notes_of i.c class method) at) ≡ None
+    pub fault_free : reached program annotations.typing class method at ≡ true → note_fault_at program policy annotations class method at ≡ None
+        → told_fault (rules_of program policy annotations) (notes_of i.c class method) i.m (here_at at next) (slice_get (notes_of i.c class method) at) ≡ None
     fault_free reaches none =
-        let rules : Rules = rules_of program policy certificate in
+        let rules : Rules = rules_of program policy annotations in
         let told : List Note = notes_of i.c class method in
-        let frames = frames_in i.c.methods (frames_told certificate.typing class) method in
+        let frames = frames_in i.c.methods (frames_told annotations.typing class) method in
         let framed = has_frame reaches in
-        let at_method : note_fault_at program policy certificate class method at ≡ reached_fault rules frames told i.m at = rw (i.class_there, i.in_class) refl in
+        let at_method : note_fault_at program policy annotations class method at ≡ reached_fault rules frames told i.m at = rw (i.class_there, i.in_class) refl in
         let with_frame : reached_fault rules frames told i.m at ≡ note_fault rules told i.m at = rw framed refl in
         let with_note : note_fault rules told i.m at ≡ told_fault rules told i.m (here_at at next) (slice_get told at) = rw (i.insn_there, i.ref_there) refl in
         sym with_note ∙ sym with_frame ∙ sym at_method ∙ none
 
     -- each rule holds
-    pub rules_hold_at : (note : Note) → reached program certificate.typing class method at ≡ true → note_fault_at program policy certificate class method at ≡ None
+    pub rules_hold_at : (note : Note) → reached program annotations.typing class method at ≡ true → note_fault_at program policy annotations class method at ≡ None
         → slice_get (notes_of i.c class method) at ≡ Some note
         → AllByRecursion (λ (rule : ℕ × Bool). rule.1 ≡ true)
-        (rules_at (rules_of program policy certificate) (notes_of i.c class method) i.m note (here_at at next) (row (rules_of program policy certificate) note (shape_of next.0) next.1))
+        (rules_at (rules_of program policy annotations) (notes_of i.c class method) i.m note (here_at at next) (row (rules_of program policy annotations) note (shape_of next.0) next.1))
     rules_hold_at note reaches none there =
-        all_hold (rules_at (rules_of program policy certificate) (notes_of i.c class method) i.m note (here_at at next) (row (rules_of program policy certificate) note (shape_of next.0) next.1))
+        all_hold (rules_at (rules_of program policy annotations) (notes_of i.c class method) i.m note (here_at at next) (row (rules_of program policy annotations) note (shape_of next.0) next.1))
         (rw there at (fault_free reaches none))

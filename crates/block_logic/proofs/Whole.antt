@@ -1,6 +1,6 @@
 -- What is proved of the steps of accepted programs, and of their start, from what the policy sees of events.
 use Rattle.bytecode_model.specs.declared.program.Program.{Program}
-use Rattle.cert_format.specs.declared.certificate.Certificate.{Certificate}
+use Rattle.block_logic.specs.Annotations.{Annotations}
 use Rattle.conspec_automaton.specs.declared.policy.Policy.{Policy}
 use Rattle.block_logic.specs.Obeying.{IsObeying}
 use Rattle.block_logic.proofs.Client.Answers.{client_answers}
@@ -18,33 +18,33 @@ use Rattle.block_logic.proofs.Client.Begins.{rests_client}
 use Rattle.block_logic.proofs.Client.Frames.{Laws}
 use Rattle.block_logic.proofs.Steps.{StartsWell}
 
-module _ (program : Program) (policy : Policy) (certificate : Certificate) (o : IsObeying program policy certificate) where
-  ruled : RulesHold program policy certificate
-  ruled = rules_hold program policy certificate o
+module _ (program : Program) (policy : Policy) (annotations : Annotations) (o : IsObeying program policy annotations) where
+  ruled : RulesHold program policy annotations
+  ruled = rules_hold program policy annotations o
 
-  begin : BeginsOpen program policy certificate
-  begin = begins_open program policy certificate o
+  begin : BeginsOpen program policy annotations
+  begin = begins_open program policy annotations o
 
-  free : OpenIsFree program policy certificate
-  free = open_is_free program policy certificate o
+  free : OpenIsFree program policy annotations
+  free = open_is_free program policy annotations o
 
-  pub step_laws : SeenIsEnough → StepLaws program policy certificate
+  pub step_laws : SeenIsEnough → StepLaws program policy annotations
   step_laws seen = record {
-    client_steps = client_steps program policy certificate o ruled begin free;
-    client_answers = client_answers program policy certificate o ruled begin free;
-    taking_steps = taking_steps program policy certificate o ruled;
-    taking_waits = taking_waits program policy certificate o ruled;
-    owner_steps = owner_steps program policy certificate o ruled free seen;
-    owner_answers = owner_answers program policy certificate o ruled;
+    client_steps = client_steps program policy annotations o ruled begin free;
+    client_answers = client_answers program policy annotations o ruled begin free;
+    taking_steps = taking_steps program policy annotations o ruled;
+    taking_waits = taking_waits program policy annotations o ruled;
+    owner_steps = owner_steps program policy annotations o ruled free seen;
+    owner_answers = owner_answers program policy annotations o ruled;
   }
 
-  pub starts : StartsWell program policy certificate
+  pub starts : StartsWell program policy annotations
   starts =
-      let laws : Laws program policy certificate = record { obeys = o; rules_hold = ruled; begins_open = begin; open_free = free } in
-      starts_well program policy certificate o (rests_client program policy certificate laws)
+      let laws : Laws program policy annotations = record { obeys = o; rules_hold = ruled; begins_open = begin; open_free = free } in
+      starts_well program policy annotations o (rests_client program policy annotations laws)
 
 pub proved : SeenIsEnough → Proved
 proved seen = record {
-  steps = λ program policy certificate o. step_laws program policy certificate o seen;
-  starts = λ program policy certificate o. starts program policy certificate o;
+  steps = λ program policy annotations o. step_laws program policy annotations o seen;
+  starts = λ program policy annotations o. starts program policy annotations o;
 }

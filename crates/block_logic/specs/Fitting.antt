@@ -6,8 +6,7 @@ use Rattle.insn_codec.specs.declared.insn.Insn.{Insn}
 use Rattle.insn_codec.specs.Shapes.{shape_of}
 use Rattle.bytecode_model.specs.declared.program.Program.{Program}
 use Rattle.bytecode_model.specs.declared.program.Target.TheVariants as target
-use Rattle.cert_format.specs.declared.certificate.Certificate.{Certificate}
-use Rattle.cert_format.specs.declared.certificate.Mode.TheVariants as modes
+use Rattle.block_logic.specs.Annotations.{Annotations, holds_round}
 use Rattle.cert_format.specs.declared.note.Note.{Note}
 use Rattle.cert_format.specs.declared.note.Note.TheVariants as notes
 use Rattle.cert_format.specs.declared.note.Site.{Site}
@@ -41,8 +40,8 @@ IsCleanObject program (objects.Array desc items) = AreClean program items
 IsCleanObject program (objects.Text text) = Unit {0}
 
 -- the number of the class that holds the policy's variables
-abbrev pub state_of : Program → Policy → Certificate → ℕ
-state_of program policy certificate = (rules_of program policy certificate).state
+abbrev pub state_of : Program → Policy → Annotations → ℕ
+state_of program policy annotations = (rules_of program policy annotations).state
 
 -- No object and no static field but the policy's variables holds the lock.
 pub record IsCleanWorld (program : Program) (state : ℕ) (world : World) : Type 0 where
@@ -60,111 +59,111 @@ locked_by program number = record { on = lock_of program; owner = number; count 
 -- ---- a thread that does not hold the lock
 
 -- the frame at whose instruction it goes on: there is none, or its note is no note of a block that holds the lock
-abbrev pub IsClientFrame : Program → Policy → Certificate → Frame → Type 0
-IsClientFrame program policy certificate frame =
-    (insn_at program frame ≡ None) ⊎ ((note : Note) × (note_of program certificate frame ≡ Some note) × IsFree program policy frame note)
+abbrev pub IsClientFrame : Program → Policy → Annotations → Frame → Type 0
+IsClientFrame program policy annotations frame =
+    (insn_at program frame ≡ None) ⊎ ((note : Note) × (note_of program annotations frame ≡ Some note) × IsFree program policy frame note)
 
 -- Below stand frames that wait.
-abbrev pub AreBelow : Program → Policy → Certificate → List Frame → Type 0
-AreBelow program policy certificate below = AllByRecursion (IsBelow program policy certificate) below
+abbrev pub AreBelow : Program → Policy → Annotations → List Frame → Type 0
+AreBelow program policy annotations below = AllByRecursion (IsBelow program policy annotations) below
 
-abbrev pub AreClientFrames : Program → Policy → Certificate → List Frame → Type 0
-AreClientFrames program policy certificate [] = Unit {0}
-AreClientFrames program policy certificate (frame ∷ below) =
-    IsFrame program frame × IsClientFrame program policy certificate frame × AreBelow program policy certificate below
+abbrev pub AreClientFrames : Program → Policy → Annotations → List Frame → Type 0
+AreClientFrames program policy annotations [] = Unit {0}
+AreClientFrames program policy annotations (frame ∷ below) =
+    IsFrame program frame × IsClientFrame program policy annotations frame × AreBelow program policy annotations below
 
 -- A frame waits for the answer to a call of the method.
-pub record IsAtCall (program : Program) (certificate : Certificate) (method : ℕ) (note : Note) (frame : Frame) : Type 0 where
+pub record IsAtCall (program : Program) (annotations : Annotations) (method : ℕ) (note : Note) (frame : Frame) : Type 0 where
   pub insn : Insn
   pub there : insn_at program frame ≡ Some (insn, target.ApiMethod method)
   pub call : calls (shape_of insn) ≡ true
-  pub told : note_of program certificate frame ≡ Some note
+  pub told : note_of program annotations frame ≡ Some note
   pub clean : AreClean program frame.stack.items
 
-abbrev pub IsClientCall : Program → Policy → Certificate → ℕ → List Frame → Type 0
-IsClientCall program policy certificate method [] = ⊥
-IsClientCall program policy certificate method (frame ∷ below) =
-    IsFrame program frame × IsAtCall program certificate method notes.Free frame × AreBelow program policy certificate below
+abbrev pub IsClientCall : Program → Policy → Annotations → ℕ → List Frame → Type 0
+IsClientCall program policy annotations method [] = ⊥
+IsClientCall program policy annotations method (frame ∷ below) =
+    IsFrame program frame × IsAtCall program annotations method notes.Free frame × AreBelow program policy annotations below
 
 -- what it passed
 abbrev pub ArePassed : Program → Option Value → List Value → Type 0
 ArePassed program receiver arguments = IfSome receiver (IsClean program) × AreClean program arguments
 
-abbrev pub IsClientDoing : Program → Policy → Certificate → List Frame → Doing → Type 0
-IsClientDoing program policy certificate frames doings.Running = AreClientFrames program policy certificate frames
-IsClientDoing program policy certificate frames (doings.InCall method receiver arguments) =
-    (has_clauses policy method ≡ false) × IsClientCall program policy certificate method frames × ArePassed program receiver arguments
-IsClientDoing program policy certificate frames doings.Ended = Unit {0}
+abbrev pub IsClientDoing : Program → Policy → Annotations → List Frame → Doing → Type 0
+IsClientDoing program policy annotations frames doings.Running = AreClientFrames program policy annotations frames
+IsClientDoing program policy annotations frames (doings.InCall method receiver arguments) =
+    (has_clauses policy method ≡ false) × IsClientCall program policy annotations method frames × ArePassed program receiver arguments
+IsClientDoing program policy annotations frames doings.Ended = Unit {0}
 
-abbrev pub IsClient : Program → Policy → Certificate → Thread → Type 0
-IsClient program policy certificate thread = IsClientDoing program policy certificate thread.frames thread.doing
+abbrev pub IsClient : Program → Policy → Annotations → Thread → Type 0
+IsClient program policy annotations thread = IsClientDoing program policy annotations thread.frames thread.doing
 
 -- ---- the thread that holds the lock
 
-pub record IsOwnerFrame (program : Program) (policy : Policy) (certificate : Certificate) (seen : List Event) (fields : List Value) (frame : Frame) : Type 0 where
+pub record IsOwnerFrame (program : Program) (policy : Policy) (annotations : Annotations) (seen : List Event) (fields : List Value) (frame : Frame) : Type 0 where
   pub well : IsFrame program frame
   pub note : Note
-  pub told : note_of program certificate frame ≡ Some note
-  pub owns : Owns program policy certificate.mode seen fields frame note
+  pub told : note_of program annotations frame ≡ Some note
+  pub owns : Owns program policy annotations.held seen fields frame note
 
-abbrev pub AreOwnerFrames : Program → Policy → Certificate → List Event → List Value → List Frame → Type 0
-AreOwnerFrames program policy certificate seen fields [] = ⊥
-AreOwnerFrames program policy certificate seen fields (frame ∷ below) =
-    IsOwnerFrame program policy certificate seen fields frame × AreBelow program policy certificate below
+abbrev pub AreOwnerFrames : Program → Policy → Annotations → List Event → List Value → List Frame → Type 0
+AreOwnerFrames program policy annotations seen fields [] = ⊥
+AreOwnerFrames program policy annotations seen fields (frame ∷ below) =
+    IsOwnerFrame program policy annotations seen fields frame × AreBelow program policy annotations below
 
 -- It is in a call that was granted, and that led to the state of the variables.
-pub record IsOwnerCall (program : Program) (policy : Policy) (certificate : Certificate) (seen : List Event) (fields : List Value) (method : ℕ) (frame : Frame) : Type 0 where
-  pub hold : certificate.mode ≡ modes.Hold
+pub record IsOwnerCall (program : Program) (policy : Policy) (annotations : Annotations) (seen : List Event) (fields : List Value) (method : ℕ) (frame : Frame) : Type 0 where
+  pub hold : holds_round annotations.held method ≡ true
   pub well : IsFrame program frame
   pub site : Site
   pub of : site.method ≡ method
-  pub at_call : IsAtCall program certificate method (notes.Granted site true (needs policy method) false) frame
+  pub at_call : IsAtCall program annotations method (notes.Granted site true (needs policy method) false) frame
   pub state : Values
   pub ranged : in_range policy state ≡ true
   pub led : Leads policy seen state
   pub variables : AreState fields state
 
-abbrev pub AreOwnerCall : Program → Policy → Certificate → List Event → List Value → ℕ → List Frame → Type 0
-AreOwnerCall program policy certificate seen fields method [] = ⊥
-AreOwnerCall program policy certificate seen fields method (frame ∷ below) =
-    IsOwnerCall program policy certificate seen fields method frame × AreBelow program policy certificate below
+abbrev pub AreOwnerCall : Program → Policy → Annotations → List Event → List Value → ℕ → List Frame → Type 0
+AreOwnerCall program policy annotations seen fields method [] = ⊥
+AreOwnerCall program policy annotations seen fields method (frame ∷ below) =
+    IsOwnerCall program policy annotations seen fields method frame × AreBelow program policy annotations below
 
-abbrev pub IsOwnerDoing : Program → Policy → Certificate → List Event → List Value → List Frame → Doing → Type 0
-IsOwnerDoing program policy certificate seen fields frames doings.Running = AreOwnerFrames program policy certificate seen fields frames
-IsOwnerDoing program policy certificate seen fields frames (doings.InCall method receiver arguments) =
-    (has_clauses policy method ≡ true) × AreOwnerCall program policy certificate seen fields method frames × ArePassed program receiver arguments
-IsOwnerDoing program policy certificate seen fields frames doings.Ended = ⊥
+abbrev pub IsOwnerDoing : Program → Policy → Annotations → List Event → List Value → List Frame → Doing → Type 0
+IsOwnerDoing program policy annotations seen fields frames doings.Running = AreOwnerFrames program policy annotations seen fields frames
+IsOwnerDoing program policy annotations seen fields frames (doings.InCall method receiver arguments) =
+    (has_clauses policy method ≡ true) × AreOwnerCall program policy annotations seen fields method frames × ArePassed program receiver arguments
+IsOwnerDoing program policy annotations seen fields frames doings.Ended = ⊥
 
-abbrev pub IsOwner : Program → Policy → Certificate → List Event → List Value → Thread → Type 0
-IsOwner program policy certificate seen fields thread = IsOwnerDoing program policy certificate seen fields thread.frames thread.doing
+abbrev pub IsOwner : Program → Policy → Annotations → List Event → List Value → Thread → Type 0
+IsOwner program policy annotations seen fields thread = IsOwnerDoing program policy annotations seen fields thread.frames thread.doing
 
 -- ---- the machine
 
 -- Nobody holds the lock: the variables are the state after the events so far.
-pub record IsUnlocked (program : Program) (policy : Policy) (certificate : Certificate) (machine : Machine) (seen : List Event) (fields : List Value) : Type 0 where
+pub record IsUnlocked (program : Program) (policy : Policy) (annotations : Annotations) (machine : Machine) (seen : List Event) (fields : List Value) : Type 0 where
   pub free : held_locks program machine.monitors ≡ []
   pub state : Values
   pub ranged : in_range policy state ≡ true
   pub led : Leads policy seen state
   pub variables : AreState fields state
-  pub threads : (number : ℕ) (thread : Thread) → slice_get machine.threads number ≡ Some thread → IsClient program policy certificate thread
+  pub threads : (number : ℕ) (thread : Thread) → slice_get machine.threads number ≡ Some thread → IsClient program policy annotations thread
 
 -- One thread holds it.
-pub record IsLocked (program : Program) (policy : Policy) (certificate : Certificate) (machine : Machine) (seen : List Event) (fields : List Value) : Type 0 where
+pub record IsLocked (program : Program) (policy : Policy) (annotations : Annotations) (machine : Machine) (seen : List Event) (fields : List Value) : Type 0 where
   pub owner : ℕ
   pub locked : held_locks program machine.monitors ≡ locked_by program owner
   pub thread : Thread
   pub there : slice_get machine.threads owner ≡ Some thread
-  pub owns : IsOwner program policy certificate seen fields thread
-  pub others : (number : ℕ) (other : Thread) → number ≢ owner → slice_get machine.threads number ≡ Some other → IsClient program policy certificate other
+  pub owns : IsOwner program policy annotations seen fields thread
+  pub others : (number : ℕ) (other : Thread) → number ≢ owner → slice_get machine.threads number ≡ Some other → IsClient program policy annotations other
 
-pub record Fits (program : Program) (policy : Policy) (certificate : Certificate) (machine : Machine) (seen : List Event) : Type 0 where
-  pub world : IsCleanWorld program (state_of program policy certificate) (world_of machine)
+pub record Fits (program : Program) (policy : Policy) (annotations : Annotations) (machine : Machine) (seen : List Event) : Type 0 where
+  pub world : IsCleanWorld program (state_of program policy annotations) (world_of machine)
   pub fields : List Value
-  pub there : slice_get machine.statics (state_of program policy certificate) ≡ Some fields
-  pub lock : IsUnlocked program policy certificate machine seen fields ⊎ IsLocked program policy certificate machine seen fields
+  pub there : slice_get machine.statics (state_of program policy annotations) ≡ Some fields
+  pub lock : IsUnlocked program policy annotations machine seen fields ⊎ IsLocked program policy annotations machine seen fields
 
 -- The events obey, and until the program is stopped the machine is as the notes say.
-pub record IsKept (program : Program) (policy : Policy) (certificate : Certificate) (machine : Machine) (seen : List Event) : Type 0 where
+pub record IsKept (program : Program) (policy : Policy) (annotations : Annotations) (machine : Machine) (seen : List Event) : Type 0 where
   pub followed : IsFollowed policy seen
-  pub fits : machine.stopped ≡ None → Fits program policy certificate machine seen
+  pub fits : machine.stopped ≡ None → Fits program policy annotations machine seen

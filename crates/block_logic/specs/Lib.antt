@@ -1,3 +1,4 @@
+pub mod Annotations
 pub mod Clauses
 pub mod Operands
 pub mod Terms

@@ -12,7 +12,8 @@ use Rattle.bytecode_model.specs.declared.program.Program.{Program}
 use Rattle.bytecode_model.specs.declared.program.Target.{Target}
 use Rattle.bytecode_model.specs.Classes.{classes_of}
 use Rattle.bytecode_model.specs.Typed.{reached}
-use Rattle.cert_format.specs.declared.certificate.Certificate.{Certificate}
+use Rattle.block_logic.specs.declared.held_calls.HeldCalls.{HeldCalls}
+use Rattle.block_logic.specs.Annotations.{Annotations, holds_round}
 use Rattle.cert_format.specs.declared.certificate.Mode.{Mode}
 use Rattle.cert_format.specs.declared.certificate.Mode.TheVariants as modes
 use Rattle.cert_format.specs.declared.note.Note.{Note}
@@ -47,6 +48,10 @@ use Rattle.block_logic.specs.Standing.{in_phase, is_before, takes_for_call}
 abbrev pub Promised : Mode → Policy → Type 0
 Promised mode policy = (mode ≡ modes.Hold) ⊎ DeniesOnly policy
 
+-- The lock is held round each call that has a clause, or each such call is denied.
+abbrev pub IsJudged : HeldCalls → Policy → Type 0
+IsJudged held policy = ((method : ℕ) → holds_round held method ≡ true) ⊎ DeniesOnly policy
+
 -- ---- the lock
 
 -- the object of the class that holds the policy's variables
@@ -69,16 +74,16 @@ pub record IsAbove (program : Program) (tops items : List Value) : Type 0 where
 -- ---- notes of frames
 
 -- the note of an instruction, by class, method and index, where that is reached
-abbrev pub note_in : Program → Certificate → ℕ → ℕ → ℕ → Option Note
-note_in program certificate class method at =
-    option_and_then (λ (c : LinkedClass). slice_get (notes_in c.methods (notes_told certificate class) method) at) (slice_get program.classes class)
+abbrev pub note_in : Program → Annotations → ℕ → ℕ → ℕ → Option Note
+note_in program annotations class method at =
+    option_and_then (λ (c : LinkedClass). slice_get (notes_in c.methods (notes_told annotations class) method) at) (slice_get program.classes class)
 
-abbrev pub note_at : Program → Certificate → ℕ → ℕ → ℕ → Option Note
-note_at program certificate class method at = if reached program certificate.typing class method at then note_in program certificate class method at else None
+abbrev pub note_at : Program → Annotations → ℕ → ℕ → ℕ → Option Note
+note_at program annotations class method at = if reached program annotations.typing class method at then note_in program annotations class method at else None
 
 -- that of the instruction at which a frame stands
-abbrev pub note_of : Program → Certificate → Frame → Option Note
-note_of program certificate frame = note_at program certificate frame.class frame.method frame.at
+abbrev pub note_of : Program → Annotations → Frame → Option Note
+note_of program annotations frame = note_at program annotations frame.class frame.method frame.at
 
 -- What each frame has, whatever its note: the size of its stack is its method's, and its locals and its lock are not the policy's lock.
 pub record IsFrame (program : Program) (frame : Frame) : Type 0 where
@@ -87,14 +92,14 @@ pub record IsFrame (program : Program) (frame : Frame) : Type 0 where
   pub locals : AreClean program frame.locals
 
 -- A frame below another: it stands at a call without a clause, in the client's code.
-pub record IsBelow (program : Program) (policy : Policy) (certificate : Certificate) (frame : Frame) : Type 0 where
+pub record IsBelow (program : Program) (policy : Policy) (annotations : Annotations) (frame : Frame) : Type 0 where
   pub well : IsFrame program frame
   pub insn : Insn
   pub ref : Target
   pub there : insn_at program frame ≡ Some (insn, ref)
   pub call : calls (shape_of insn) ≡ true
   pub unclaused : has_clause policy ref ≡ false
-  pub free : note_of program certificate frame ≡ Some notes.Free
+  pub free : note_of program annotations frame ≡ Some notes.Free
   pub clean : AreClean program frame.stack.items
 
 -- ---- events
@@ -270,16 +275,16 @@ pub record MeansStop (policy : Policy) (seen : List Event) (frame : Frame) (plac
 
 -- ---- a note of a thread that holds the lock, and of one that does not
 
--- Granted and Owed are notes of mode hold alone.
-abbrev pub Owns : Program → Policy → Mode → List Event → List Value → Frame → Note → Type 0
-Owns program policy mode seen fields frame notes.Free = ⊥
-Owns program policy mode seen fields frame (notes.Taking site) = ⊥
-Owns program policy mode seen fields frame (notes.Held site failed holding list map) = MeansHeld program policy seen fields frame site failed holding list map
-Owns program policy mode seen fields frame (notes.Granted site locked count top) =
-    (mode ≡ modes.Hold) × MeansGranted program policy seen fields frame site locked count top
-Owns program policy mode seen fields frame (notes.Owed site stage kept top) =
-    (mode ≡ modes.Hold) × MeansOwed program policy seen fields frame site stage kept top
-Owns program policy mode seen fields frame (notes.Stop site place) = MeansStop policy seen frame place
+-- Of methods round whose calls the lock is not held, nothing is said of Granted and Owed yet.
+abbrev pub Owns : Program → Policy → HeldCalls → List Event → List Value → Frame → Note → Type 0
+Owns program policy held seen fields frame notes.Free = ⊥
+Owns program policy held seen fields frame (notes.Taking site) = ⊥
+Owns program policy held seen fields frame (notes.Held site failed holding list map) = MeansHeld program policy seen fields frame site failed holding list map
+Owns program policy held seen fields frame (notes.Granted site locked count top) =
+    (holds_round held site.method ≡ true) × MeansGranted program policy seen fields frame site locked count top
+Owns program policy held seen fields frame (notes.Owed site stage kept top) =
+    (holds_round held site.method ≡ true) × MeansOwed program policy seen fields frame site stage kept top
+Owns program policy held seen fields frame (notes.Stop site place) = MeansStop policy seen frame place
 
 abbrev pub IsFree : Program → Policy → Frame → Note → Type 0
 IsFree program policy frame notes.Free = AreClean program frame.stack.items

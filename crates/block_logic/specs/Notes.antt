@@ -16,10 +16,11 @@ use Rattle.bytecode_model.specs.Rules.{covers}
 use Rattle.cert_format.specs.declared.note.Note.{Note}
 use Rattle.cert_format.specs.declared.note.Note.TheVariants as notes
 use Rattle.cert_format.specs.declared.note.Site.{Site}
+use Rattle.block_logic.specs.Annotations.{holds_round}
 use Rattle.block_logic.specs.Clauses.{needs}
 use Rattle.block_logic.specs.Operands.{calls, enters, has_clause, is_way_out, leaves, pushes_state, variable_named, writes_static}
 use Rattle.block_logic.specs.Rows.{Asked, Nothing, Open, Given, Taking, Row, Rules, is_duty, row, thrown}
-use Rattle.block_logic.specs.Standing.{is_exceptional, is_hold, is_open, may_stand, takes_for_call}
+use Rattle.block_logic.specs.Standing.{is_exceptional, is_open, may_stand, takes_for_call}
 
 -- an instruction: its index, itself, and what its operand names
 pub record Here : Type 0 where
@@ -79,7 +80,7 @@ is_owed_for_throw (notes.Stop site place) = false
 
 -- whether a note is as it is asked to be
 abbrev pub meets : Rules → Asked → Note → Bool
-meets rules Open note = is_open rules.mode rules.policy note
+meets rules Open note = is_open rules.held rules.policy note
 meets rules Taking note = takes_for_call rules.policy note
 meets rules (Given given) note = may_stand rules.policy given note
 meets rules Nothing note = false
@@ -142,7 +143,7 @@ names_method site other = false
 -- a call of the method is granted, with all arguments loaded and with the lock as the mode has it
 abbrev pub is_granted : Rules → Target → Note → Bool
 is_granted rules ref (notes.Granted site locked count top) =
-    names_method site ref && ((count == needs rules.policy site.method) && beq locked (is_hold rules.mode))
+    names_method site ref && ((count == needs rules.policy site.method) && beq locked (holds_round rules.held site.method))
 is_granted rules ref notes.Free = false
 is_granted rules ref (notes.Taking site) = false
 is_granted rules ref (notes.Held site failed holding list map) = false
@@ -202,7 +203,7 @@ rules_at rules told method note here row =
     -- the way out is as the table has it, and begins where it is asked for
     ∷ (7, if is_stop note then is_some row else all_pass (stops_well rules) told row method here)
     -- what comes next is as the table has it; a method begins in no block
-    ∷ (8, is_some row && (all_pass (meets rules) told row method here && (not (here.at == 0) || is_open rules.mode rules.policy note)))
+    ∷ (8, is_some row && (all_pass (meets rules) told row method here && (not (here.at == 0) || is_open rules.held rules.policy note)))
     ∷ []
 
 abbrev pub row_fault : Rules → List Note → Method → Here → Note → Option ℕ

@@ -8,6 +8,7 @@ use Rattle.bytecode_model.specs.declared.program.Program.{Program}
 use Rattle.bytecode_model.specs.Sound.{IsSound}
 use Rattle.bytecode_model.specs.Typed.{reached}
 use Rattle.cert_format.specs.declared.certificate.Certificate.{Certificate}
+use Rattle.block_logic.specs.Annotations.{Annotations, annotations_of}
 use Rattle.conspec_automaton.specs.declared.policy.Clause.{Clause}
 use Rattle.conspec_automaton.specs.declared.policy.Policy.{Policy}
 use Rattle.conspec_automaton.specs.Next.{has_clause}
@@ -17,9 +18,9 @@ use Rattle.guest_model.specs.declared.machine.Step.{Step}
 use Rattle.guest_model.specs.Calls.{arity, types_of}
 use Rattle.guest_model.specs.Runs.{exec, seen, trace}
 use Rattle.guest_model.specs.Standing.{HasInsns, IsClosed}
-use Rattle.block_logic.specs.Accepted.{IsAccepted}
+use Rattle.block_logic.specs.Accepted.{AreAccepted}
 use Rattle.block_logic.specs.Fitting.{held_locks, locked_by}
-use Rattle.block_logic.specs.Meaning.{Promised}
+use Rattle.block_logic.specs.Meaning.{IsJudged}
 
 -- A clause tells how many arguments its method takes, and whether it gives something.
 abbrev pub FitsListing : Listing → Clause → Type 0
@@ -28,25 +29,25 @@ FitsListing listing clause =
     → (length clause.args ≡ arity method.id.desc) × (is_some clause.result ≡ is_some (types_of method.id.desc).result)
 
 -- What is known of a program that is accepted, and of its policy.
-pub record IsObeying (program : Program) (policy : Policy) (certificate : Certificate) : Type 0 where
-  pub promised : Promised certificate.mode policy
+pub record IsObeying (program : Program) (policy : Policy) (annotations : Annotations) : Type 0 where
+  pub judged : IsJudged annotations.held policy
   pub sound : IsSound program
   pub good : IsPolicy policy
   pub named : NamesMethods (length program.listing.methods) policy
   pub listed : AllByRecursion (FitsListing program.listing) policy.clauses
-  pub accepted : IsAccepted program policy certificate
+  pub accepted : AreAccepted program policy annotations
   pub insns : HasInsns program
-  pub closed : IsClosed program (reached program certificate.typing)
+  pub closed : IsClosed program (reached program annotations.typing)
 
 -- Its events obey, whatever the steps.
 abbrev pub AcceptedObeys : Type 0
 AcceptedObeys =
-    (program : Program) (policy : Policy) (certificate : Certificate) → IsObeying program policy certificate
+    (program : Program) (policy : Policy) (certificate : Certificate) → IsObeying program policy (annotations_of certificate)
     → (steps : List Step) → Obeys certificate.mode policy (trace program steps)
 
 -- While a thread holds the lock, no step of another thread has an event with a clause.
 abbrev pub LockOrders : Type 0
 LockOrders =
-    (program : Program) (policy : Policy) (certificate : Certificate) → IsObeying program policy certificate
+    (program : Program) (policy : Policy) (annotations : Annotations) → IsObeying program policy annotations
     → (steps : List Step) (owner : ℕ) (step : Step) → held_locks program (exec program steps).monitors ≡ locked_by program owner
     → step.thread ≢ owner → AllByRecursion (λ (e : Event). has_clause policy e ≡ false) (seen program (exec program steps) step)

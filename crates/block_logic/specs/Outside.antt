@@ -6,13 +6,13 @@ use Rattle.insn_codec.specs.declared.shape.Shape.{Shape}
 use Rattle.insn_codec.specs.Shapes.{shape_of}
 use Rattle.bytecode_model.specs.declared.program.Program.{Program}
 use Rattle.bytecode_model.specs.declared.program.Target.{Target}
-use Rattle.cert_format.specs.declared.certificate.Certificate.{Certificate}
+use Rattle.block_logic.specs.Annotations.{Annotations}
 use Rattle.cert_format.specs.declared.note.Note.{Note}
 use Rattle.cert_format.specs.declared.note.Note.TheVariants as notes
 use Rattle.cert_format.specs.declared.note.Phase8.TheVariants.{Before}
 use Rattle.conspec_automaton.specs.declared.policy.Policy.{Policy}
 use Rattle.guest_model.specs.Standing.{IsAt}
-use Rattle.block_logic.specs.Accepted.{IsAccepted}
+use Rattle.block_logic.specs.Accepted.{AreAccepted}
 use Rattle.block_logic.specs.Clauses.{clause_at}
 use Rattle.block_logic.specs.Meaning.{note_at, note_in}
 use Rattle.block_logic.specs.Notes.{handlers_of}
@@ -30,9 +30,9 @@ IsOutside policy (notes.Owed site stage kept top) = ⊥
 IsOutside policy (notes.Stop site place) = ⊥
 
 -- The instruction of this index has such a note.
-pub record StandsOutside (program : Program) (policy : Policy) (certificate : Certificate) (class method at : ℕ) : Type 0 where
+pub record StandsOutside (program : Program) (policy : Policy) (annotations : Annotations) (class method at : ℕ) : Type 0 where
   pub note : Note
-  pub told : note_in program certificate class method at ≡ Some note
+  pub told : note_in program annotations class method at ≡ Some note
   pub outside : IsOutside policy note
 
 -- ---- where errors lead
@@ -47,12 +47,12 @@ is_granted_call (notes.Owed site stage kept top) shape ref = false
 is_granted_call (notes.Stop site place) shape ref = false
 
 -- Wherever control comes, but at a granted call, each handler that may take what is thrown stands out of each block.
-abbrev pub LeavesBlocks : Program → Policy → Certificate → Type 0
-LeavesBlocks program policy certificate =
+abbrev pub LeavesBlocks : Program → Policy → Annotations → Type 0
+LeavesBlocks program policy annotations =
     (class method at : ℕ) (insn : Insn) (ref : Target) (note : Note) (there : IsAt program class method at insn ref)
-    → note_at program certificate class method at ≡ Some note → is_granted_call note (shape_of insn) ref ≡ false
-    → AllByRecursion (StandsOutside program policy certificate class method) (handlers_of at there.of.handlers)
+    → note_at program annotations class method at ≡ Some note → is_granted_call note (shape_of insn) ref ≡ false
+    → AllByRecursion (StandsOutside program policy annotations class method) (handlers_of at there.of.handlers)
 
 -- It is so in each program that is accepted.
 abbrev pub ErrorsLeaveBlocks : Type 0
-ErrorsLeaveBlocks = (program : Program) (policy : Policy) (certificate : Certificate) → IsAccepted program policy certificate → LeavesBlocks program policy certificate
+ErrorsLeaveBlocks = (program : Program) (policy : Policy) (annotations : Annotations) → AreAccepted program policy annotations → LeavesBlocks program policy annotations

@@ -8,7 +8,6 @@ use Rattle.insn_codec.specs.declared.shape.Relation.TheVariants as relations
 use Rattle.insn_codec.specs.declared.shape.Shape.{Shape}
 use Rattle.bytecode_model.specs.declared.program.Target.{Target}
 use Rattle.bytecode_model.specs.declared.program.Target.TheVariants as target
-use Rattle.cert_format.specs.declared.certificate.Mode.{Mode}
 use Rattle.cert_format.specs.declared.note.Note.{Note}
 use Rattle.cert_format.specs.declared.note.Note.TheVariants as notes
 use Rattle.cert_format.specs.declared.note.Phase8.TheVariants.{Before, After, Exceptional}
@@ -21,14 +20,17 @@ use Rattle.conspec_tree.specs.declared.types.Rel.TheVariants as rels
 use Rattle.conspec_automaton.specs.declared.policy.Branch.{Branch}
 use Rattle.conspec_automaton.specs.declared.policy.Clause.{Clause}
 use Rattle.conspec_automaton.specs.declared.policy.Policy.{Policy}
+use Rattle.block_logic.specs.Annotations.{holds_round}
+use Rattle.block_logic.specs.declared.held_calls.HeldCalls.{HeldCalls}
 use Rattle.block_logic.specs.Clauses.{clause_at, clause_of, is_number, needs, result_kind}
 use Rattle.block_logic.specs.Operands.{adds, calls, compared, enters, goes, is_way_out, leaves, loaded, loaded_number, number_pushed, pushes, pushes_null, pushes_state, reads_static, stored, throws, variable_named, writes_static}
-use Rattle.block_logic.specs.Standing.{asks_kept, begun, branches_of, is_after, is_before, is_done, is_hold, in_phase}
+use Rattle.block_logic.specs.Standing.{asks_kept, begun, branches_of, is_after, is_before, is_done, in_phase}
 use Rattle.block_logic.specs.Terms.{base_term, same_term, same_terms}
 
--- what the rules are told besides: the mode, the policy, and the number of the class that holds its variables
+-- what the rules are told besides: of which methods the lock is held round each call, the policy, and the number of the class that
+-- holds its variables
 pub record Rules : Type 0 where
-  pub mode : Mode
+  pub held : HeldCalls
   pub policy : Policy
   pub state : ℕ
 
@@ -256,31 +258,31 @@ calls_of site shape (target.ClassName name) = false
 calls_of site shape (target.Number n) = false
 calls_of site shape (target.Literal index) = false
 
--- Behind the call: in mode hold its lock is still held; in mode release an update is due where a clause is for the return.
+-- Behind the call its lock is still held, if it is held round the call; if not, an update is due where a clause is for the return.
 abbrev pub returned : Rules → Site → Asked
 returned rules site =
-    if is_hold rules.mode then Given (notes.Owed (in_phase After site) 1 false false)
+    if holds_round rules.held site.method then Given (notes.Owed (in_phase After site) 1 false false)
     else if is_some (clause_at rules.policy site.method After) then Given (notes.Owed (in_phase After site) 0 false false)
     else Open
 
 -- Whether what the call throws is a duty of its block.
 abbrev pub is_duty : Rules → ℕ → Bool
-is_duty rules method = is_hold rules.mode || is_some (clause_at rules.policy method Exceptional)
+is_duty rules method = holds_round rules.held method || is_some (clause_at rules.policy method Exceptional)
 
-abbrev pub stage_behind : Mode → ℕ
-stage_behind mode = if is_hold mode then 1 else 0
+abbrev pub stage_behind : Bool → ℕ
+stage_behind held = if held then 1 else 0
 
 -- where the call throws
 abbrev pub thrown : Rules → Site → Asked
 thrown rules site =
-    if is_duty rules site.method then Given (notes.Owed (in_phase Exceptional site) (stage_behind rules.mode) false false) else Open
+    if is_duty rules site.method then Given (notes.Owed (in_phase Exceptional site) (stage_behind (holds_round rules.held site.method)) false false) else Open
 
 abbrev pub granted_row : Rules → Site → Bool → ℕ → Bool → Shape → Target → Option Row
 granted_row rules site locked count top shape ref =
     first_row (only_if (not top && (nat_lt count (needs rules.policy site.method) && option_map_or (λ slot. slot == site.base + count) (loaded shape) false)) (gives (notes.Granted site locked (count + 1) false)))
     (first_row (only_if (locked && (not top && pushes_state shape ref)) (gives (notes.Granted site locked count true)))
     (first_row (only_if (locked && (top && leaves shape)) (gives (notes.Granted site false count false)))
-    (only_if (not top && ((count == needs rules.policy site.method) && (beq locked (is_hold rules.mode) && calls_of site shape ref)))
+    (only_if (not top && ((count == needs rules.policy site.method) && (beq locked (holds_round rules.held site.method) && calls_of site shape ref)))
     (Some (record { past = returned rules site; jump = Nothing; thrown = thrown rules site })))))
 
 -- ---- Owed

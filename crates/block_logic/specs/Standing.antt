@@ -2,8 +2,6 @@
 use Rattle.std.specs.Bool.{beq}
 use Rattle.std.specs.Prelude.{ℕ, ◌==◌, ◌&&◌, ◌||◌, not, Bool, true, false, if◌then◌else◌, List, [], ◌∷◌, length, is_some, slice_get}
 use Rattle.std.specs.Option.{option_map_or}
-use Rattle.cert_format.specs.declared.certificate.Mode.{Mode}
-use Rattle.cert_format.specs.declared.certificate.Mode.TheVariants as modes
 use Rattle.cert_format.specs.declared.note.Note.{Note}
 use Rattle.cert_format.specs.declared.note.Note.TheVariants as notes
 use Rattle.cert_format.specs.declared.note.Phase8.{Phase8}
@@ -14,6 +12,8 @@ use Rattle.conspec_automaton.specs.declared.policy.Branch.{Branch}
 use Rattle.conspec_automaton.specs.declared.policy.Clause.{Clause}
 use Rattle.conspec_automaton.specs.declared.policy.Policy.{Policy}
 use Rattle.conspec_automaton.specs.Next.{has_clauses}
+use Rattle.block_logic.specs.Annotations.{holds_round}
+use Rattle.block_logic.specs.declared.held_calls.HeldCalls.{HeldCalls}
 use Rattle.block_logic.specs.Clauses.{clause_at, clause_of, result_kind}
 use Rattle.block_logic.specs.Terms.{after_updates, as_taken, same_terms}
 
@@ -117,22 +117,18 @@ may_stand policy (notes.Stop site place) note = same_note (notes.Stop site place
 
 -- ---- no block
 
-abbrev pub is_hold : Mode → Bool
-is_hold modes.Hold = true
-is_hold modes.Release = false
-
--- A call with clauses, of which none is before it, needs no lock in mode release.
-abbrev pub needs_no_grant : Mode → Policy → Site → Bool
-needs_no_grant mode policy site = not (is_hold mode) && (has_clauses policy site.method && not (is_some (clause_at policy site.method Before)))
+-- A call with clauses, of which none is before it, needs no lock where the lock is not held round calls of its method.
+abbrev pub needs_no_grant : HeldCalls → Policy → Site → Bool
+needs_no_grant held policy site = not (holds_round held site.method) && (has_clauses policy site.method && not (is_some (clause_at policy site.method Before)))
 
 -- The thread is in no block: in the client's code, or before a call that needs no lock.
-abbrev pub is_open : Mode → Policy → Note → Bool
-is_open mode policy notes.Free = true
-is_open mode policy (notes.Taking site) = false
-is_open mode policy (notes.Held site failed holding terms map) = false
-is_open mode policy (notes.Granted site locked loaded top) = needs_no_grant mode policy site && (not locked && ((loaded == 0) && not top))
-is_open mode policy (notes.Owed site stage kept top) = false
-is_open mode policy (notes.Stop site place) = false
+abbrev pub is_open : HeldCalls → Policy → Note → Bool
+is_open held policy notes.Free = true
+is_open held policy (notes.Taking site) = false
+is_open held policy (notes.Held site failed holding terms map) = false
+is_open held policy (notes.Granted site locked loaded top) = needs_no_grant held policy site && (not locked && ((loaded == 0) && not top))
+is_open held policy (notes.Owed site stage kept top) = false
+is_open held policy (notes.Stop site place) = false
 
 -- The lock is about to be taken before a call that the policy has a clause for.
 abbrev pub takes_for_call : Policy → Note → Bool

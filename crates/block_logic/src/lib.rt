@@ -5,26 +5,25 @@
 
 mod checks;
 mod clauses;
+mod held_calls;
 mod laws;
 mod lent;
 mod operands;
 mod rules;
 mod standing;
+mod table;
 mod terms;
 
-pub use checks::{check_row, failing, holding_on};
-pub use clauses::{clause_at, clause_of, needs, result_kind};
+pub use checks::{failing, holding_on};
+pub use held_calls::HeldCalls;
 pub use laws::{accepted_obeys, errors_leave_blocks, free_lock_is_taken};
 pub use lent::{
-    AskedRef, CheckRef, DueRef, HeldRef, NoteRef, RowRef, TermsRef, WideTerm, due_asked, gives,
-    leads,
+    AskedRef, CheckRef, DueRef, HeldRef, NoteRef, RowRef, TermsRef, WideTerm, due_asked,
 };
 pub use operands::{
-    STATE, calls, enters, has_clause, is_way_out, leaves, loaded, pushes, pushes_null,
-    pushes_state, stored, throws, variable_named, writes_static,
+    STATE, calls, enters, has_clause, is_way_out, leaves, pushes_state, variable_named,
+    writes_static,
 };
 pub use rules::{Here, Rules};
-pub use standing::{
-    asks_kept, begun, in_phase, is_after, is_exceptional, is_hold, is_open, may_stand,
-    takes_for_call,
-};
+pub use standing::{is_exceptional, is_open, may_stand, takes_for_call};
+pub use table::{is_duty, is_ready, row, thrown};

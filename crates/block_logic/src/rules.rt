@@ -1,15 +1,15 @@
 //! What the rules of the notes are told of a program, and of an instruction.
 
+use crate::held_calls::HeldCalls;
 use bytecode_model::Target;
-use cert_format::Mode;
 use conspec_automaton::Policy;
 use insn_codec::{Insn, Shape};
 use std::marker::Model;
 
-/// The mode, the policy, and the number of the class that holds the policy's variables.
+/// Round which calls the lock is held, the policy, and the number of the class that holds the policy's variables.
 #[derive(Drop)]
 pub struct Rules<'a> {
-    pub mode: Mode,
+    pub held: HeldCalls,
     pub policy: &'a Policy,
     pub state: u32,
 }
@@ -19,7 +19,7 @@ impl<'a> Model for Rules<'a> {
 
     ghost Value = { Told };
 
-    ghost view = { λ r. record { mode = r.mode; policy = r.policy.now; state = r.state } };
+    ghost view = { λ r. record { held = r.held; policy = r.policy.now; state = r.state } };
 }
 
 /// An instruction: its index, itself, what it does, and what its operand names.

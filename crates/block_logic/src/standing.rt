@@ -4,14 +4,16 @@ ghost use Rattle.std.specs.Prelude.{◌≡◌, ◌&&◌};
 ghost use Rattle.cert_format.specs.declared.note.Note.TheVariants as notes;
 ghost use Rattle.block_logic.specs.Lent.{held_lent, note_lent, terms_lent};
 ghost use Rattle.block_logic.specs.Standing.{asks_kept, begun, branches_of, done, fails, in_phase, is_after, is_before, is_done};
-ghost use Rattle.block_logic.specs.Standing.{is_empty, is_exceptional, is_hold, is_open, may_begin, may_stand, needs_no_grant};
+ghost use Rattle.block_logic.specs.Standing.{is_empty, is_exceptional, is_open, may_begin, may_stand, needs_no_grant};
 ghost use Rattle.block_logic.specs.Standing.{same_note, same_phase, same_site, stands_for_held, takes_for_call};
 ghost use Rattle.block_logic.specs.Terms.{as_taken};
 
 use crate::clauses::{clause_at, clause_of, result_kind};
+use crate::held_calls::holds_round;
 use crate::lent::{HeldRef, NoteRef, TermsRef};
+use crate::rules::Rules;
 use crate::terms::{length_of, same_terms, same_told};
-use cert_format::{Mode, Note, Phase8, Site};
+use cert_format::{Note, Phase8, Site};
 use conspec_automaton::{Branch, Policy, has_clauses};
 
 // ---- sites
@@ -294,26 +296,20 @@ pub fn may_stand(policy: &Policy, given: &NoteRef<'_>, note: &Note) -> bool
 
 // ---- no block
 
-/// Whether the lock is held while a call with a clause is made.
-pub fn is_hold(mode: Mode) -> bool
-    ensures { result ≡ is_hold mode }
-{
-    matches!(mode, Mode::Hold)
-}
-
-/// Whether a call needs no lock: in mode release one with clauses, of which none is before it.
-fn needs_no_grant(mode: Mode, policy: &Policy, site: Site) -> bool
-    ensures { result ≡ needs_no_grant mode policy.now site }
+/// Whether a call needs no lock: one with clauses, of which none is before it, where the lock is not held round calls of its
+/// method.
+fn needs_no_grant(rules: &Rules<'_>, site: Site) -> bool
+    ensures { result ≡ needs_no_grant rules.now.held rules.now.policy site }
 {
     let method = u32::from(site.method);
-    !is_hold(mode)
-        && has_clauses(policy, method)
-        && clause_at(policy, method, Phase8::Before).is_none()
+    !holds_round(rules.held, method)
+        && has_clauses(rules.policy, method)
+        && clause_at(rules.policy, method, Phase8::Before).is_none()
 }
 
 /// Whether the thread is in no block: in the client's code, or before a call that needs no lock.
-pub fn is_open(mode: Mode, policy: &Policy, note: &Note) -> bool
-    ensures { result ≡ is_open mode policy.now note.now }
+pub fn is_open(rules: &Rules<'_>, note: &Note) -> bool
+    ensures { result ≡ is_open rules.now.held rules.now.policy note.now }
 {
     match note {
         Note::Free => true,
@@ -322,7 +318,7 @@ pub fn is_open(mode: Mode, policy: &Policy, note: &Note) -> bool
             locked,
             loaded,
             top,
-        } => needs_no_grant(mode, policy, *site) && !*locked && *loaded == 0 && !*top,
+        } => needs_no_grant(rules, *site) && !*locked && *loaded == 0 && !*top,
         _ => false,
     }
 }

@@ -14,6 +14,7 @@ use Rattle.bytecode_model.specs.Rules.{frame_of}
 use Rattle.bytecode_model.specs.Layout.{has_code, coded}
 use Rattle.bytecode_model.specs.Typed.{frames_in, frames_told, list_at}
 use Rattle.conspec_automaton.specs.declared.policy.Policy.{Policy}
+use Rattle.block_logic.specs.Annotations.{Annotations, annotations_of}
 use Rattle.block_logic.specs.Accepted.{notes_in, notes_told, reached_fault, fault_in_class, note_fault_at, rules_of}
 use Rattle.cert_checker.specs.Acceptance.{in_method, in_methods, in_classes, notes_fault}
 use Rattle.block_logic.specs.Notes.{note_fault}
@@ -169,16 +170,19 @@ module _ (rules : Rules) where
 -- ---- the whole
 
 module _ (program : Program) (policy : Policy) (certificate : Certificate) where
+  abbrev annotations : Annotations
+  annotations = annotations_of certificate
+
   abbrev of_frames : ℕ → List (List (Option FrameType))
   of_frames class = frames_told certificate.typing class
 
   abbrev of_notes : ℕ → List (List Note)
-  of_notes class = notes_told certificate class
+  of_notes class = notes_told annotations class
 
   abbrev rules : Rules
-  rules = rules_of program policy certificate
+  rules = rules_of program policy annotations
 
-  pub none_wrong : notes_fault program policy certificate ≡ None → (class method at : ℕ) → note_fault_at program policy certificate class method at ≡ None
+  pub none_wrong : notes_fault program policy certificate ≡ None → (class method at : ℕ) → note_fault_at program policy annotations class method at ≡ None
   none_wrong none class method at = by_class (slice_get program.classes class) refl where
     by_method : (c : LinkedClass) → slice_get program.classes class ≡ Some c → (o : Option Method) → slice_get c.methods method ≡ o
         → option_and_then (λ (m : Method). reached_fault rules (frames_in c.methods (of_frames class) method) (notes_in c.methods (of_notes class) method) m at) o ≡ None
@@ -188,19 +192,19 @@ module _ (program : Program) (policy : Policy) (certificate : Certificate) where
         free_methods rules 0 c.methods (of_frames class) (of_notes class)
         (free_classes rules 0 program.classes certificate.typing.frames certificate.notes none class c there) method m e coded)
 
-    by_class : (o : Option LinkedClass) → slice_get program.classes class ≡ o → option_and_then (λ (c : LinkedClass). fault_in_class rules certificate class c method at) o ≡ None
+    by_class : (o : Option LinkedClass) → slice_get program.classes class ≡ o → option_and_then (λ (c : LinkedClass). fault_in_class rules annotations class c method at) o ≡ None
     by_class None e = refl
     by_class (Some c) e = by_method c e (slice_get c.methods method) refl
 
   -- what is said of a place, by what stands there
   said_at : (class method : ℕ) (c : LinkedClass) (m : Method) → slice_get program.classes class ≡ Some c → slice_get c.methods method ≡ Some m
-      → ((at : ℕ) → note_fault_at program policy certificate class method at ≡ None)
+      → ((at : ℕ) → note_fault_at program policy annotations class method at ≡ None)
       → (at : ℕ) → reached_fault rules (frames_in c.methods (of_frames class) method) (notes_in c.methods (of_notes class) method) m at ≡ None
   said_at class method c m there in_class none at =
-      let same : note_fault_at program policy certificate class method at ≡ reached_fault rules (frames_in c.methods (of_frames class) method) (notes_in c.methods (of_notes class) method) m at = rw (there, in_class) refl in
+      let same : note_fault_at program policy annotations class method at ≡ reached_fault rules (frames_in c.methods (of_frames class) method) (notes_in c.methods (of_notes class) method) m at = rw (there, in_class) refl in
       sym same ∙ none at
 
-  pub wrong_none : ((class method at : ℕ) → note_fault_at program policy certificate class method at ≡ None) → notes_fault program policy certificate ≡ None
+  pub wrong_none : ((class method at : ℕ) → note_fault_at program policy annotations class method at ≡ None) → notes_fault program policy certificate ≡ None
   wrong_none none =
       none_classes rules 0 program.classes certificate.typing.frames certificate.notes (λ class c there.
       none_methods rules 0 c.methods (of_frames class) (of_notes class) (λ method m in_class coded.

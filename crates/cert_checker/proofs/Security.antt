@@ -12,13 +12,15 @@ use Rattle.bytecode_model.specs.declared.program.Target.{Target}
 use Rattle.bytecode_model.specs.Sound.{IsSound, IsSoundClass, IsSoundMethod, IsWithin}
 use Rattle.bytecode_model.specs.Typed.{reached}
 use Rattle.cert_format.specs.declared.certificate.Certificate.{Certificate}
+use Rattle.cert_format.specs.declared.certificate.Mode.{Mode}
 use Rattle.code_typing.specs.Closed.{BeginsReached, GoesToReached, IsCaughtReached}
 use Rattle.conspec_automaton.specs.declared.policy.Policy.{Policy}
 use Rattle.conspec_automaton.specs.Sound.{IsPolicy, NamesMethods}
 use Rattle.guest_model.specs.Places.{method_at, insn_in}
 use Rattle.guest_model.specs.Standing.{HasInsns, IsClosed}
 use Rattle.block_logic.specs.Accepted.{IsAccepted}
-use Rattle.block_logic.specs.Meaning.{Promised}
+use Rattle.block_logic.specs.Annotations.{held_in}
+use Rattle.block_logic.specs.Meaning.{IsJudged, Promised}
 use Rattle.block_logic.specs.Obeying.{AcceptedObeys, FitsListing}
 use Rattle.cert_checker.specs.Secure.{Secure}
 use Rattle.cert_checker.proofs.Options.{all_at, and_then_of}
@@ -60,6 +62,11 @@ pub record Laws : Type 0 where
   pub begin : BeginsReached
   pub next : GoesToReached
   pub caught : IsCaughtReached
+
+-- what is promised of the mode, as it is said of the calls round which the lock is held
+judged : (mode : Mode) (policy : Policy) → Promised mode policy → IsJudged (held_in mode) policy
+judged mode policy (inl hold) = inl (λ method. rw hold refl)
+judged mode policy (inr denies) = inr denies
 
 -- what is known of a program and a policy before the check
 pub record IsGiven (program : Program) (policy : Policy) : Type 0 where
@@ -116,7 +123,7 @@ module _ (laws : Laws) (program : Program) (policy : Policy) (certificate : Cert
 
   pub secure : Promised certificate.mode policy → Secure certificate.mode program policy
   secure promised steps = laws.obeys program policy certificate (record {
-    promised = promised;
+    judged = judged certificate.mode policy promised;
     sound = given.sound;
     good = given.good;
     named = given.named;

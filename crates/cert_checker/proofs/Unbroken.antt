@@ -80,7 +80,7 @@ pub unbroken : (rules : Rules) (told : List Note) (method : Method) (note : Note
     → goes_well rules told method note here row ≡ true → first_broken (drop 3 (rules_at rules told method note here row)) ≡ None
 unbroken rules told method note here row e =
     let shape = shape_of here.insn in
-    let begins : Bool = not (here.at == 0) || is_open rules.mode rules.policy note in
+    let begins : Bool = not (here.at == 0) || is_open rules.held rules.policy note in
     let has_row : Bool = is_some row in
     let passes : Bool = all_pass (meets rules) told row method here in
     let stops : Bool = all_pass (stops_well rules) told row method here in

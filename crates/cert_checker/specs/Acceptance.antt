@@ -14,6 +14,7 @@ use Rattle.conspec_automaton.specs.declared.policy.Policy.{Policy}
 use Rattle.cert_checker.specs.declared.fault.CheckFault.{CheckFault}
 use Rattle.cert_checker.specs.declared.fault.CheckFault.TheVariants.{Shape, Typing, StateClass, Local}
 use Rattle.cert_checker.specs.declared.checking.Accepted.{Accepted}
+use Rattle.block_logic.specs.Annotations.{annotations_of}
 use Rattle.block_logic.specs.Accepted.{reached_fault, rules_of}
 use Rattle.block_logic.specs.Operands.{has_clause}
 use Rattle.block_logic.specs.Rows.{Rules}
@@ -61,7 +62,7 @@ in_classes rules at (c ∷ cs) frames notes =
 
 -- class, method, instruction and rule of the first note that is wrong
 abbrev pub notes_fault : Program → Policy → Certificate → Option (ℕ × (ℕ × (ℕ × ℕ)))
-notes_fault program policy certificate = in_classes (rules_of program policy certificate) 0 program.classes certificate.typing.frames certificate.notes
+notes_fault program policy certificate = in_classes (rules_of program policy (annotations_of certificate)) 0 program.classes certificate.typing.frames certificate.notes
 
 -- ---- the answer
 

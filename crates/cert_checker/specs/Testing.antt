@@ -20,7 +20,7 @@ passes rules Takes = is_asked_taking
 -- What comes next is as the table has it; a method begins in no block.
 abbrev pub goes_well : Rules → List Note → Method → Note → Here → Option Row → Bool
 goes_well rules told method note here row =
-    is_some row && (all_pass (meets rules) told row method here && (not (here.at == 0) || is_open rules.mode rules.policy note))
+    is_some row && (all_pass (meets rules) told row method here && (not (here.at == 0) || is_open rules.held rules.policy note))
 
 -- The test passes for the next instruction with what is asked past this one, and for those that are jumped to with what is asked
 -- there.

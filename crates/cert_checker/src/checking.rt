@@ -9,6 +9,7 @@ ghost use Rattle.block_logic.specs.Accepted.{IsAccepted};
 ghost use Rattle.block_logic.specs.Meaning.{Promised};
 ghost use Rattle.block_logic.specs.Obeying.{FitsListing};
 ghost use Rattle.block_logic.specs.Operands.{has_clause};
+ghost use Rattle.block_logic.specs.Annotations.{annotations_of};
 ghost use Rattle.block_logic.specs.Outside.{LeavesBlocks};
 ghost use Rattle.cert_checker.specs.Acceptance.{sites_of, verdict};
 ghost use Rattle.cert_checker.specs.Secure.{Secure};
@@ -50,7 +51,7 @@ pub fn check(
 
     // In either mode an error that a Java machine throws in a block leads out of it: where it is caught no lock is held, no call
     // with a clause before it is granted, and nothing is owed.
-    ensures leaves_blocks { IsOk result → LeavesBlocks program.now policy.now certificate.now }
+    ensures leaves_blocks { IsOk result → LeavesBlocks program.now policy.now (annotations_of certificate.now) }
 
     // Which answer it is: the first test that fails, with its first place.
     ensures exact { result ≡ verdict program.now policy.now certificate.now }

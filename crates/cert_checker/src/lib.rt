@@ -10,7 +10,6 @@ mod laws;
 mod note_rules;
 mod notes;
 mod passing;
-mod rows;
 mod shape;
 mod state;
 

@@ -11,10 +11,10 @@ ghost use Rattle.block_logic.specs.Operands.{calls, enters, has_clause, leaves, 
 ghost use Rattle.cert_checker.specs.Testing.{goes_well, passes};
 
 use crate::passing::{Test, all_pass, first_handler, is_stop, meets, next_pass};
-use crate::rows::{is_duty, is_ready, row, thrown};
 use block_logic::{
-    AskedRef, Here, RowRef, Rules, calls, due_asked, enters, has_clause, is_exceptional, is_open,
-    is_way_out, leaves, pushes_state, variable_named, writes_static,
+    AskedRef, Here, RowRef, Rules, calls, due_asked, enters, has_clause, is_duty, is_exceptional,
+    is_open, is_ready, is_way_out, leaves, pushes_state, row, thrown, variable_named,
+    writes_static,
 };
 use bytecode_model::{Handler, Method, Target};
 use cert_format::{Note, Site};
@@ -161,7 +161,7 @@ fn names_method(site: Site, target: &Target) -> bool
     }
 }
 
-/// Whether a call of the method is granted, with all arguments loaded and with the lock as the mode has it.
+/// Whether a call of the method is granted, with all arguments loaded and with the lock held exactly where it is held round the call.
 fn is_granted(rules: &Rules<'_>, target: &Target, note: &Note) -> bool
     ensures { result ≡ is_granted rules.now target.now note.now }
 {
@@ -310,5 +310,5 @@ fn goes_as_asked(
 {
     row.is_some()
         && all_pass(rules, Test::Meets, told, row, method, here)
-        && (here.at != 0 || is_open(rules.mode, rules.policy, note))
+        && (here.at != 0 || is_open(rules, note))
 }

@@ -4,11 +4,12 @@ ghost use Rattle.std.specs.Prelude.{◌≡◌, is_some};
 ghost use Rattle.bytecode_model.specs.Sound.{IsSound, IsSoundClass, IsSoundMethod};
 ghost use Rattle.bytecode_model.specs.Rules.{frame_of};
 ghost use Rattle.block_logic.specs.Accepted.{reached_fault, rules_of};
+ghost use Rattle.block_logic.specs.Annotations.{annotations_of};
 ghost use Rattle.cert_checker.specs.Acceptance.{in_classes, in_method, in_methods, notes_fault};
 
 use crate::note_rules::note_fault;
 use crate::state::state_at;
-use block_logic::Rules;
+use block_logic::{HeldCalls, Rules};
 use bytecode_model::{LinkedClass, Method, Program, behind_first, list_at};
 use cert_format::{Certificate, FrameType, Note};
 use conspec_automaton::Policy;
@@ -31,7 +32,7 @@ pub fn notes_fault(
 /// names none.
 fn rules_of<'a>(program: &Program, policy: &'a Policy, certificate: &Certificate) -> Rules<'a>
     requires { IsSound program.now }
-    ensures { result ≡ rules_of program.now policy.now certificate.now }
+    ensures { result ≡ rules_of program.now policy.now (annotations_of certificate.now) }
 {
     let classes = program.classes.as_slice();
     let state = match state_at(classes) {
@@ -39,7 +40,7 @@ fn rules_of<'a>(program: &Program, policy: &'a Policy, certificate: &Certificate
         None => classes.len() as u32,
     };
     Rules {
-        mode: certificate.mode,
+        held: HeldCalls::of(certificate.mode),
         policy,
         state,
     }

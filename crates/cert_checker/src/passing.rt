@@ -33,7 +33,7 @@ pub fn meets(rules: &Rules<'_>, asked: &AskedRef<'_>, note: &Note) -> bool
     ensures { result ≡ meets rules.now (asked_lent asked.now) note.now }
 {
     match asked {
-        AskedRef::Open => is_open(rules.mode, rules.policy, note),
+        AskedRef::Open => is_open(rules, note),
         AskedRef::Taking => takes_for_call(rules.policy, note),
         AskedRef::Given(given) => may_stand(rules.policy, given, note),
         AskedRef::Nothing => false,

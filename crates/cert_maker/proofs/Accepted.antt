@@ -29,6 +29,7 @@ use Rattle.conspec_automaton.specs.Sound.{IsPolicy}
 use Rattle.offset_patch.specs.Plan.{Plan}
 use Rattle.offset_patch.specs.Splicing.{fronts_of}
 use Rattle.block_template.specs.Blocks.{plan_of}
+use Rattle.block_logic.specs.Annotations.{Annotations, annotations_of, held_in}
 use Rattle.block_logic.specs.Accepted.{IsAccepted, fault_in_class, note_fault_at, notes_in, notes_told, reached_fault, rules_of}
 use Rattle.block_logic.specs.Notes.{note_fault}
 use Rattle.block_logic.specs.Obeying.{FitsListing}
@@ -108,8 +109,11 @@ module _ (old new : Program) (policy : Policy) (mode : Mode) (typing : Typing) (
   abbrev certificate : Certificate
   certificate = certificate_of old.classes policy mode typing
 
+  abbrev annotations : Annotations
+  annotations = annotations_of certificate
+
   abbrev rules : Rules
-  rules = record { mode = mode; policy = policy; state = state }
+  rules = record { held = held_in mode; policy = policy; state = state }
 
   -- conspec/State stands behind the classes.
   state_is : state_at new.classes ≡ Some state
@@ -117,9 +121,9 @@ module _ (old new : Program) (policy : Policy) (mode : Mode) (typing : Typing) (
       let at : 0 + state ≡ state = omega arith in
       ap state_at is.are ∙ state_found plan state old.classes is.own is.state 0 is.classes free.classes is.last.name ∙ ap Some at
 
-  rules_are : rules_of new policy certificate ≡ rules
+  rules_are : rules_of new policy annotations ≡ rules
   rules_are =
-      ap (λ (o : Option ℕ). record { mode = mode; policy = policy; state = option_map_or (λ (at : ℕ). at) o (length new.classes) }) state_is
+      ap (λ (o : Option ℕ). record { held = held_in mode; policy = policy; state = option_map_or (λ (at : ℕ). at) o (length new.classes) }) state_is
 
   state_fits : state_fault new.classes policy ≡ None
   state_fits =
@@ -208,7 +212,7 @@ module _ (old new : Program) (policy : Policy) (mode : Mode) (typing : Typing) (
             ];
       }
 
-      notes_are : notes_in other.methods (notes_told certificate own) index ≡ told body frames ready
+      notes_are : notes_in other.methods (notes_told annotations own) index ≡ told body frames ready
       notes_are =
           let same = coded_stay policy mode state other.file.pool class.methods other.methods of_class.methods sound_class.methods index in
           let old_has : has_code method ≡ true = code_stays body ∙ has in
@@ -216,7 +220,7 @@ module _ (old new : Program) (policy : Policy) (mode : Mode) (typing : Typing) (
           ∙ subst (λ (k : ℕ). list_at (class_notes policy mode class.methods (list_at typing.frames own)) k ≡ method_notes policy mode method (list_at (list_at typing.frames own) k))
           same (notes_there policy mode class.methods (list_at typing.frames own) index method method_there old_has)
 
-      coded_passes : (at : ℕ) → reached_fault rules frames (notes_in other.methods (notes_told certificate own) index) woven at ≡ None
+      coded_passes : (at : ℕ) → reached_fault rules frames (notes_in other.methods (notes_told annotations own) index) woven at ≡ None
       coded_passes at =
           subst (λ (ns : List Note). reached_fault rules frames ns woven at ≡ None) (sym notes_are) (by (is_some (frame_of frames at)) refl)
         where
@@ -225,7 +229,7 @@ module _ (old new : Program) (policy : Policy) (mode : Mode) (typing : Typing) (
           by true e = passes body frames ready at e
 
     -- a method without code has no instruction
-    bare_passes : has_code woven ≡ false → (at : ℕ) → reached_fault rules frames (notes_in other.methods (notes_told certificate own) index) woven at ≡ None
+    bare_passes : has_code woven ≡ false → (at : ℕ) → reached_fault rules frames (notes_in other.methods (notes_told annotations own) index) woven at ≡ None
     bare_passes none at = by (is_some (frame_of frames at))
       where
         no_insn : slice_get woven.insns at ≡ None
@@ -235,11 +239,11 @@ module _ (old new : Program) (policy : Policy) (mode : Mode) (typing : Typing) (
             no_more zero e = omega arith
             no_more (suc n) e = absurd (false≢true (sym e ∙ lt-ltb 0 (suc n) (omega arith)))
 
-        by : (b : Bool) → cond b (note_fault rules (notes_in other.methods (notes_told certificate own) index) woven at) None ≡ None
+        by : (b : Bool) → cond b (note_fault rules (notes_in other.methods (notes_told annotations own) index) woven at) None ≡ None
         by false = refl
         by true = rw no_insn refl
 
-    method_passes : (at : ℕ) → reached_fault rules frames (notes_in other.methods (notes_told certificate own) index) woven at ≡ None
+    method_passes : (at : ℕ) → reached_fault rules frames (notes_in other.methods (notes_told annotations own) index) woven at ≡ None
     method_passes at =
         elim (cases_Bool (has_code woven)) [
           | inl has ↦ coded_passes has at
@@ -248,27 +252,27 @@ module _ (old new : Program) (policy : Policy) (mode : Mode) (typing : Typing) (
 
   -- ---- all methods
 
-  no_fault : (own index at : ℕ) → note_fault_at new policy certificate own index at ≡ None
+  no_fault : (own index at : ℕ) → note_fault_at new policy annotations own index at ≡ None
   no_fault own index at =
-      ap (λ (r : Rules). option_and_then (λ (c : LinkedClass). fault_in_class r certificate own c index at) (slice_get new.classes own)) rules_are
+      ap (λ (r : Rules). option_and_then (λ (c : LinkedClass). fault_in_class r annotations own c index at) (slice_get new.classes own)) rules_are
       ∙ by (slice_get new.classes own) refl
     where
       in_class : (class other : LinkedClass) → slice_get old.classes own ≡ Some class → slice_get new.classes own ≡ Some other
           → IsWovenClass plan state class other → (o : Option Method) → slice_get other.methods index ≡ o
-          → option_and_then (λ (m : Method). reached_fault rules (frames_in other.methods (frames_told typing own) index) (notes_in other.methods (notes_told certificate own) index) m at) o ≡ None
+          → option_and_then (λ (m : Method). reached_fault rules (frames_in other.methods (frames_told typing own) index) (notes_in other.methods (notes_told annotations own) index) m at) o ≡ None
       in_class class other there other_there of_class None e = refl
       in_class class other there other_there of_class (Some woven) e =
           let m = each_back (IsWovenMethod plan state other.file.pool) class.methods other.methods index woven of_class.methods e in
           method_passes own index class other m.0 woven there other_there of_class m.1 e m.2 at
 
-      by : (o : Option LinkedClass) → slice_get new.classes own ≡ o → option_and_then (λ (c : LinkedClass). fault_in_class rules certificate own c index at) o ≡ None
+      by : (o : Option LinkedClass) → slice_get new.classes own ≡ o → option_and_then (λ (c : LinkedClass). fault_in_class rules annotations own c index at) o ≡ None
       by None e = refl
       by (Some other) e =
           elim (class_of plan state old.classes is.own is.state is.classes own other (ap (λ (cs : List LinkedClass). slice_get cs own) (sym is.are) ∙ e)) [
             | inl found ↦ in_class found.0 other found.1 e found.2 (slice_get other.methods index) refl
             | inr same ↦
                 let none : other.methods ≡ [] = ap (λ (c : LinkedClass). c.methods) same ∙ is.last.methods in
-                ap (λ (ms : List Method). option_and_then (λ (m : Method). reached_fault rules (frames_in other.methods (frames_told typing own) index) (notes_in other.methods (notes_told certificate own) index) m at) (slice_get ms index)) none
+                ap (λ (ms : List Method). option_and_then (λ (m : Method). reached_fault rules (frames_in other.methods (frames_told typing own) index) (notes_in other.methods (notes_told annotations own) index) m at) (slice_get ms index)) none
           ]
 
   pub all_conditions : IsAccepted new policy certificate

@@ -31,12 +31,13 @@ use Rattle.block_template.specs.declared.item.Role.TheVariants as roles
 use Rattle.block_template.specs.Blocks.{bools_of, catches, is_locked}
 use Rattle.block_template.specs.Flow.{behind_return, thrown, tries, argument_at, ask_insn, branch_at as branch_in, check_behind, clause_in, insn_of, kept_by, result_in, update_insn}
 use Rattle.block_template.specs.Pushing.{load as load_insn, store as store_insn}
+use Rattle.block_logic.specs.Annotations.{held_in, holds_round}
 use Rattle.block_logic.specs.Clauses.{clause_at, needs, result_kind}
 use Rattle.block_logic.specs.Notes.{is_granted}
 use Rattle.block_logic.specs.Operands.{calls}
 use Rattle.block_logic.specs.Rows as rows
 use Rattle.block_logic.specs.Rows.{Asked, Given, Open}
-use Rattle.block_logic.specs.Standing.{asks_kept, is_hold, done}
+use Rattle.block_logic.specs.Standing.{asks_kept, done}
 use Rattle.cert_maker.proofs.Checks.{Arrives, Blocked, branch_is, clause_of_site, clauses, note, rules, same_inside, site, tries_arrives}
 use Rattle.cert_maker.proofs.RoleRows.{give, leave, load, lock_class, lock_taken, of_does, rethrow, save, stop, unlock_class, unlock_left}
 use Rattle.cert_maker.proofs.CheckRows.{ask, taken_row, update}
@@ -90,9 +91,12 @@ module _ (b : Blocked) where
   keeps_or_checks mode c e true is = same_inside b (notes.Owed (site b After) (stage_of (is_locked mode)) false false) (roles.Keep (is_locked mode)) refl
   keeps_or_checks mode c e false is = due mode After c e refl false (kept_told c e false is)
 
+  abbrev held_round : Mode → Bool
+  held_round mode = holds_round (held_in mode) (site b Before).method
+
   abbrev behind : Mode → Option Clause → Asked
   behind mode o =
-      cond (is_hold mode) (Given (notes.Owed (site b After) 1 false false))
+      cond (held_round mode) (Given (notes.Owed (site b After) 1 false false))
       (cond (is_some o) (Given (notes.Owed (site b After) 0 false false)) Open)
 
   returns_by : (mode : Mode) (o : Option Clause) → (clauses b).after ≡ o → Arrives b (behind mode o) (behind_return mode o)
@@ -110,7 +114,7 @@ module _ (b : Blocked) where
 
   abbrev where_thrown : Mode → Option Clause → Asked
   where_thrown mode o =
-      cond (is_hold mode || is_some o) (Given (notes.Owed (site b Exceptional) (rows.stage_behind mode) false false)) Open
+      cond (held_round mode || is_some o) (Given (notes.Owed (site b Exceptional) (rows.stage_behind (held_round mode)) false false)) Open
 
   throws_by : (mode : Mode) (o : Option Clause) → (clauses b).exceptional ≡ o → catches mode o ≡ true
       → Arrives b (where_thrown mode o) (thrown mode o)
@@ -136,12 +140,12 @@ module _ (b : Blocked) where
 
   -- ---- the call
 
-  hold_is : (mode : Mode) → is_hold mode ≡ is_locked mode
+  hold_is : (mode : Mode) → held_round mode ≡ is_locked mode
   hold_is Hold = refl
   hold_is Release = refl
 
   abbrev pub granted : Note
-  granted = notes.Granted (site b Before) (is_hold b.mode) (needs b.policy (site b Before).method) false
+  granted = notes.Granted (site b Before) (held_round b.mode) (needs b.policy (site b Before).method) false
 
   pub call_told : (locked : Bool) → locked ≡ is_locked b.mode → note b (roles.Call locked) ≡ granted
   call_told locked is =
@@ -157,7 +161,7 @@ module _ (b : Blocked) where
   call_granted =
       let same : (b.call.callee == (site b Before).method) ≡ true =
       ap (λ (m : ℕ). b.call.callee == m) b.few ∙ same_number b.call.callee in
-      rw (same, same_number (needs b.policy (site b Before).method), same_bool (is_hold b.mode)) refl
+      rw (same, same_number (needs b.policy (site b Before).method), same_bool (held_round b.mode)) refl
 
 -- ---- all roles but the call's
 

@@ -27,6 +27,7 @@ use Rattle.block_template.specs.Blocks.{clause_at as clause_in_block}
 use Rattle.block_template.specs.Flow.{branches_in, clause_in, held, made, tries}
 use Rattle.block_template.specs.Flow.{branches_of as branches_told}
 use Rattle.block_template.proofs.Policies.{IsOf, branches_of_phase, clause_is}
+use Rattle.block_logic.specs.Annotations.{held_in}
 use Rattle.block_logic.specs.Clauses.{clause_of, result_kind}
 use Rattle.block_logic.specs.Rows.{Asked, Open, Given, Rules}
 use Rattle.block_logic.specs.Notes.{meets}
@@ -52,7 +53,7 @@ pub record Blocked : Type 0 where
 
 module _ (b : Blocked) where
   abbrev pub rules : Rules
-  rules = record { mode = b.mode; policy = b.policy; state = b.state }
+  rules = record { held = held_in b.mode; policy = b.policy; state = b.state }
 
   abbrev pub clauses : Clauses
   clauses = clauses_of b.policy b.call.callee

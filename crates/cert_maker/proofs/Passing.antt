@@ -34,6 +34,7 @@ use Rattle.block_template.specs.Blocks.{bools_of, handler_at, has_block}
 use Rattle.block_template.specs.Flow.{Flows, IsLed, jump_of, jumps, next, role_at}
 use Rattle.block_template.proofs.BlockFlows.{blocks_flow}
 use Rattle.block_template.proofs.ItemsTyped.{clauses_are_asked}
+use Rattle.block_logic.specs.Annotations.{held_in}
 use Rattle.block_logic.specs.Notes.{Here, catches_all, first_handler, handlers_of, is_asked_taking, is_free, is_taking, meets, next_pass, note_fault, note_passes}
 use Rattle.block_logic.specs.Operands.{calls, has_clause, loads_constant, pushes_state, variable_named}
 use Rattle.block_logic.specs.Rows as rows
@@ -254,12 +255,12 @@ module _ (b : Body) (frames : List (Option FrameType)) (ready : IsReady b frames
           (items_suit b.mode (clauses k) (clauses_are_asked b.policy callee ready.read).phases (bools_of b.policy) (base b)) e
 
       -- At the front of the code no thread is in a block.
-      pub first_opens : (begin + place == 0) ≡ true → is_open b.mode b.policy (note k item.role) ≡ true
+      pub first_opens : (begin + place == 0) ≡ true → is_open (held_in b.mode) b.policy (note k item.role) ≡ true
       first_opens zero_is =
           let none : begin + place ≡ 0 = eqb-true _ _ zero_is in
           let at : place ≡ 0 = omega (arith, none) in
           let here : slice_get all 0 ≡ Some item = ap (slice_get all) (sym at) ∙ e in
-          ap (λ (r : Role). is_open b.mode b.policy (note k r)) (entered_at b frames ready i callee names has item here) ∙ entered_opens k
+          ap (λ (r : Role). is_open (held_in b.mode) b.policy (note k r)) (entered_at b frames ready i callee names has item here) ∙ entered_opens k
 
       module _ (other : is_call item.insn ≡ false) where
         abbrev of : IsNoted k b.pool (fronts b) begin own ref item.role item.insn

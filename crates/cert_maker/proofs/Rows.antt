@@ -24,11 +24,12 @@ use Rattle.conspec_tree.specs.declared.types.Rel.{Rel}
 use Rattle.conspec_tree.specs.declared.types.Rel.TheVariants as relations
 use Rattle.conspec_automaton.specs.declared.policy.Branch.{Branch}
 use Rattle.conspec_automaton.specs.declared.policy.Clause.{Clause}
+use Rattle.block_logic.specs.Annotations.{holds_round}
 use Rattle.block_logic.specs.Clauses.{clause_of, is_number, needs, result_kind}
 use Rattle.block_logic.specs.Operands.{leaves, loaded, pushes_state, stored}
 use Rattle.block_logic.specs.Rows as rows
 use Rattle.block_logic.specs.Rows.{Given, Nothing, Open, Row, Rules, asks_atom, gives, is_addend, leads, may_keep, may_leave, may_push, returned, term_pushed, thrown}
-use Rattle.block_logic.specs.Standing.{asks_kept, begun, is_after, is_before, is_hold}
+use Rattle.block_logic.specs.Standing.{asks_kept, begun, is_after, is_before}
 use Rattle.block_logic.specs.Terms.{base_term}
 use Rattle.cert_maker.proofs.Same.{same_bool, same_number, term_itself}
 use Rattle.cert_maker.proofs.Shapes.{negation}
@@ -95,13 +96,13 @@ module _ (rules : Rules) where
   abbrev pub called : Site → Row
   called site = record { past = returned rules site; jump = Nothing; thrown = thrown rules site }
 
-  pub granted_calls : (site : Site) (how : How) → rows.granted_row rules site (is_hold rules.mode) (needs rules.policy site.method) false
+  pub granted_calls : (site : Site) (how : How) → rows.granted_row rules site (holds_round rules.held site.method) (needs rules.policy site.method) false
       (shapes.Heap (heap.Call how)) (target.ApiMethod site.method) ≡ Some (called site)
   granted_calls site how =
       let none : (nat_lt (needs rules.policy site.method) (needs rules.policy site.method) && false) ≡ false =
       and_false (nat_lt (needs rules.policy site.method) (needs rules.policy site.method)) in
-      let no_push : (is_hold rules.mode && false) ≡ false = and_false (is_hold rules.mode) in
-      rw (none, no_push, same_number (needs rules.policy site.method), same_bool (is_hold rules.mode), same_number site.method) refl
+      let no_push : (holds_round rules.held site.method && false) ≡ false = and_false (holds_round rules.held site.method) in
+      rw (none, no_push, same_number (needs rules.policy site.method), same_bool (holds_round rules.held site.method), same_number site.method) refl
 
   -- ---- a check
 

@@ -114,9 +114,9 @@ module _ (told : List Note) (method : Method) (here : Here) where
       pub called : calls_well rules note here ≡ true
       pub caught : catches_well rules told method note here ≡ true
       pub pass : all_pass (meets rules) told (Some row) method here ≡ true
-      pub first : (here.at == 0) ≡ true → is_open rules.mode rules.policy note ≡ true
+      pub first : (here.at == 0) ≡ true → is_open rules.held rules.policy note ≡ true
 
-    begins : (b : Bool) → (b ≡ true → is_open rules.mode rules.policy note ≡ true) → (not b || is_open rules.mode rules.policy note) ≡ true
+    begins : (b : Bool) → (b ≡ true → is_open rules.held rules.policy note ≡ true) → (not b || is_open rules.held rules.policy note) ≡ true
     begins true f = f refl
     begins false f = refl
 
@@ -140,7 +140,7 @@ module _ (told : List Note) (method : Method) (here : Here) where
         (not (is_held note) || (writes_static (shape_of here.insn) || true))
         (not (writes_static (shape_of here.insn)) || (is_free note || true))
         (cond (is_stop note) true (all_pass (stops_well rules) told (Some h.row) method here))
-        (true && (meet && (not (here.at == 0) || is_open rules.mode rules.policy note)))
+        (true && (meet && (not (here.at == 0) || is_open rules.held rules.policy note)))
         h.alone h.called h.caught (has_row _ _) (has_row _ _) (has_row _ _) (stops_or_goes (is_stop note) _ stops)
         (and_from meet _ h.pass (begins (here.at == 0) h.first))
 

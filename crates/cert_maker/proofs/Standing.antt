@@ -36,6 +36,7 @@ use Rattle.block_template.specs.Blocks.{clause_at as clause_in_block}
 use Rattle.block_template.specs.Flow.{entered, saving}
 use Rattle.block_template.proofs.BlockFlows.{blocks_flow}
 use Rattle.block_template.proofs.ItemsTyped.{clauses_are_asked}
+use Rattle.block_logic.specs.Annotations.{held_in}
 use Rattle.block_logic.specs.Clauses.{clause_at, needs, result_kind}
 use Rattle.block_logic.specs.Notes.{handlers_of, meets, note_passes}
 use Rattle.block_logic.specs.Operands.{is_state_name, variable_named}
@@ -95,30 +96,30 @@ module _ (k : Blocked) where
   opens : (b : Bool) (x y : Bool) → b ≡ true → x ≡ false → y ≡ true → (b && (not x && (y && true))) ≡ true
   opens b x y e f g = rw (e, f, g) refl
 
-  entered_by : (mode : Mode) → k.mode ≡ mode → (o : Option Clause) → (clauses k).before ≡ o → is_open k.mode k.policy (note k (entered mode o)) ≡ true
+  entered_by : (mode : Mode) → k.mode ≡ mode → (o : Option Clause) → (clauses k).before ≡ o → is_open (held_in k.mode) k.policy (note k (entered mode o)) ≡ true
   entered_by Release e None none =
       let has : has_clauses k.policy (site_of k.call Before).method ≡ true = ap (has_clauses k.policy) k.few ∙ k.has in
       let no : is_some (clause_at k.policy (site_of k.call Before).method sites.Before) ≡ false =
       ap is_some (ap (λ (m : ℕ). clause_at k.policy m sites.Before) k.few ∙ clause_alike k.policy k.call.callee Before ∙ none) in
       let zero_is : needs k.policy (site_of k.call Before).method ≡ 0 =
       count_is k ∙ ap (λ (o : Option Clause). length (option_map_or (λ (c : Clause). c.args) o [])) none in
-      ap (is_open k.mode k.policy) (call_note k false)
-      ∙ ap (λ (count : ℕ). is_open k.mode k.policy (notes.Granted (site_of k.call Before) false count false)) zero_is
-      ∙ ap (λ (m : Mode). is_open m k.policy (notes.Granted (site_of k.call Before) false 0 false)) e ∙ rw (has, no) refl
+      ap (is_open (held_in k.mode) k.policy) (call_note k false)
+      ∙ ap (λ (count : ℕ). is_open (held_in k.mode) k.policy (notes.Granted (site_of k.call Before) false count false)) zero_is
+      ∙ ap (λ (m : Mode). is_open (held_in m) k.policy (notes.Granted (site_of k.call Before) false 0 false)) e ∙ rw (has, no) refl
   entered_by Hold e None none = refl
   entered_by Release e (Some clause) some = saves (length clause.args)
     where
-      saves : (count : ℕ) → is_open k.mode k.policy (note k (saving count)) ≡ true
+      saves : (count : ℕ) → is_open (held_in k.mode) k.policy (note k (saving count)) ≡ true
       saves zero = refl
       saves (suc count) = refl
   entered_by Hold e (Some clause) some = saves (length clause.args)
     where
-      saves : (count : ℕ) → is_open k.mode k.policy (note k (saving count)) ≡ true
+      saves : (count : ℕ) → is_open (held_in k.mode) k.policy (note k (saving count)) ≡ true
       saves zero = refl
       saves (suc count) = refl
 
   -- Where a block begins its thread is in no block.
-  pub entered_opens : is_open k.mode k.policy (note k (entered k.mode (clauses k).before)) ≡ true
+  pub entered_opens : is_open (held_in k.mode) k.policy (note k (entered k.mode (clauses k).before)) ≡ true
   entered_opens = entered_by k.mode refl (clauses k).before refl
 
   -- Where control comes, the note is as it is asked for.
@@ -143,7 +144,7 @@ module _ (b : Body) (frames : List (Option FrameType)) (ready : IsReady b frames
   told = method_notes b.policy b.mode b.method frames
 
   abbrev pub rules_in : Rules
-  rules_in = record { mode = b.mode; policy = b.policy; state = b.state }
+  rules_in = record { held = held_in b.mode; policy = b.policy; state = b.state }
 
   abbrev pub Reached : ℕ → Type 0
   Reached at = is_some (frame_of frames at) ≡ true
@@ -211,7 +212,7 @@ module _ (b : Body) (frames : List (Option FrameType)) (ready : IsReady b frames
   pub record IsOpenAt (at : ℕ) : Type 0 where
     pub note : Note
     pub there : slice_get told at ≡ Some note
-    pub opens : is_open b.mode b.policy note ≡ true
+    pub opens : is_open (held_in b.mode) b.policy note ≡ true
 
   open_alone : (j : ℕ) (ref : Target) → slice_get (refs b) j ≡ Some ref → has_block b.policy ref ≡ false → Reached (front b j + 0) → IsOpenAt (front b j + 0)
   open_alone j ref e none reached = record {
@@ -230,7 +231,7 @@ module _ (b : Body) (frames : List (Option FrameType)) (ready : IsReady b frames
       record {
         note = note k item.0.role;
         there = item_told j callee e has 0 item.0 item.1 reached;
-        opens = ap (λ (r : Role). is_open b.mode b.policy (note k r)) role ∙ entered_opens k;
+        opens = ap (λ (r : Role). is_open (held_in b.mode) b.policy (note k r)) role ∙ entered_opens k;
       }
 
   open_at : (j : ℕ) (ref : Target) → slice_get (refs b) j ≡ Some ref → (c : Bool) → has_block b.policy ref ≡ c → Reached (front b j + 0)

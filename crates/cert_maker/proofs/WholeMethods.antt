@@ -26,6 +26,7 @@ use Rattle.block_template.specs.declared.item.Item.{Item}
 use Rattle.block_template.specs.declared.item.Role.TheVariants as roles
 use Rattle.block_template.specs.Blocks.{bools_of, catches, handler_at, has_block, is_locked}
 use Rattle.block_template.specs.Flow.{may_pass, next, behind_return, role_at, thrown}
+use Rattle.block_logic.specs.Annotations.{held_in, holds_round}
 use Rattle.block_logic.specs.Notes.{Here, catches_all, catches_well, is_granted, is_owed_for_throw, thrown_by, first_handler, handlers_of, is_duty_of, meets, note_fault, note_passes}
 use Rattle.block_logic.specs.Operands.{calls, has_clause}
 use Rattle.block_logic.specs.Rows as rows
@@ -235,9 +236,9 @@ module _ (b : Body) (frames : List (Option FrameType)) (ready : IsReady b frames
         by : (c : Bool) → is_duty_of rules ref ≡ c → rows.is_duty rules callee ≡ rows.is_duty rules (site k Before).method → wants ≡ Open → is_duty_of rules ref ≡ false
         by false f same opens = f
         by true f same opens =
-            let what : wants ≡ rows.Given (notes.Owed (in_phase sites.Exceptional (site k Before)) (rows.stage_behind b.mode) false false) =
-            ap (λ (c : Bool). cond c (rows.Given (notes.Owed (in_phase sites.Exceptional (site k Before)) (rows.stage_behind b.mode) false false)) Open) (sym same ∙ f) in
-            let no : rows.Given (notes.Owed (in_phase sites.Exceptional (site k Before)) (rows.stage_behind b.mode) false false) ≡ Open = sym what ∙ opens in
+            let what : wants ≡ rows.Given (notes.Owed (in_phase sites.Exceptional (site k Before)) (rows.stage_behind (holds_round (held_in b.mode) (site k Before).method)) false false) =
+            ap (λ (c : Bool). cond c (rows.Given (notes.Owed (in_phase sites.Exceptional (site k Before)) (rows.stage_behind (holds_round (held_in b.mode) (site k Before).method)) false false)) Open) (sym same ∙ f) in
+            let no : rows.Given (notes.Owed (in_phase sites.Exceptional (site k Before)) (rows.stage_behind (holds_round (held_in b.mode) (site k Before).method)) false false) ≡ Open = sym what ∙ opens in
             absurd cc
 
     catches_here : (c : Bool) → catches b.mode (clauses k).exceptional ≡ c → catches_well rules notes_told b.made (granted k) here ≡ true
@@ -273,7 +274,7 @@ module _ (b : Body) (frames : List (Option FrameType)) (ready : IsReady b frames
               (sym (call_goes own (ready.calls i callee own there names).0 (ready.calls i callee own there names).1).jumps) tt))
               (handlers_pass_here (catches b.mode (clauses k).exceptional) refl);
           first =
-              λ zero_is. ap (is_open b.mode b.policy) (sym note_is)
+              λ zero_is. ap (is_open (held_in b.mode) b.policy) (sym note_is)
               ∙ first_opens b frames ready i callee own there names has place item e reached zero_is;
         })
 

@@ -7,6 +7,7 @@ use Rattle.cert_checker.specs.declared.checking.Accepted.{Accepted}
 use Rattle.cert_checker.specs.declared.fault.CheckFault.{CheckFault}
 use Rattle.cert_checker.specs.declared.fault.CheckFault.TheVariants.{Shape, StateClass, Typing, Local}
 use Rattle.block_logic.specs.Accepted.{IsAccepted}
+use Rattle.block_logic.specs.Annotations.{annotations_of}
 use Rattle.block_logic.specs.Outside.{LeavesBlocks}
 use Rattle.cert_checker.specs.Acceptance.{verdict}
 use Rattle.cert_checker.specs.Secure.{Secure}
@@ -69,7 +70,7 @@ check_answer main inputs = linked_answer inputs.policy inputs.certificate (link_
 pub record ProgramIsChecked (policy : PolicyTree) (certificate : Certificate) (program : Program) : Type 0 where
   pub accepted : IsAccepted program (built policy) certificate
   pub secure : Secure certificate.mode program (built policy)
-  pub errors : LeavesBlocks program (built policy) certificate
+  pub errors : LeavesBlocks program (built policy) (annotations_of certificate)
 
 -- The inputs link to such a program.
 pub record IsChecked (main : List ℕ) (inputs : CheckInputs) : Type 0 where

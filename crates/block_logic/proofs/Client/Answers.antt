@@ -8,7 +8,7 @@ use Rattle.api_listing.specs.declared.events.ApiAnswer.TheVariants as answers
 use Rattle.api_listing.specs.declared.events.Event.{Event}
 use Rattle.api_listing.specs.declared.events.Event.TheVariants as events
 use Rattle.api_listing.specs.declared.types.ListedMethod.{ListedMethod}
-use Rattle.cert_format.specs.declared.certificate.Certificate.{Certificate}
+use Rattle.block_logic.specs.Annotations.{Annotations}
 use Rattle.bytecode_model.specs.declared.program.Program.{Program}
 use Rattle.bytecode_model.specs.declared.program.Target.TheVariants as target
 use Rattle.bytecode_model.specs.SearchOrder.{Name}
@@ -54,10 +54,10 @@ none_speaks event (c ∷ clauses) e =
 pub without_clause : (policy : Policy) (event : Event) → has_clauses policy (method_of event) ≡ false → has_clause policy event ≡ false
 without_clause policy event e = ap is_some (none_speaks event policy.clauses e)
 
-module _ (program : Program) (policy : Policy) (certificate : Certificate) where
+module _ (program : Program) (policy : Policy) (annotations : Annotations) where
   -- the frame at the call, and those below it, wait
-  pub call_waits : (method : ℕ) (frames : List Frame) → has_clauses policy method ≡ false → IsClientCall program policy certificate method frames
-      → AreBelow program policy certificate frames
+  pub call_waits : (method : ℕ) (frames : List Frame) → has_clauses policy method ≡ false → IsClientCall program policy annotations method frames
+      → AreBelow program policy annotations frames
   call_waits method [] unclaused call = absurd call
   call_waits method (frame ∷ below) unclaused call =
       let at = call.1 in (
@@ -74,26 +74,26 @@ module _ (program : Program) (policy : Policy) (certificate : Certificate) where
         call.2,
       )
 
-  module _ (laws : Laws program policy certificate) (world : World) where
+  module _ (laws : Laws program policy annotations) (world : World) where
     abbrev IsGood : Change → Type 0
-    IsGood change = Good program policy certificate world change
+    IsGood change = Good program policy annotations world change
 
     abbrev Makes : Option Change → Type 0
-    Makes change = GoodIf program policy certificate world change
+    Makes change = GoodIf program policy annotations world change
 
-    module _ (kept : Keeps program policy certificate world world) (number : ℕ) (thread : Thread) (method : ℕ)
-        (unclaused : has_clauses policy method ≡ false) (waits : AreBelow program policy certificate thread.frames) where
+    module _ (kept : Keeps program policy annotations world world) (number : ℕ) (thread : Thread) (method : ℕ)
+        (unclaused : has_clauses policy method ≡ false) (waits : AreBelow program policy annotations thread.frames) where
       throws_there : (class : Name) → Makes (Some (throws_new program world number thread thread.frames class (Some (events.Except number method))))
       throws_there class =
           if_some IsGood _
-          (throws_new_good program policy certificate laws world world number thread thread.frames class
-          (Some (events.Except number method)) kept (below_catching program policy certificate laws thread.frames waits)
+          (throws_new_good program policy annotations laws world world number thread thread.frames class
+          (Some (events.Except number method)) kept (below_catching program policy annotations laws thread.frames waits)
           (without_clause policy (events.Except number method) unclaused))
 
       -- ---- what is given
 
       abbrev Gives : World × Option Value → Type 0
-      Gives gave = Keeps program policy certificate world gave.0 × IfSome gave.1 (IsClean program)
+      Gives gave = Keeps program policy annotations world gave.0 × IfSome gave.1 (IsClean program)
 
       module _ (receiver : Option Value) (arguments : List Value) (passed : ArePassed program receiver arguments) where
         the_receiver : (value : Option Value) → IfSome value (IsClean program) → IfThere Gives (option_map (λ (v : Value). (world, Some v)) value)
@@ -106,10 +106,10 @@ module _ (program : Program) (policy : Policy) (certificate : Certificate) where
         gives answers.Null = if_some Gives (world, Some values.Null) (kept, refl)
         gives (answers.Text text) =
             if_some Gives (with_object world (objects.Text text), Some (values.Ref (length world.heap)))
-            (kept_object program (state_of program policy certificate) world world kept (objects.Text text) tt, refl)
+            (kept_object program (state_of program policy annotations) world world kept (objects.Text text) tt, refl)
         gives (answers.Fresh class) =
             if_some Gives (with_object world (bare_object class), Some (values.Ref (length world.heap)))
-            (kept_object program (state_of program policy certificate) world world kept (bare_object class) (tt, refl), refl)
+            (kept_object program (state_of program policy annotations) world world kept (bare_object class) (tt, refl), refl)
         gives (answers.Arg i) =
             if_mapped Gives (λ (v : Value). (world, Some v)) (slice_get arguments i) (λ v e. (kept, all_get (IsClean program) arguments i v passed.1 e))
         gives answers.Receiver = the_receiver receiver passed.0
@@ -122,7 +122,7 @@ module _ (program : Program) (policy : Policy) (certificate : Certificate) where
             (there_or Makes (thrown_by_library program world number thread method) (thrown_by answer) _
             (if_then IsGood _ (given world receiver arguments answer)
             (λ (gave : World × Option Value) f. let g = is_there Gives (given world receiver arguments answer) gave (gives answer) f in
-            returned_good program policy certificate laws world gave.0 thread thread.frames gave.1
+            returned_good program policy annotations laws world gave.0 thread thread.frames gave.1
             (Some (events.Return number method (option_map (value_shown program gave.0.heap) gave.1))) g.0 waits g.1
             (without_clause policy (events.Return number method (option_map (value_shown program gave.0.heap) gave.1)) unclaused)))
             (λ class f. throws_there class))
@@ -132,10 +132,10 @@ module _ (program : Program) (policy : Policy) (certificate : Certificate) where
         call_good choices.Plain = if_either IsGood (is_on_null receiver) _ _ (throws_there null_pointer) (if_none IsGood)
         call_good (choices.Answer answer) = if_either IsGood (is_on_null receiver) _ _ (if_none IsGood) (answered_good answer)
 
-  pub client_answers : IsObeying program policy certificate → RulesHold program policy certificate → BeginsOpen program policy certificate
-      → OpenIsFree program policy certificate → ClientAnswers program policy certificate
+  pub client_answers : IsObeying program policy annotations → RulesHold program policy annotations → BeginsOpen program policy annotations
+      → OpenIsFree program policy annotations → ClientAnswers program policy annotations
   client_answers o rules_hold begins_open open_free world number thread method receiver arguments choice change clean unclaused call passed e =
-      let laws : Laws program policy certificate = record { obeys = o; rules_hold = rules_hold; begins_open = begins_open; open_free = open_free } in
-      let kept = lock_kept program (state_of program policy certificate) world clean in
-      is_there (Good program policy certificate world) _ change
+      let laws : Laws program policy annotations = record { obeys = o; rules_hold = rules_hold; begins_open = begins_open; open_free = open_free } in
+      let kept = lock_kept program (state_of program policy annotations) world clean in
+      is_there (Good program policy annotations world) _ change
       (call_good laws world kept number thread method unclaused (call_waits method thread.frames unclaused call) receiver arguments passed choice) e

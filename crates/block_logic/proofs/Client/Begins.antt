@@ -2,7 +2,7 @@
 use Rattle.std.proofs.Common.{◌≡◌, ◌+◌, ◌-◌, Bool, true, false, cond, List, [], ◌∷◌, ◌++◌, length, replicate, Option, Some, None, refl, inl, inr, arith}
 use Rattle.std.specs.Prelude.{◌<◌, ◌==◌, IfSome, option_map}
 use Rattle.std.specs.Option.{option_map_or, option_to_list}
-use Rattle.cert_format.specs.declared.certificate.Certificate.{Certificate}
+use Rattle.block_logic.specs.Annotations.{Annotations}
 use Rattle.cert_format.specs.declared.note.Note.TheVariants as notes
 use Rattle.insn_codec.specs.declared.insn.Insn.{Insn}
 use Rattle.bytecode_model.specs.declared.program.Method.{Method}
@@ -34,17 +34,17 @@ module _ (program : Program) where
   abbrev pub RunsClean : Given × Value → Type 0
   RunsClean run = IsClean program run.1
 
-  module _ (policy : Policy) (certificate : Certificate) where
-    pub ended_client : IsClient program policy certificate ended_thread
+  module _ (policy : Policy) (annotations : Annotations) where
+    pub ended_client : IsClient program policy annotations ended_thread
     ended_client = tt
 
-    module _ (laws : Laws program policy certificate) where
+    module _ (laws : Laws program policy annotations) where
       -- ---- a frame of a method
 
       module _ (to : Given) (method : Method) (there : method_at program to.0 to.1 ≡ Some method) where
         monitor_clean : (receiver : Option Value) → IfSome receiver (IsClean program)
             → IsClean program (option_map_or (λ (v : Value). v) receiver (values.Class (length program.listing.classes + to.0)))
-        monitor_clean None clean = class_clean program policy certificate laws.obeys to.0 to.1 method there
+        monitor_clean None clean = class_clean program policy annotations laws.obeys to.0 to.1 method there
         monitor_clean (Some v) clean = clean
 
         -- the monitor that it takes
@@ -71,25 +71,25 @@ module _ (program : Program) where
                     (all_replicate (IsClean program) _ values.Null refl);
               }
 
-          begins_free : IsClientFrame program policy certificate frame
+          begins_free : IsClientFrame program policy annotations frame
           begins_free = by method.insns refl where
-            by : (insns : List Insn) → method.insns ≡ insns → IsClientFrame program policy certificate (frame_of program to method receiver arguments)
+            by : (insns : List Insn) → method.insns ≡ insns → IsClientFrame program policy annotations (frame_of program to method receiver arguments)
             by [] e = inl (rw there (rw e refl))
             by (insn ∷ insns) e =
                 let some : 0 < length method.insns = rw e (omega arith) in
                 inr (notes.Free, laws.begins_open to.0 to.1 method there some, tt)
 
           -- it begins in front of frames that wait
-          pub begun_frames : (below : List Frame) → AreBelow program policy certificate below
-              → AreClientFrames program policy certificate (frame_of program to method receiver arguments ∷ below)
+          pub begun_frames : (below : List Frame) → AreBelow program policy annotations below
+              → AreClientFrames program policy annotations (frame_of program to method receiver arguments ∷ below)
           begun_frames below waits = (begun_frame, begins_free, waits)
 
       -- ---- threads that begin
 
-      pub begun_client : (run : Option (Given × Value)) → IfSome run RunsClean → IsClient program policy certificate (begun_thread program run)
+      pub begun_client : (run : Option (Given × Value)) → IfSome run RunsClean → IsClient program policy annotations (begun_thread program run)
       begun_client None clean = ended_client
       begun_client (Some run) clean =
-          there_or (IsClient program policy certificate) (λ (method : Method). running (frame_of program run.0 method (Some run.1) [] ∷ []) [])
+          there_or (IsClient program policy annotations) (λ (method : Method). running (frame_of program run.0 method (Some run.1) [] ∷ []) [])
           (method_at program run.0.0 run.0.1) ended_thread ended_client
           (λ method e. begun_frames run.0 method e (Some run.1) [] (clean, tt) [] tt)
 
@@ -99,14 +99,14 @@ module _ (program : Program) where
       main_clean true = tt
       main_clean false = (refl, tt)
 
-      frame_client : (next : Given) → AreClientFrames program policy certificate (option_to_list (frame_begun program next))
+      frame_client : (next : Given) → AreClientFrames program policy annotations (option_to_list (frame_begun program next))
       frame_client next = by (method_at program next.0 next.1) refl where
         by : (found : Option Method) → method_at program next.0 next.1 ≡ found
-            → AreClientFrames program policy certificate
+            → AreClientFrames program policy annotations
             (option_to_list (option_map (λ (method : Method). frame_of program next method None (cond (arity method.desc == 0) [] (main_argument program ∷ []))) found))
         by None e = tt
         by (Some method) e = begun_frames next method e None _ (tt, main_clean (arity method.desc == 0)) [] tt
 
-      pub rests_client : (to_begin : List Given) → IsClient program policy certificate (rests program to_begin)
+      pub rests_client : (to_begin : List Given) → IsClient program policy annotations (rests program to_begin)
       rests_client [] = ended_client
       rests_client (next ∷ to_begin) = frame_client next

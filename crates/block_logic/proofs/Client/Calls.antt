@@ -3,7 +3,7 @@ use Rattle.std.proofs.Common.{◌≡◌, ℕ, ℤ, false, List, [], ◌∷◌, �
 use Rattle.std.specs.Prelude.{IfSome, slice_get}
 use Rattle.std.specs.Option.{option_map_or, option_or}
 use Rattle.api_listing.specs.declared.events.Event.TheVariants as events
-use Rattle.cert_format.specs.declared.certificate.Certificate.{Certificate}
+use Rattle.block_logic.specs.Annotations.{Annotations}
 use Rattle.insn_codec.specs.declared.shape.How.{How}
 use Rattle.insn_codec.specs.declared.shape.How.TheVariants as hows
 use Rattle.bytecode_model.specs.declared.program.Method.{Method}
@@ -44,34 +44,34 @@ use Rattle.block_logic.proofs.Client.Passing.{PassesClean, aimed_clean, changed_
 use Rattle.block_logic.proofs.Client.Throws.{below_catching}
 use Rattle.block_logic.proofs.Client.Values.{IsCleanHeap, kept_heap}
 
-module _ (program : Program) (policy : Policy) (certificate : Certificate) (laws : Laws program policy certificate)
+module _ (program : Program) (policy : Policy) (annotations : Annotations) (laws : Laws program policy annotations)
     (machine : Machine)
-    (kept : Keeps program policy certificate (world_of machine) (world_of machine)) where
+    (kept : Keeps program policy annotations (world_of machine) (world_of machine)) where
   abbrev shared : World
   shared = world_of machine
 
   abbrev IsGood : Change → Type 0
-  IsGood change = Good program policy certificate (world_of machine) change
+  IsGood change = Good program policy annotations (world_of machine) change
 
   abbrev Makes : Option Change → Type 0
-  Makes change = GoodIf program policy certificate (world_of machine) change
+  Makes change = GoodIf program policy annotations (world_of machine) change
 
   abbrev Stays : World → Type 0
-  Stays world = Keeps program policy certificate (world_of machine) world
+  Stays world = Keeps program policy annotations (world_of machine) world
 
-  module _ (c : Calling) (frame : IsBelow program policy certificate c.frame) (below : AreBelow program policy certificate c.below)
+  module _ (c : Calling) (frame : IsBelow program policy annotations c.frame) (below : AreBelow program policy annotations c.below)
       (passes : PassesClean program c.passed) where
     throws_there : (class : Name) → IsGood (call_throws program shared c class)
     throws_there class =
-        throws_new_good program policy certificate laws shared shared c.number c.thread (c.frame ∷ c.below) class None kept
-        (below_catching program policy certificate laws (c.frame ∷ c.below) (frame, below)) tt
+        throws_new_good program policy annotations laws shared shared c.number c.thread (c.frame ∷ c.below) class None kept
+        (below_catching program policy annotations laws (c.frame ∷ c.below) (frame, below)) tt
 
     past_good : (world : World) (results : List Value) → Stays world → AreClean program results → Makes (goes_past world c results)
     past_good world results k clean =
         let items : List Value = results ++ c.passed.beneath in
-        went_on program policy certificate laws shared world c.thread (after c.frame items) c.below k
-        (after_free program policy certificate c.frame items c.below frame.well
-        (goes_behind program policy certificate laws c.frame frame)
+        went_on program policy annotations laws shared world c.thread (after c.frame items) c.below k
+        (after_free program policy annotations c.frame items c.below frame.well
+        (goes_behind program policy annotations laws c.frame frame)
         (all_append (IsClean program) results c.passed.beneath clean passes.beneath) below)
 
     goes_good : Makes (goes_past shared c [])
@@ -84,10 +84,10 @@ module _ (program : Program) (policy : Policy) (certificate : Certificate) (laws
         (each v (there_is (IsClean program) c.passed.receiver v passes.passed.0 e)))
 
     -- the frames that wait stand where they did
-    they_wait : AreBelow program policy certificate (waiting c)
+    they_wait : AreBelow program policy annotations (waiting c)
     they_wait = (
       record {
-        well = moved_frame program policy certificate c.frame c.frame.at c.frame.locals c.passed.beneath frame.well frame.well.locals;
+        well = moved_frame program policy annotations c.frame c.frame.at c.frame.locals c.passed.beneath frame.well frame.well.locals;
         insn = frame.insn;
         ref = frame.ref;
         there = frame.there;
@@ -102,13 +102,13 @@ module _ (program : Program) (policy : Policy) (certificate : Certificate) (laws
     method_good : (to : Given) (receiver : Option Value) (arguments : List Value) → ArePassed program receiver arguments
         → Makes (enters_method program shared c.number c.thread (waiting c) to receiver arguments)
     method_good to receiver arguments passed =
-        enters_good program policy certificate laws shared shared c.number c.thread (waiting c) to receiver arguments kept they_wait
+        enters_good program policy annotations laws shared shared c.number c.thread (waiting c) to receiver arguments kept they_wait
         passed
 
     -- ---- threads
 
     with_heap_good : (heap : List Object) → IsCleanHeap program heap → Makes (goes_past (with_heap shared heap) c [])
-    with_heap_good heap clean = past_good (with_heap shared heap) [] (kept_heap program (state_of program policy certificate) shared shared kept heap clean) tt
+    with_heap_good heap clean = past_good (with_heap shared heap) [] (kept_heap program (state_of program policy annotations) shared shared kept heap clean) tt
 
     started_good : (on : Value) → IsClean program on → (number : Option ℕ) → Makes (started program machine c on number)
     started_good on clean (Some number) = if_some IsGood _ (throws_there second_start)
@@ -121,7 +121,7 @@ module _ (program : Program) (policy : Policy) (certificate : Certificate) (laws
           locks = good.locks;
           variables = good.variables;
           thread = good.thread;
-          begins = begun_client program policy certificate laws run (own_or_target program machine.heap on clean kept.clean.heap);
+          begins = begun_client program policy annotations laws run (own_or_target program machine.heap on clean kept.clean.heap);
           event = good.event;
         })
         (with_heap_good (with_changed machine.heap on started)
@@ -199,8 +199,8 @@ module _ (program : Program) (policy : Policy) (certificate : Certificate) (laws
     ends_here : Makes (Some (ends_thread shared c.number (c.frame ∷ c.below)))
     ends_here =
         if_some IsGood _
-        (ends_good program policy certificate laws shared shared c.number (c.frame ∷ c.below) kept
-        (below_catching program policy certificate laws (c.frame ∷ c.below) (frame, below)))
+        (ends_good program policy annotations laws shared shared c.number (c.frame ∷ c.below) kept
+        (below_catching program policy annotations laws (c.frame ∷ c.below) (frame, below)))
 
     lacking_good : (method : Method) (on : Value) → Makes (lacking program shared c method on)
     lacking_good method on = if_either IsGood (is_run method) _ _ (runs_target_good on) ends_here
@@ -231,7 +231,7 @@ module _ (program : Program) (policy : Policy) (certificate : Certificate) (laws
         let at_call : insn_at program c.frame ≡ Some (frame.insn, target.ApiMethod index) =
         subst (λ (ref : Target). insn_at program c.frame ≡ Some (frame.insn, ref)) is frame.there in
         let shown = values_shown program machine.heap c.passed.arguments in
-        changes program policy certificate laws shared (calls_library program shared c index) kept (
+        changes program policy annotations laws shared (calls_library program shared c index) kept (
           unclaused,
           (
             they_wait.0.well,
@@ -252,8 +252,8 @@ module _ (program : Program) (policy : Policy) (certificate : Certificate) (laws
     named_good how (target.Number n) is = if_none IsGood
     named_good how (target.Literal index) is = if_none IsGood
 
-  pub calls_good : (number : ℕ) (thread : Thread) (frame : Frame) (below : List Frame) (how : How) (b : IsBelow program policy certificate frame)
-      → AreBelow program policy certificate below → Makes (calls program machine number thread frame below how b.ref)
+  pub calls_good : (number : ℕ) (thread : Thread) (frame : Frame) (below : List Frame) (how : How) (b : IsBelow program policy annotations frame)
+      → AreBelow program policy annotations below → Makes (calls program machine number thread frame below how b.ref)
   calls_good number thread frame below how b waits =
       if_then IsGood _ (desc_named program b.ref)
       (λ desc e. if_then IsGood _ (taken (is_static_call how) (arity desc) frame.stack.items)

@@ -3,7 +3,7 @@ use Rattle.std.proofs.Common.{◌≡◌, ℕ, ◌+◌, List, [], ◌∷◌, ◌+
 use Rattle.std.specs.Prelude.{false, nat_lt, IfSome, option_map}
 use Rattle.std.specs.Option.{option_to_list}
 use Rattle.api_listing.specs.declared.events.Event.{Event}
-use Rattle.cert_format.specs.declared.certificate.Certificate.{Certificate}
+use Rattle.block_logic.specs.Annotations.{Annotations}
 use Rattle.bytecode_model.specs.declared.program.Method.{Method}
 use Rattle.bytecode_model.specs.declared.program.Program.{Program}
 use Rattle.bytecode_model.specs.SearchOrder.{Name}
@@ -46,38 +46,38 @@ use Rattle.block_logic.proofs.Client.Throws.{AreCatching, all_locks_clean, locks
 use Rattle.block_logic.proofs.Client.Values.{KeepsLock, kept_monitors, kept_object}
 use Rattle.block_logic.proofs.Steps.{ChangesClient}
 
-module _ (program : Program) (policy : Policy) (certificate : Certificate) where
+module _ (program : Program) (policy : Policy) (annotations : Annotations) where
   -- what is seen, if anything, has no clause
   abbrev pub IsUnclaused : Option Event → Type 0
   IsUnclaused event = IfSome event (λ (e : Event). has_clause policy e ≡ false)
 
   -- the frame at an instruction of the client, where its operands fit
   pub fitted_free : (frame : Frame) (at : ℕ) (locals items : List Value) (below : List Frame) → IsFrame program frame
-      → FreeAt program policy certificate frame at → AreClean program locals → AreClean program items → AreBelow program policy certificate below
-      → (f : Frame) → fitted frame at locals items ≡ Some f → AreClientFrames program policy certificate (f ∷ below)
+      → FreeAt program policy annotations frame at → AreClean program locals → AreClean program items → AreBelow program policy annotations below
+      → (f : Frame) → fitted frame at locals items ≡ Some f → AreClientFrames program policy annotations (f ∷ below)
   fitted_free frame at locals items below well free in_locals on_stack waits f e =
-      subst (λ (x : Frame). AreClientFrames program policy certificate (x ∷ below))
+      subst (λ (x : Frame). AreClientFrames program policy annotations (x ∷ below))
       (unless_of (nat_lt frame.stack.size (length items)) (moved_to frame at locals items) f e)
-      (went_free program policy certificate frame at locals items below well free in_locals on_stack waits)
+      (went_free program policy annotations frame at locals items below well free in_locals on_stack waits)
 
   pub after_free : (frame : Frame) (items : List Value) (below : List Frame) → IsFrame program frame
-      → FreeAt program policy certificate frame (frame.at + 1) → AreClean program items → AreBelow program policy certificate below
-      → (f : Frame) → after frame items ≡ Some f → AreClientFrames program policy certificate (f ∷ below)
+      → FreeAt program policy annotations frame (frame.at + 1) → AreClean program items → AreBelow program policy annotations below
+      → (f : Frame) → after frame items ≡ Some f → AreClientFrames program policy annotations (f ∷ below)
   after_free frame items below well free on_stack waits = fitted_free frame (frame.at + 1) frame.locals items below well free well.locals on_stack waits
 
   -- the lock is as it was in what all shared
   abbrev pub Keeps : World → World → Type 0
-  Keeps shared world = KeepsLock program (state_of program policy certificate) shared world
+  Keeps shared world = KeepsLock program (state_of program policy annotations) shared world
 
   abbrev pub Good : World → Change → Type 0
-  Good shared change = ChangesClient program policy certificate shared change
+  Good shared change = ChangesClient program policy annotations shared change
 
   abbrev pub GoodIf : World → Option Change → Type 0
   GoodIf shared change = IfThere (Good shared) change
 
-  module _ (laws : Laws program policy certificate) (shared : World) where
-    pub changes : (change : Change) → Keeps shared change.world → IsClient program policy certificate change.thread
-        → IfSome change.begins (IsClient program policy certificate) → IsUnclaused change.event → Good shared change
+  module _ (laws : Laws program policy annotations) (shared : World) where
+    pub changes : (change : Change) → Keeps shared change.world → IsClient program policy annotations change.thread
+        → IfSome change.begins (IsClient program policy annotations) → IsUnclaused change.event → Good shared change
     changes change k client begins unclaused = record {
       world = k.clean;
       locks = k.locks;
@@ -89,48 +89,48 @@ module _ (program : Program) (policy : Policy) (certificate : Certificate) where
 
     pub with_held : (world : World) (held : List Monitor) → Keeps shared world → held_locks program held ≡ held_locks program world.monitors
         → Keeps shared (with_monitors world held)
-    with_held world held k same = kept_monitors program (state_of program policy certificate) shared world k held same
+    with_held world held k same = kept_monitors program (state_of program policy annotations) shared world k held same
 
     -- ---- going on
 
-    pub goes_good : (world : World) (thread : Thread) (frames : List Frame) → Keeps shared world → AreClientFrames program policy certificate frames
+    pub goes_good : (world : World) (thread : Thread) (frames : List Frame) → Keeps shared world → AreClientFrames program policy annotations frames
         → Good shared (goes world thread frames)
     goes_good world thread frames k client = changes (goes world thread frames) k client tt tt
 
     pub went_on : (world : World) (thread : Thread) (frame : Option Frame) (below : List Frame) → Keeps shared world
-        → ((f : Frame) → frame ≡ Some f → AreClientFrames program policy certificate (f ∷ below))
+        → ((f : Frame) → frame ≡ Some f → AreClientFrames program policy annotations (f ∷ below))
         → GoodIf shared (option_map (λ (f : Frame). goes world thread (f ∷ below)) frame)
     went_on world thread frame below k there =
         if_mapped (Good shared) (λ (f : Frame). goes world thread (f ∷ below)) frame (λ f e. goes_good world thread (f ∷ below) k (there f e))
 
     -- ---- ending
 
-    pub ends_good : (world : World) (number : ℕ) (frames : List Frame) → Keeps shared world → AreCatching program policy certificate frames
+    pub ends_good : (world : World) (number : ℕ) (frames : List Frame) → Keeps shared world → AreCatching program policy annotations frames
         → Good shared (ends_thread world number frames)
     ends_good world number frames k c =
         changes (ends_thread world number frames)
         (with_held world _ k
-        (all_given_up_stay program (locks_of frames) world.monitors number (all_locks_clean program policy certificate laws frames c)))
-        (ended_client program policy certificate) tt tt
+        (all_given_up_stay program (locks_of frames) world.monitors number (all_locks_clean program policy annotations laws frames c)))
+        (ended_client program policy annotations) tt tt
 
     -- ---- throwing
 
     pub throws_good : (world : World) (number : ℕ) (thread : Thread) (frames : List Frame) (thrown : Value) (class : Name) (event : Option Event)
-        → Keeps shared world → IsClean program thrown → AreCatching program policy certificate frames → IsUnclaused event
+        → Keeps shared world → IsClean program thrown → AreCatching program policy annotations frames → IsUnclaused event
         → Good shared (throws program world number thread frames thrown class event)
     throws_good world number thread frames thrown class event k clean c unclaused =
-        let locks = locks_clean program policy certificate laws thrown class frames c in
+        let locks = locks_clean program policy annotations laws thrown class frames c in
         changes (throws program world number thread frames thrown class event)
         (with_held world _ k (all_given_up_stay program (locks_left program thrown class frames) world.monitors number locks))
-        (thrown_client program policy certificate _ thread.to_begin
-        (unwound_client program policy certificate laws thrown class clean frames c)) tt unclaused
+        (thrown_client program policy annotations _ thread.to_begin
+        (unwound_client program policy annotations laws thrown class clean frames c)) tt unclaused
 
     pub throws_new_good : (world : World) (number : ℕ) (thread : Thread) (frames : List Frame) (class : Name) (event : Option Event)
-        → Keeps shared world → AreCatching program policy certificate frames → IsUnclaused event
+        → Keeps shared world → AreCatching program policy annotations frames → IsUnclaused event
         → Good shared (throws_new program world number thread frames class event)
     throws_new_good world number thread frames class event k c unclaused =
         throws_good (with_object world (bare_object class)) number thread frames (values.Ref (length world.heap)) class event
-        (kept_object program (state_of program policy certificate) shared world k (bare_object class) (tt, refl)) refl c unclaused
+        (kept_object program (state_of program policy annotations) shared world k (bare_object class) (tt, refl)) refl c unclaused
 
     -- ---- calling
 
@@ -141,17 +141,17 @@ module _ (program : Program) (policy : Policy) (certificate : Certificate) where
 
     -- a method, in front of frames that wait
     pub enters_good : (world : World) (number : ℕ) (thread : Thread) (waiting : List Frame) (to : Given) (receiver : Option Value)
-        (arguments : List Value) → Keeps shared world → AreBelow program policy certificate waiting → ArePassed program receiver arguments
+        (arguments : List Value) → Keeps shared world → AreBelow program policy annotations waiting → ArePassed program receiver arguments
         → GoodIf shared (enters_method program world number thread waiting to receiver arguments)
     enters_good world number thread waiting to receiver arguments k waits passed =
         if_then (Good shared) _ (method_at program to.0 to.1)
         (λ (method : Method) there.
-        let lock = lock_clean program policy certificate laws to method there receiver passed.0 in
+        let lock = lock_clean program policy annotations laws to method there receiver passed.0 in
         if_then (Good shared) _ (lock_taken world.monitors number (lock_of program to.0 method receiver))
         (λ held e. if_some (Good shared) _
         (goes_good (with_monitors world held) thread (frame_of program to method receiver arguments ∷ waiting)
         (with_held world held k (taken_stays world.monitors held number (lock_of program to.0 method receiver) lock e))
-        (begun_frames program policy certificate laws to method there receiver arguments passed waiting waits))))
+        (begun_frames program policy annotations laws to method there receiver arguments passed waiting waits))))
 
     -- ---- returning
 
@@ -166,15 +166,15 @@ module _ (program : Program) (policy : Policy) (certificate : Certificate) where
     }
 
     pub returned_good : (world : World) (thread : Thread) (frames : List Frame) (result : Option Value) (event : Option Event) → Keeps shared world
-        → AreBelow program policy certificate frames → IfSome result (IsClean program) → IsUnclaused event
+        → AreBelow program policy annotations frames → IfSome result (IsClean program) → IsUnclaused event
         → GoodIf shared (returned program world thread frames result event)
     returned_good world thread [] result event k waits clean unclaused =
         if_some (Good shared) _
-        (changes (with_event (rests_now program world thread) event) k (rests_client program policy certificate laws thread.to_begin) tt unclaused)
+        (changes (with_event (rests_now program world thread) event) k (rests_client program policy annotations laws thread.to_begin) tt unclaused)
     returned_good world thread (caller ∷ below) result event k waits clean unclaused =
         let items : List Value = option_to_list result ++ caller.stack.items in
         if_mapped (Good shared) (λ (f : Frame). with_event (goes world thread (f ∷ below)) event) (after caller items)
         (λ f e. event_good event (goes world thread (f ∷ below))
         (goes_good world thread (f ∷ below) k
-        (after_free caller items below waits.0.well (goes_behind program policy certificate laws caller waits.0)
+        (after_free caller items below waits.0.well (goes_behind program policy annotations laws caller waits.0)
         (all_append (IsClean program) (option_to_list result) caller.stack.items (clean_list program result clean) waits.0.clean) waits.1 f e)) unclaused)

@@ -7,7 +7,7 @@ use Rattle.std.proofs.lemmas.Bool.{and_parts, ne_eqb}
 use Rattle.std.proofs.lemmas.Option.{none-some, slice_get-map, slice_get_within}
 use Rattle.std.proofs.lemmas.Slice.Eq.{bytes_eq-Decides}
 use Rattle.api_listing.specs.declared.types.ListedClass.{ListedClass}
-use Rattle.cert_format.specs.declared.certificate.Certificate.{Certificate}
+use Rattle.block_logic.specs.Annotations.{Annotations}
 use Rattle.conspec_tree.specs.declared.types.Var.{Var}
 use Rattle.bytecode_model.specs.declared.program.LinkedClass.{LinkedClass}
 use Rattle.bytecode_model.specs.declared.program.Method.{Method}
@@ -126,7 +126,7 @@ module _ (program : Program) where
       get_behind program.listing.classes (map (λ (x : LinkedClass). head_of x.file) program.classes) class
       ∙ slice_get-map (λ (x : LinkedClass). head_of x.file) program.classes class ∙ ap (option_map (λ (x : LinkedClass). head_of x.file)) there
 
-  module _ (policy : Policy) (certificate : Certificate) (o : IsObeying program policy certificate) where
+  module _ (policy : Policy) (annotations : Annotations) (o : IsObeying program policy annotations) where
     none_there : {A : Type 0} (xs : List A) → has_none xs ≡ true → xs ≡ []
     none_there [] e = refl
     none_there (x ∷ xs) e = absurd cc

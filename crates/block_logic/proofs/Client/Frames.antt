@@ -2,7 +2,7 @@
 use Rattle.std.proofs.Common.{◌≡◌, ℕ, ◌+◌, Bool, true, false, cond, List, ◌∷◌, Some, None, refl, sym, ap, subst, ◌∙◌, inr}
 use Rattle.std.specs.Prelude.{Contains, is_some, not}
 use Rattle.std.proofs.lemmas.Option.{cond_some}
-use Rattle.cert_format.specs.declared.certificate.Certificate.{Certificate}
+use Rattle.block_logic.specs.Annotations.{Annotations}
 use Rattle.cert_format.specs.declared.note.Note.TheVariants as notes
 use Rattle.insn_codec.specs.declared.insn.Insn.{Insn}
 use Rattle.insn_codec.specs.declared.shape.Heap.{Heap}
@@ -65,11 +65,11 @@ row_open rules shape ref r apart e = by (pushes_state shape ref) apart e where
   by true f e = absurd cc
   by false f e = sym (cond_some (not (is_some (variable_named rules.state ref))) open_row r e).1
 
-module _ (program : Program) (policy : Policy) (certificate : Certificate) where
+module _ (program : Program) (policy : Policy) (annotations : Annotations) where
   -- ---- frames
 
   abbrev pub FreeAt : Frame → ℕ → Type 0
-  FreeAt frame at = note_at program certificate frame.class frame.method at ≡ Some notes.Free
+  FreeAt frame at = note_at program annotations frame.class frame.method at ≡ Some notes.Free
 
   -- Where control goes from a frame at this instruction, the client's code goes on.
   pub record GoesFree (frame : Frame) (next : Insn × Target) : Type 0 where
@@ -83,17 +83,17 @@ module _ (program : Program) (policy : Policy) (certificate : Certificate) where
 
   -- a frame that went to an instruction of the client, and those below it
   pub went_free : (frame : Frame) (at : ℕ) (locals items : List Value) (below : List Frame) → IsFrame program frame → FreeAt frame at
-      → AreClean program locals → AreClean program items → AreBelow program policy certificate below
-      → AreClientFrames program policy certificate (moved_to frame at locals items ∷ below)
+      → AreClean program locals → AreClean program items → AreBelow program policy annotations below
+      → AreClientFrames program policy annotations (moved_to frame at locals items ∷ below)
   went_free frame at locals items below well free in_locals on_stack waits =
       (moved_frame frame at locals items well in_locals, inr (notes.Free, free, on_stack), waits)
 
   -- What the rules of the notes tell of an accepted program.
   pub record Laws : Type 0 where
-    pub obeys : IsObeying program policy certificate
-    pub rules_hold : RulesHold program policy certificate
-    pub begins_open : BeginsOpen program policy certificate
-    pub open_free : OpenIsFree program policy certificate
+    pub obeys : IsObeying program policy annotations
+    pub rules_hold : RulesHold program policy annotations
+    pub begins_open : BeginsOpen program policy annotations
+    pub open_free : OpenIsFree program policy annotations
 
   module _ (laws : Laws) where
     pub insn_is : (frame : Frame) (next : Insn × Target) → insn_at program frame ≡ Some next → IsInsn next.0
@@ -106,17 +106,17 @@ module _ (program : Program) (policy : Policy) (certificate : Certificate) where
         → goes_on (opcode_of next.0) ≡ true
     may_go_on frame next e stays = goes_on_alike next.0 (insn_is frame next e) ∙ ap not stays
 
-    open_at : (frame : Frame) (at : ℕ) (asked : Asked) → asked ≡ Open → LeadsTo program policy certificate frame at asked → FreeAt frame at
+    open_at : (frame : Frame) (at : ℕ) (asked : Asked) → asked ≡ Open → LeadsTo program policy annotations frame at asked → FreeAt frame at
     open_at frame at asked is l =
-        let here : LeadsTo program policy certificate frame at Open = subst (LeadsTo program policy certificate frame at) is l in
+        let here : LeadsTo program policy annotations frame at Open = subst (LeadsTo program policy annotations frame at) is l in
         here.told ∙ ap Some (laws.open_free here.note here.meets)
 
     -- an instruction of the client that does not push the lock's class
-    pub goes_free : (frame : Frame) (next : Insn × Target) → insn_at program frame ≡ Some next → note_of program certificate frame ≡ Some notes.Free
+    pub goes_free : (frame : Frame) (next : Insn × Target) → insn_at program frame ≡ Some next → note_of program annotations frame ≡ Some notes.Free
         → pushes_state (shape_of next.0) next.1 ≡ false → GoesFree frame next
     goes_free frame next e told apart =
         let h = laws.rules_hold frame next notes.Free e told in
-        let is = row_open (rules_of program policy certificate) (shape_of next.0) next.1 h.r apart h.has in
+        let is = row_open (rules_of program policy annotations) (shape_of next.0) next.1 h.r apart h.has in
         record {
           past = λ goes. open_at frame (frame.at + 1) h.r.past (ap (λ (r : Row). r.past) is) (h.past goes);
           jump = λ to has. open_at frame to h.r.jump (ap (λ (r : Row). r.jump) is) (h.jump to has);
@@ -124,10 +124,10 @@ module _ (program : Program) (policy : Policy) (certificate : Certificate) where
         }
 
     -- a call without a clause, at which a frame waits
-    pub waits_free : (frame : Frame) (b : IsBelow program policy certificate frame) → GoesFree frame (b.insn, b.ref)
+    pub waits_free : (frame : Frame) (b : IsBelow program policy annotations frame) → GoesFree frame (b.insn, b.ref)
     waits_free frame b = goes_free frame (b.insn, b.ref) b.there b.free (call_pushes (shape_of b.insn) b.ref b.call)
 
-    pub goes_behind : (frame : Frame) (b : IsBelow program policy certificate frame) → FreeAt frame (frame.at + 1)
+    pub goes_behind : (frame : Frame) (b : IsBelow program policy annotations frame) → FreeAt frame (frame.at + 1)
     goes_behind frame b =
         let g = waits_free frame b in
         g.past (may_go_on frame (b.insn, b.ref) b.there (call_stays (shape_of b.insn) b.call))

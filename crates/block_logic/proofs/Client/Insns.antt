@@ -5,7 +5,7 @@ use Rattle.std.specs.Option.{option_map_or, option_to_list}
 use Rattle.std.proofs.lemmas.Bool.{false≢true}
 use Rattle.std.proofs.lemmas.List.Elements.{Contains-append_cases}
 use Rattle.std.proofs.lemmas.Slice.Eq.{bytes_eq-Decides}
-use Rattle.cert_format.specs.declared.certificate.Certificate.{Certificate}
+use Rattle.block_logic.specs.Annotations.{Annotations}
 use Rattle.cert_format.specs.declared.note.Note.TheVariants as notes
 use Rattle.insn_codec.specs.declared.insn.Insn.{Insn}
 use Rattle.insn_codec.specs.declared.shape.Heap.{Heap}
@@ -94,73 +94,73 @@ one_of x y has = at has.0 has.1 has.2 where
 none_of : (y : ℕ) → Contains [] y → ⊥
 none_of y has = absurd (omega (arith, has.1))
 
-module _ (program : Program) (policy : Policy) (certificate : Certificate) (laws : Laws program policy certificate)
+module _ (program : Program) (policy : Policy) (annotations : Annotations) (laws : Laws program policy annotations)
     (machine : Machine)
-    (kept : Keeps program policy certificate (world_of machine) (world_of machine)) (a : Acting) (well : IsFrame program a.frame)
-    (clean : AreClean program a.frame.stack.items) (below : AreBelow program policy certificate a.below) where
+    (kept : Keeps program policy annotations (world_of machine) (world_of machine)) (a : Acting) (well : IsFrame program a.frame)
+    (clean : AreClean program a.frame.stack.items) (below : AreBelow program policy annotations a.below) where
   abbrev shared : World
   shared = world_of machine
 
   abbrev IsGood : Change → Type 0
-  IsGood change = Good program policy certificate (world_of machine) change
+  IsGood change = Good program policy annotations (world_of machine) change
 
   abbrev Makes : Option Change → Type 0
-  Makes change = GoodIf program policy certificate (world_of machine) change
+  Makes change = GoodIf program policy annotations (world_of machine) change
 
   abbrev Stays : World → Type 0
-  Stays world = Keeps program policy certificate (world_of machine) world
+  Stays world = Keeps program policy annotations (world_of machine) world
 
-  pub acts_good : (world : World) (f : Option Frame) → Keeps program policy certificate (world_of machine) world
-      → ((x : Frame) → f ≡ Some x → AreClientFrames program policy certificate (x ∷ a.below))
-      → GoodIf program policy certificate (world_of machine) (acts_on world a f)
-  acts_good world f k there = went_on program policy certificate laws shared world a.thread f a.below k there
+  pub acts_good : (world : World) (f : Option Frame) → Keeps program policy annotations (world_of machine) world
+      → ((x : Frame) → f ≡ Some x → AreClientFrames program policy annotations (x ∷ a.below))
+      → GoodIf program policy annotations (world_of machine) (acts_on world a f)
+  acts_good world f k there = went_on program policy annotations laws shared world a.thread f a.below k there
 
-  module _ (next : Insn × Target) (there : insn_at program a.frame ≡ Some next) (g : GoesFree program policy certificate a.frame next) where
+  module _ (next : Insn × Target) (there : insn_at program a.frame ≡ Some next) (g : GoesFree program policy annotations a.frame next) where
     -- ---- throwing, and going on behind the instruction
 
-    frames_catch : AreCatching program policy certificate (a.frame ∷ a.below)
+    frames_catch : AreCatching program policy annotations (a.frame ∷ a.below)
     frames_catch = (record { well = well; caught = g.caught }, below)
 
     throws_here : (world : World) (class : Name) → Stays world → Makes (Some (acts_throwing program world a class))
     throws_here world class k =
         if_some IsGood _
-        (throws_new_good program policy certificate laws shared world a.number a.thread (a.frame ∷ a.below) class None k frames_catch
+        (throws_new_good program policy annotations laws shared world a.number a.thread (a.frame ∷ a.below) class None k frames_catch
         tt)
 
     throws_top_good : (v : Value) → IsClean program v → Makes (throws_top program shared a v)
     throws_top_good v own =
         if_either IsGood (is_null v) _ _ (throws_here shared null_pointer kept)
         (if_mapped IsGood _ (class_of_value machine.heap v)
-        (λ class e. throws_good program policy certificate laws shared shared a.number a.thread (a.frame ∷ a.below) v class None
+        (λ class e. throws_good program policy annotations laws shared shared a.number a.thread (a.frame ∷ a.below) v class None
         kept own frames_catch tt))
 
     module _ (stays : ends (shape_of next.0) ≡ false) where
-      next_free : FreeAt program policy certificate a.frame (a.frame.at + 1)
-      next_free = g.past (may_go_on program policy certificate laws a.frame next there stays)
+      next_free : FreeAt program policy annotations a.frame (a.frame.at + 1)
+      next_free = g.past (may_go_on program policy annotations laws a.frame next there stays)
 
       goes_behind_good : (world : World) (items : List Value) → Stays world → AreClean program items → Makes (acts_on world a (after a.frame items))
       goes_behind_good world items k all =
-          acts_good world (after a.frame items) k (after_free program policy certificate a.frame items a.below well next_free all below)
+          acts_good world (after a.frame items) k (after_free program policy annotations a.frame items a.below well next_free all below)
 
       -- with other monitors, and one operand less
       goes_less : (held : List Monitor) → held_locks program held ≡ held_locks program machine.monitors
           → Makes (acts_on (with_monitors shared held) a (after a.frame (drop 1 a.frame.stack.items)))
       goes_less held same =
           goes_behind_good (with_monitors shared held) (drop 1 a.frame.stack.items)
-          (with_held program policy certificate laws shared shared held kept same)
+          (with_held program policy annotations laws shared shared held kept same)
           (all_drop (IsClean program) 1 a.frame.stack.items clean)
 
       -- ---- the heap, static fields, division
 
-      comes_good : (made : Result (World × List Value) Name) → Comes (IsClean program) (KeepsLock program (state_of program policy certificate) shared) made
+      comes_good : (made : Result (World × List Value) Name) → Comes (IsClean program) (KeepsLock program (state_of program policy annotations) shared) made
           → Makes (comes_to program shared a made)
       comes_good (Ok made) comes = goes_behind_good made.0 made.1 comes.0 comes.1
       comes_good (Err class) comes = throws_here shared class kept
 
       works_good : (what : Heap) → (what ≡ heap.Constant → IfThere (IsClean program) (constant_value program next.1))
-          → variable_named (state_of program policy certificate) next.1 ≡ None → Makes (works program shared a what next.1)
+          → variable_named (state_of program policy annotations) next.1 ≡ None → Makes (works program shared a what next.1)
       works_good what names alone =
-          let state : ℕ = state_of program policy certificate in
+          let state : ℕ = state_of program policy annotations in
           if_then IsGood _ (worked program shared what next.1 a.frame.stack.items)
           (λ made e. comes_good made
           (is_there (Comes (IsClean program) (KeepsLock program state shared)) _ made
@@ -201,24 +201,24 @@ module _ (program : Program) (policy : Policy) (certificate : Certificate) (laws
     returns_good kind =
         let own = clean_list program a.frame.lock well.lock in
         let held = all_given_up machine.monitors a.number (option_to_list a.frame.lock) in
-        let k = with_held program policy certificate laws shared shared held kept
+        let k = with_held program policy annotations laws shared shared held kept
         (all_given_up_stay program (option_to_list a.frame.lock) machine.monitors a.number own) in
         if_then IsGood _ (result_of kind a.frame.stack.items)
-        (λ result e. returned_good program policy certificate laws shared (with_monitors shared held) a.thread a.below result None k
+        (λ result e. returned_good program policy annotations laws shared (with_monitors shared held) a.thread a.below result None k
         below (is_there GivesClean _ result (result_clean kind) e) tt)
 
     -- ---- an instruction that works on its frame alone
 
-    steps_free : is_heap (shape_of next.0) ≡ false → FreeAt program policy certificate a.frame (next_of values_seen next.0 a.frame.at a.frame.stack.items)
+    steps_free : is_heap (shape_of next.0) ≡ false → FreeAt program policy annotations a.frame (next_of values_seen next.0 a.frame.at a.frame.stack.items)
     steps_free alone =
         let to : ℕ = next_of values_seen next.0 a.frame.at a.frame.stack.items in
-        let has = goes_to_successor values_seen next.0 a.frame.at a.frame.stack.items (insn_is program policy certificate laws a.frame next there) alone in
+        let has = goes_to_successor values_seen next.0 a.frame.at a.frame.stack.items (insn_is program policy annotations laws a.frame next there) alone in
         elim (Contains-append_cases (cond (goes_on (opcode_of next.0)) ((a.frame.at + 1) ∷ []) []) (jump_targets next.0) to has) [
           | inl on ↦ by (goes_on (opcode_of next.0)) refl to on
           | inr jump ↦ g.jump to jump
         ] where
-          by : (b : Bool) → goes_on (opcode_of next.0) ≡ b → (to : ℕ) → Contains (cond b ((a.frame.at + 1) ∷ []) []) to → FreeAt program policy certificate a.frame to
-          by true goes to has = subst (FreeAt program policy certificate a.frame) (one_of (a.frame.at + 1) to has) (g.past goes)
+          by : (b : Bool) → goes_on (opcode_of next.0) ≡ b → (to : ℕ) → Contains (cond b ((a.frame.at + 1) ∷ []) []) to → FreeAt program policy annotations a.frame to
+          by true goes to has = subst (FreeAt program policy annotations a.frame) (one_of (a.frame.at + 1) to has) (g.past goes)
           by false goes to has = absurd (none_of to has)
 
     alone_good : is_heap (shape_of next.0) ≡ false → Makes (acts_on shared a (frame_stepped next.0 a.frame))
@@ -228,16 +228,16 @@ module _ (program : Program) (policy : Policy) (certificate : Certificate) (laws
         (λ f e. let m = and_then_of (λ (m : Moved Value). fitted a.frame to m.0 m.1) (effect values_moved (shape_of next.0) a.frame.locals a.frame.stack.items) f e in
         let k = effect_keeps values_moved (IsClean program) (clean_kept program) a.frame.locals a.frame.stack.items m.0 well.locals clean (shape_of next.0)
         (names_clean program (shape_of next.0)) m.1 in
-        fitted_free program policy certificate a.frame to m.0.0 m.0.1 a.below well (steps_free alone) k.0 k.1 below f m.2)
+        fitted_free program policy annotations a.frame to m.0.0 m.0.1 a.below well (steps_free alone) k.0 k.1 below f m.2)
 
     -- ---- any instruction that does not push the lock's class
 
-    module _ (alone : variable_named (state_of program policy certificate) next.1 ≡ None) (told : note_of program certificate a.frame ≡ Some notes.Free)
+    module _ (alone : variable_named (state_of program policy annotations) next.1 ≡ None) (told : note_of program annotations a.frame ≡ Some notes.Free)
         (unclaused : calls (shape_of next.0) ≡ true → has_clause policy next.1 ≡ false) (apart : pushes_state (shape_of next.0) next.1 ≡ false) where
       call_good : (how : How) → shape_of next.0 ≡ shapes.Heap (heap.Call how) → Makes (heap_stepped program machine a (heap.Call how) next.1)
       call_good how shape =
           let call : calls (shape_of next.0) ≡ true = ap calls shape in
-          calls_good program policy certificate laws machine kept a.number a.thread a.frame a.below how (record {
+          calls_good program policy annotations laws machine kept a.number a.thread a.frame a.below how (record {
             well = well;
             insn = next.0;
             ref = next.1;
@@ -281,7 +281,7 @@ module _ (program : Program) (policy : Policy) (certificate : Certificate) (laws
       heap_good heap.IsInstance shape = works_so heap.IsInstance shape refl
 
       pub shape_good : (shape : Shape) → shape_of next.0 ≡ shape
-          → GoodIf program policy certificate (world_of machine)
+          → GoodIf program policy annotations (world_of machine)
           (option_map_or (λ (what : Heap). heap_stepped program machine a what next.1) (heap_in shape) (acts_on (world_of machine) a (frame_stepped next.0 a.frame)))
       shape_good (shapes.Heap what) e = heap_good what e
       shape_good shapes.Nothing e = alone_good (ap is_heap e)

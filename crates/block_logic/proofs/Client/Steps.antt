@@ -4,7 +4,7 @@ use Rattle.std.specs.Prelude.{is_some, nat_lt, not}
 use Rattle.std.specs.Option.{option_map_or}
 use Rattle.std.proofs.lemmas.Bool.{and_parts, cases_Bool, false_from_ne_true, false≢true}
 use Rattle.std.proofs.lemmas.Slice.Eq.{bytes_eq-Decides}
-use Rattle.cert_format.specs.declared.certificate.Certificate.{Certificate}
+use Rattle.block_logic.specs.Annotations.{Annotations}
 use Rattle.cert_format.specs.declared.note.Note.{Note}
 use Rattle.cert_format.specs.declared.note.Note.TheVariants as notes
 use Rattle.insn_codec.specs.declared.insn.Insn.{Insn}
@@ -71,40 +71,40 @@ module _ (program : Program) (policy : Policy) where
   lock_is : (index : ℕ) → class_index program state_name ≡ Some index → values.Class index ≡ lock_of program
   lock_is index e = rw e refl
 
-  module _ (certificate : Certificate) (laws : Laws program policy certificate) (machine : Machine) (a : Acting) (next : Insn × Target) (acts : Acts program policy certificate machine a next notes.Free)
+  module _ (annotations : Annotations) (laws : Laws program policy annotations) (machine : Machine) (a : Acting) (next : Insn × Target) (acts : Acts program policy annotations machine a next notes.Free)
       (clean : AreClean program a.frame.stack.items) where
     abbrev shared : World
     shared = world_of machine
 
     abbrev IsGood : Change → Type 0
-    IsGood change = Good program policy certificate (world_of machine) change
+    IsGood change = Good program policy annotations (world_of machine) change
 
     abbrev Makes : Option Change → Type 0
-    Makes change = GoodIf program policy certificate (world_of machine) change
+    Makes change = GoodIf program policy annotations (world_of machine) change
 
-    kept : Keeps program policy certificate (world_of machine) (world_of machine)
-    kept = lock_kept program (state_of program policy certificate) (world_of machine) acts.world
+    kept : Keeps program policy annotations (world_of machine) (world_of machine)
+    kept = lock_kept program (state_of program policy annotations) (world_of machine) acts.world
 
-    ruled : IsRuled program policy certificate a.frame next notes.Free
+    ruled : IsRuled program policy annotations a.frame next notes.Free
     ruled = laws.rules_hold a.frame next notes.Free acts.there acts.told
 
     -- ---- taking the lock
 
     module _ (shape : shape_of next.0 ≡ shapes.Heap heap.Constant) (takes : ruled.r.past ≡ Taking) where
-      leads_taking : LeadsTo program policy certificate a.frame (a.frame.at + 1) Taking
+      leads_taking : LeadsTo program policy annotations a.frame (a.frame.at + 1) Taking
       leads_taking =
-          subst (LeadsTo program policy certificate a.frame (a.frame.at + 1)) takes
-          (ruled.past (may_go_on program policy certificate laws a.frame next acts.there (ap ends shape)))
+          subst (LeadsTo program policy annotations a.frame (a.frame.at + 1)) takes
+          (ruled.past (may_go_on program policy annotations laws a.frame next acts.there (ap ends shape)))
 
       takes_behind : (v : Value) → v ≡ lock_of program → (f : Frame) → after a.frame (v ∷ a.frame.stack.items) ≡ Some f
-          → AreClientFrames program policy certificate (f ∷ a.below)
+          → AreClientFrames program policy annotations (f ∷ a.below)
       takes_behind v is f e =
           let items : List Value = v ∷ a.frame.stack.items in
           let to : Frame = moved_to a.frame (a.frame.at + 1) a.frame.locals items in
           let above : IsAbove program (lock_of program ∷ []) items =
           record { rest = a.frame.stack.items; is = ap (λ (w : Value). w ∷ a.frame.stack.items) is; clean = clean } in
-          subst (λ (x : Frame). AreClientFrames program policy certificate (x ∷ a.below)) (unless_of (nat_lt a.frame.stack.size (length items)) to f e) (
-            moved_frame program policy certificate a.frame (a.frame.at + 1) a.frame.locals items acts.well acts.well.locals,
+          subst (λ (x : Frame). AreClientFrames program policy annotations (x ∷ a.below)) (unless_of (nat_lt a.frame.stack.size (length items)) to f e) (
+            moved_frame program policy annotations a.frame (a.frame.at + 1) a.frame.locals items acts.well acts.well.locals,
             inr (leads_taking.note, leads_taking.told, taking_free to leads_taking.note leads_taking.meets above),
             acts.below,
           )
@@ -118,7 +118,7 @@ module _ (program : Program) (policy : Policy) where
           let c = map_of values.Class (class_index program state_name) m.0 m.1 in
           let lock : m.0 ≡ lock_of program = sym c.2 ∙ lock_is c.0 c.1 in
           subst (λ (r : Result (World × List Value) Name). Makes (comes_to program shared a r)) m.2
-          (acts_good program policy certificate laws machine kept a acts.well clean acts.below shared
+          (acts_good program policy annotations laws machine kept a acts.well clean acts.below shared
           (after a.frame (m.0 ∷ items)) kept (takes_behind m.0 lock)))
 
       pushes_lock : next.1 ≡ target.ClassName state_name → Makes (insn_stepped program machine a next)
@@ -130,7 +130,7 @@ module _ (program : Program) (policy : Policy) where
     taken_good pushes =
         let parts = and_parts (loads_constant (shape_of next.0)) (is_state_name next.1) pushes in
         pushes_lock (constant_is (shape_of next.0) parts.0)
-        (row_taking (rules_of program policy certificate) (shape_of next.0) next.1 ruled.r pushes ruled.has) (state_is next.1 parts.1)
+        (row_taking (rules_of program policy annotations) (shape_of next.0) next.1 ruled.r pushes ruled.has) (state_is next.1 parts.1)
 
     -- ---- any other instruction
 
@@ -140,8 +140,8 @@ module _ (program : Program) (policy : Policy) where
 
     other_good : pushes_state (shape_of next.0) next.1 ≡ false → Makes (insn_stepped program machine a next)
     other_good apart =
-        let g = goes_free program policy certificate laws a.frame next acts.there acts.told apart in
-        shape_good program policy certificate laws machine kept a acts.well clean acts.below next acts.there g (ruled.alone refl) acts.told unclaused
+        let g = goes_free program policy annotations laws a.frame next acts.there acts.told apart in
+        shape_good program policy annotations laws machine kept a acts.well clean acts.below next acts.there g (ruled.alone refl) acts.told unclaused
         apart (shape_of next.0) refl
 
     pub step_good : Makes (insn_stepped program machine a next)
@@ -150,9 +150,9 @@ module _ (program : Program) (policy : Policy) where
       | inr apart ↦ other_good apart
     ]
 
-  pub client_steps : (certificate : Certificate) → IsObeying program policy certificate → RulesHold program policy certificate → BeginsOpen program policy certificate
-      → OpenIsFree program policy certificate → ClientSteps program policy certificate
-  client_steps certificate o rules_hold begins_open open_free machine a next change acts clean e =
-      let laws : Laws program policy certificate = record { obeys = o; rules_hold = rules_hold; begins_open = begins_open; open_free = open_free } in
-      is_there (Good program policy certificate (world_of machine)) (insn_stepped program machine a next) change
-      (step_good certificate laws machine a next acts clean) e
+  pub client_steps : (annotations : Annotations) → IsObeying program policy annotations → RulesHold program policy annotations → BeginsOpen program policy annotations
+      → OpenIsFree program policy annotations → ClientSteps program policy annotations
+  client_steps annotations o rules_hold begins_open open_free machine a next change acts clean e =
+      let laws : Laws program policy annotations = record { obeys = o; rules_hold = rules_hold; begins_open = begins_open; open_free = open_free } in
+      is_there (Good program policy annotations (world_of machine)) (insn_stepped program machine a next) change
+      (step_good annotations laws machine a next acts clean) e

@@ -3,7 +3,7 @@ use Rattle.std.proofs.Common.{◌≡◌, cond, List, [], ◌∷◌, Option, Some
 use Rattle.std.specs.Prelude.{nat_lt}
 use Rattle.std.specs.Option.{option_map_or, option_to_list}
 use Rattle.std.proofs.lemmas.Option.{cond_some}
-use Rattle.cert_format.specs.declared.certificate.Certificate.{Certificate}
+use Rattle.block_logic.specs.Annotations.{Annotations}
 use Rattle.bytecode_model.specs.declared.program.Handler.{Handler}
 use Rattle.bytecode_model.specs.declared.program.Program.{Program}
 use Rattle.bytecode_model.specs.SearchOrder.{Name}
@@ -21,22 +21,22 @@ use Rattle.block_logic.specs.Meaning.{AreClean, IsClean, IsFrame}
 use Rattle.block_logic.proofs.Client.Begins.{clean_list}
 use Rattle.block_logic.proofs.Client.Frames.{FreeAt, Laws, waits_free, went_free}
 
-module _ (program : Program) (policy : Policy) (certificate : Certificate) where
+module _ (program : Program) (policy : Policy) (annotations : Annotations) where
   -- A frame whose handlers that may catch are the client's.
   pub record CatchesFree (frame : Frame) : Type 0 where
     pub well : IsFrame program frame
-    pub caught : (class : Name) (handler : Handler) → handler_of program frame class ≡ Some handler → FreeAt program policy certificate frame handler.at
+    pub caught : (class : Name) (handler : Handler) → handler_of program frame class ≡ Some handler → FreeAt program policy annotations frame handler.at
 
   abbrev pub AreCatching : List Frame → Type 0
   AreCatching [] = Unit {0}
-  AreCatching (frame ∷ below) = CatchesFree frame × AreBelow program policy certificate below
+  AreCatching (frame ∷ below) = CatchesFree frame × AreBelow program policy annotations below
 
-  module _ (laws : Laws program policy certificate) where
+  module _ (laws : Laws program policy annotations) where
     -- those that wait are such
-    pub below_catching : (below : List Frame) → AreBelow program policy certificate below → AreCatching below
+    pub below_catching : (below : List Frame) → AreBelow program policy annotations below → AreCatching below
     below_catching [] waits = tt
     below_catching (frame ∷ below) waits =
-        (record { well = waits.0.well; caught = (waits_free program policy certificate laws frame waits.0).caught }, waits.1)
+        (record { well = waits.0.well; caught = (waits_free program policy annotations laws frame waits.0).caught }, waits.1)
 
     -- ---- the locks that are given up
 
@@ -60,28 +60,28 @@ module _ (program : Program) (policy : Policy) (certificate : Certificate) where
     -- ---- where it comes to
 
     module _ (thrown : Value) (class : Name) (clean : IsClean program thrown) where
-      caught_free : (frame f : Frame) (below : List Frame) → CatchesFree frame → AreBelow program policy certificate below
-          → caught_in program thrown class frame ≡ Some f → AreClientFrames program policy certificate (f ∷ below)
+      caught_free : (frame f : Frame) (below : List Frame) → CatchesFree frame → AreBelow program policy annotations below
+          → caught_in program thrown class frame ≡ Some f → AreClientFrames program policy annotations (f ∷ below)
       caught_free frame f below c waits e =
           let to : Handler → Frame = λ handler. moved_to frame handler.at frame.locals (thrown ∷ []) in
           let h = and_then_of (λ (handler : Handler). cond (nat_lt 0 frame.stack.size) (Some (to handler)) None) (handler_of program frame class) f e in
           let s = cond_some (nat_lt 0 frame.stack.size) (to h.0) f h.2 in
-          subst (λ (x : Frame). AreClientFrames program policy certificate (x ∷ below)) s.1
-          (went_free program policy certificate frame h.0.at frame.locals (thrown ∷ []) below c.well (c.caught class h.0 h.1) c.well.locals (clean, tt) waits)
+          subst (λ (x : Frame). AreClientFrames program policy annotations (x ∷ below)) s.1
+          (went_free program policy annotations frame h.0.at frame.locals (thrown ∷ []) below c.well (c.caught class h.0 h.1) c.well.locals (clean, tt) waits)
 
-      caught_or : (found : Option Frame) (below others : List Frame) → ((f : Frame) → found ≡ Some f → AreClientFrames program policy certificate (f ∷ below))
-          → AreClientFrames program policy certificate others
-          → AreClientFrames program policy certificate (option_map_or (λ (f : Frame). f ∷ below) found others)
+      caught_or : (found : Option Frame) (below others : List Frame) → ((f : Frame) → found ≡ Some f → AreClientFrames program policy annotations (f ∷ below))
+          → AreClientFrames program policy annotations others
+          → AreClientFrames program policy annotations (option_map_or (λ (f : Frame). f ∷ below) found others)
       caught_or None below others here rest = rest
       caught_or (Some f) below others here rest = here f refl
 
-      pub unwound_client : (frames : List Frame) → AreCatching frames → AreClientFrames program policy certificate (unwound program thrown class frames)
+      pub unwound_client : (frames : List Frame) → AreCatching frames → AreClientFrames program policy annotations (unwound program thrown class frames)
       unwound_client [] c = tt
       unwound_client (frame ∷ below) c =
           caught_or (caught_in program thrown class frame) below (unwound program thrown class below) (λ f e. caught_free frame f below c.0 c.1 e)
           (unwound_client below (below_catching below c.1))
 
-  pub thrown_client : (frames : List Frame) (to_begin : List Given) → AreClientFrames program policy certificate frames
-      → IsClient program policy certificate (thrown_thread frames to_begin)
+  pub thrown_client : (frames : List Frame) (to_begin : List Given) → AreClientFrames program policy annotations frames
+      → IsClient program policy annotations (thrown_thread frames to_begin)
   thrown_client [] to_begin client = tt
   thrown_client (frame ∷ below) to_begin client = client

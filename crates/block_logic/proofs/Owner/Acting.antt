@@ -9,7 +9,7 @@ use Rattle.insn_codec.specs.Shapes.{shape_of}
 use Rattle.insn_codec.specs.Table.{ends}
 use Rattle.bytecode_model.specs.declared.program.Program.{Program}
 use Rattle.bytecode_model.specs.declared.program.Target.{Target}
-use Rattle.cert_format.specs.declared.certificate.Certificate.{Certificate}
+use Rattle.block_logic.specs.Annotations.{Annotations}
 use Rattle.cert_format.specs.declared.note.Note.{Note}
 use Rattle.conspec_automaton.specs.declared.policy.Policy.{Policy}
 use Rattle.conspec_automaton.specs.Next.{Values}
@@ -30,43 +30,43 @@ use Rattle.block_logic.proofs.Owner.Rows.{Asks}
 use Rattle.block_logic.proofs.Ruled.{IsRuled, LeadsTo, OpenIsFree}
 use Rattle.block_logic.proofs.Steps.{Acts, ChangesOwner}
 
-module _ (program : Program) (policy : Policy) (certificate : Certificate) where
+module _ (program : Program) (policy : Policy) (annotations : Annotations) where
   -- the thread, its instruction, and what the step changes
   pub record ActsHolding (machine : Machine) (a : Acting) (next : Insn × Target) (change : Change) (note : Note) (fields : List Value) : Type 0 where
-    pub acts : Acts program policy certificate machine a next note
+    pub acts : Acts program policy annotations machine a next note
     pub locked : held_locks program machine.monitors ≡ locked_by program a.number
-    pub there : slice_get machine.statics (state_of program policy certificate) ≡ Some fields
+    pub there : slice_get machine.statics (state_of program policy annotations) ≡ Some fields
     pub step : insn_stepped program machine a next ≡ Some change
-    pub ruled : IsRuled program policy certificate a.frame next note
+    pub ruled : IsRuled program policy annotations a.frame next note
 
-  module _ (o : IsObeying program policy certificate) (machine : Machine) (a : Acting) (next : Insn × Target) (change : Change) (note : Note) (fields : List Value)
+  module _ (o : IsObeying program policy annotations) (machine : Machine) (a : Acting) (next : Insn × Target) (change : Change) (note : Note) (fields : List Value)
       (h : ActsHolding machine a next change note fields) (seen : List Event) where
     -- what is asked of the instruction behind
-    pub leads_behind : (asked : Asked) → ends (shape_of next.0) ≡ false → h.ruled.r.past ≡ asked → LeadsTo program policy certificate a.frame (a.frame.at + 1) asked
+    pub leads_behind : (asked : Asked) → ends (shape_of next.0) ≡ false → h.ruled.r.past ≡ asked → LeadsTo program policy annotations a.frame (a.frame.at + 1) asked
     leads_behind asked stays past =
-        subst (LeadsTo program policy certificate a.frame (a.frame.at + 1)) past (h.ruled.past (goes_behind program policy certificate o a.frame next h.acts.there stays))
+        subst (LeadsTo program policy annotations a.frame (a.frame.at + 1)) past (h.ruled.past (goes_behind program policy annotations o a.frame next h.acts.there stays))
 
     -- It goes on with the lock, and what is shared is as it was.
-    pub goes_with : (to : ℕ) (locals items : List Value) (given : Note) → AreClean program locals → LeadsTo program policy certificate a.frame to (Given given)
+    pub goes_with : (to : ℕ) (locals items : List Value) (given : Note) → AreClean program locals → LeadsTo program policy annotations a.frame to (Given given)
         → Goes program machine a change (world_of machine) to locals items
-        → Owns program policy certificate.mode seen fields (moved_to a.frame to locals items) given → ChangesOwner program policy certificate a.number seen change
+        → Owns program policy annotations.held seen fields (moved_to a.frame to locals items) given → ChangesOwner program policy annotations a.number seen change
     goes_with to locals items given clean leads g owns =
-        subst (ChangesOwner program policy certificate a.number seen) (sym g.is)
-        (goes_holding program policy certificate o a.number seen fields (world_of machine) a.thread (moved_to a.frame to locals items) a.below h.acts.below
+        subst (ChangesOwner program policy annotations a.number seen) (sym g.is)
+        (goes_holding program policy annotations o a.number seen fields (world_of machine) a.thread (moved_to a.frame to locals items) a.below h.acts.below
         (record { clean = h.acts.world; locks = h.locked; variables = h.there })
-        (owner_frame program policy certificate o a.frame h.acts.well seen fields to locals items given clean leads owns))
+        (owner_frame program policy annotations o a.frame h.acts.well seen fields to locals items given clean leads owns))
 
     -- to the instruction behind
     pub goes_with_behind : (items : List Value) (given : Note) → ends (shape_of next.0) ≡ false → Asks h.ruled.r (Given given)
         → Goes program machine a change (world_of machine) (a.frame.at + 1) a.frame.locals items
-        → Owns program policy certificate.mode seen fields (moved_to a.frame (a.frame.at + 1) a.frame.locals items) given
-        → ChangesOwner program policy certificate a.number seen change
+        → Owns program policy annotations.held seen fields (moved_to a.frame (a.frame.at + 1) a.frame.locals items) given
+        → ChangesOwner program policy annotations a.number seen change
     goes_with_behind items given stays asks g owns =
         goes_with (a.frame.at + 1) a.frame.locals items given h.acts.well.locals (leads_behind (Given given) stays asks.past) g owns
 
     -- It leaves the lock, and is in no block; the events lead to the state of the variables.
-    pub gives_up : OpenIsFree program policy certificate → shape_of next.0 ≡ shapes.Heap heap.Exit → Asks h.ruled.r Open → IsAbove program (lock_of program ∷ []) a.frame.stack.items
-        → (state : Values) → in_range policy state ≡ true → Leads policy seen state → AreState fields state → ChangesOwner program policy certificate a.number seen change
+    pub gives_up : OpenIsFree program policy annotations → shape_of next.0 ≡ shapes.Heap heap.Exit → Asks h.ruled.r Open → IsAbove program (lock_of program ∷ []) a.frame.stack.items
+        → (state : Values) → in_range policy state ≡ true → Leads policy seen state → AreState fields state → ChangesOwner program policy annotations a.number seen change
     gives_up open_is_free is asks above state ranged led are =
         let top : slice_get a.frame.stack.items 0 ≡ Some (lock_of program) = ap (λ (items : List Value). slice_get items 0) above.is in
         let left = lock_left program a.number machine.monitors h.locked in
@@ -74,9 +74,9 @@ module _ (program : Program) (policy : Policy) (certificate : Certificate) where
         let rest = drop 1 a.frame.stack.items in
         let clean : AreClean program rest = subst (λ (items : List Value). AreClean program (drop 1 items)) (sym above.is) above.clean in
         let leads = leads_behind Open (ap ends is) asks.past in
-        subst (ChangesOwner program policy certificate a.number seen) (sym g.is)
-        (goes_free program policy certificate o a.number seen fields (with_monitors (world_of machine) left.held) a.thread
+        subst (ChangesOwner program policy annotations a.number seen) (sym g.is)
+        (goes_free program policy annotations o a.number seen fields (with_monitors (world_of machine) left.held) a.thread
         (moved_to a.frame (a.frame.at + 1) a.frame.locals rest) a.below h.acts.below
         (record { heap = h.acts.world.heap; statics = h.acts.world.statics }) left.locks h.there state ranged led are
-        (frame_moved program policy certificate o a.frame h.acts.well seen (a.frame.at + 1) a.frame.locals rest h.acts.well.locals)
-        (client_frame program policy certificate o a.frame h.acts.well seen open_is_free (a.frame.at + 1) a.frame.locals rest clean leads))
+        (frame_moved program policy annotations o a.frame h.acts.well seen (a.frame.at + 1) a.frame.locals rest h.acts.well.locals)
+        (client_frame program policy annotations o a.frame h.acts.well seen open_is_free (a.frame.at + 1) a.frame.locals rest clean leads))

@@ -20,7 +20,7 @@ use Rattle.bytecode_model.specs.declared.program.Program.{Program}
 use Rattle.bytecode_model.specs.declared.program.Target.{Target}
 use Rattle.bytecode_model.specs.declared.program.Target.TheVariants as target
 use Rattle.bytecode_model.specs.SearchOrder.{Name}
-use Rattle.cert_format.specs.declared.certificate.Certificate.{Certificate}
+use Rattle.block_logic.specs.Annotations.{Annotations, holds_round}
 use Rattle.cert_format.specs.declared.note.Note.{Note}
 use Rattle.cert_format.specs.declared.note.Note.TheVariants as notes
 use Rattle.cert_format.specs.declared.note.Phase8.TheVariants.{After, Exceptional}
@@ -54,7 +54,7 @@ use Rattle.block_logic.specs.Meaning.{AreClean, HasResult, HasResultIn, IsClean,
 use Rattle.block_logic.specs.Obeying.{FitsListing, IsObeying}
 use Rattle.block_logic.specs.Operands.{calls, pushes_state}
 use Rattle.block_logic.specs.Rows.{Given, Row, Rules, granted_row, is_duty, returned as asked_behind, thrown as asked_thrown}
-use Rattle.block_logic.specs.Standing.{in_phase, is_before, is_hold}
+use Rattle.block_logic.specs.Standing.{in_phase, is_before}
 use Rattle.block_logic.proofs.Owner.Events.{has_its_clause, is_pending, leads_still}
 use Rattle.block_logic.proofs.Owner.Going.{IsHeldBy, goes_behind, owner_frame}
 use Rattle.block_logic.proofs.Owner.GrantedRows.{CallsMethod, granted_cases}
@@ -83,13 +83,13 @@ call_stays (shapes.Heap (heap.Call how)) e = refl
 call_stays shape e = absurd cc
 
 -- what is asked behind the call, and of its handlers, where the lock is held
-behind_held : (rules : Rules) (site : Site) → is_hold rules.mode ≡ true → asked_behind rules site ≡ Given (notes.Owed (in_phase After site) 1 false false)
+behind_held : (rules : Rules) (site : Site) → holds_round rules.held site.method ≡ true → asked_behind rules site ≡ Given (notes.Owed (in_phase After site) 1 false false)
 behind_held rules site hold = rw hold refl
 
-duty_held : (rules : Rules) (method : ℕ) → is_hold rules.mode ≡ true → is_duty rules method ≡ true
+duty_held : (rules : Rules) (method : ℕ) → holds_round rules.held method ≡ true → is_duty rules method ≡ true
 duty_held rules method hold = rw hold refl
 
-thrown_held : (rules : Rules) (site : Site) → is_hold rules.mode ≡ true → asked_thrown rules site ≡ Given (notes.Owed (in_phase Exceptional site) 1 false false)
+thrown_held : (rules : Rules) (site : Site) → holds_round rules.held site.method ≡ true → asked_thrown rules site ≡ Given (notes.Owed (in_phase Exceptional site) 1 false false)
 thrown_held rules site hold = rw hold refl
 
 -- what is thrown is caught in the frame that called
@@ -154,27 +154,27 @@ gives_something program world result receiver arguments (answers.Throws class) g
 
 -- ---- the frame that waited
 
-module _ (program : Program) (policy : Policy) (certificate : Certificate) (o : IsObeying program policy certificate) (rules_hold : RulesHold program policy certificate)
-    (number : ℕ) (thread : Thread) (method : ℕ) (seen : List Event) (fields : List Value) (frame : Frame) (below : List Frame) (under : AreBelow program policy certificate below)
-    (c : IsOwnerCall program policy certificate seen fields method frame) (has : has_clauses policy method ≡ true) where
+module _ (program : Program) (policy : Policy) (annotations : Annotations) (o : IsObeying program policy annotations) (rules_hold : RulesHold program policy annotations)
+    (number : ℕ) (thread : Thread) (method : ℕ) (seen : List Event) (fields : List Value) (frame : Frame) (below : List Frame) (under : AreBelow program policy annotations below)
+    (c : IsOwnerCall program policy annotations seen fields method frame) (has : has_clauses policy method ≡ true) where
   abbrev rules : Rules
-  rules = rules_of program policy certificate
+  rules = rules_of program policy annotations
 
   abbrev note : Note
   note = notes.Granted c.site true (needs policy method) false
 
-  ruled : IsRuled program policy certificate frame (c.at_call.insn, target.ApiMethod method) note
+  ruled : IsRuled program policy annotations frame (c.at_call.insn, target.ApiMethod method) note
   ruled = rules_hold frame (c.at_call.insn, target.ApiMethod method) note c.at_call.there c.at_call.told
 
   row_is : CallsMethod rules c.site true (needs policy method) false (shape_of c.at_call.insn) (target.ApiMethod method) ruled.r
   row_is = call_row rules c.site (needs policy method) (shape_of c.at_call.insn) (target.ApiMethod method) ruled.r c.at_call.call ruled.has
 
   -- the update is due
-  owes : (site : Site) (e : Event) (at : ℕ) (items : List Value) → is_before site.phase ≡ false → IsEventOf site e → AreClean program items
+  owes : (site : Site) (e : Event) (at : ℕ) (items : List Value) → site.method ≡ method → is_before site.phase ≡ false → IsEventOf site e → AreClean program items
       → ((clause : Clause) → clause_of policy site ≡ Some clause → HasResultIn clause site.phase false site.base frame.locals items e)
-      → Owns program policy certificate.mode (seen ++ e ∷ []) fields (moved_to frame at frame.locals items) (notes.Owed site 1 false false)
-  owes site e at items behind of clean tells = (
-    c.hold,
+      → Owns program policy annotations.held (seen ++ e ∷ []) fields (moved_to frame at frame.locals items) (notes.Owed site 1 false false)
+  owes site e at items is behind of clean tells = (
+    ap (holds_round annotations.held) is ∙ c.hold,
     record {
       behind = behind;
       state = c.state;
@@ -189,11 +189,11 @@ module _ (program : Program) (policy : Policy) (certificate : Certificate) (o : 
     by (Some clause) there = record { event = e; pends = is_pending policy seen site e c.state c.led (has_its_clause policy site e of ∙ ap is_some there) of; told = tells clause there }
 
   -- the thread goes on, and the library saw an event
-  goes_seen : (world : World) (e : Event) (f : Frame) → IsHeldBy program policy certificate o number fields world → IsOwnerFrame program policy certificate (seen ++ e ∷ []) fields f
-      → ChangesOwner program policy certificate number seen (with_event (goes world thread (f ∷ below)) (Some e))
+  goes_seen : (world : World) (e : Event) (f : Frame) → IsHeldBy program policy annotations o number fields world → IsOwnerFrame program policy annotations (seen ++ e ∷ []) fields f
+      → ChangesOwner program policy annotations number seen (with_event (goes world thread (f ∷ below)) (Some e))
   goes_seen world e f held top = record {
     begins = refl;
-    followed = owned_followed program policy certificate o (seen ++ e ∷ []) fields f top.note top.owns;
+    followed = owned_followed program policy annotations o (seen ++ e ∷ []) fields f top.note top.owns;
     goes = λ on. (held.clean, inl (record { locks = held.locks; fields = fields; variables = held.variables; owns = (top, under) }));
   }
 
@@ -203,8 +203,8 @@ module _ (program : Program) (policy : Policy) (certificate : Certificate) (o : 
       (there : slice_get program.listing.methods method ≡ Some listed)
       (fits : answer_fits program world.heap (types_of listed.id.desc).result receiver arguments answer ≡ true)
       (gave : World × Option Value) (given_is : given world receiver arguments answer ≡ Some gave)
-      (clean : GivesClean program (state_of program policy certificate) world gave)
-      (locked : held_locks program world.monitors ≡ locked_by program number) (variables : slice_get world.statics (state_of program policy certificate) ≡ Some fields) where
+      (clean : GivesClean program (state_of program policy annotations) world gave)
+      (locked : held_locks program world.monitors ≡ locked_by program number) (variables : slice_get world.statics (state_of program policy annotations) ≡ Some fields) where
     abbrev event : Event
     event = events.Return number method (option_map (value_shown program gave.0.heap) gave.1)
 
@@ -243,35 +243,35 @@ module _ (program : Program) (policy : Policy) (certificate : Certificate) (o : 
       by None is = tt
       by (Some v) is = (is, tt)
 
-    leads : LeadsTo program policy certificate frame (frame.at + 1) (Given (notes.Owed site 1 false false))
+    leads : LeadsTo program policy annotations frame (frame.at + 1) (Given (notes.Owed site 1 false false))
     leads =
-        let asked : ruled.r.past ≡ Given (notes.Owed site 1 false false) = ap (λ (r : Row). r.past) row_is.is ∙ behind_held rules c.site (ap is_hold c.hold) in
-        subst (LeadsTo program policy certificate frame (frame.at + 1)) asked
-        (ruled.past (goes_behind program policy certificate o frame (c.at_call.insn, target.ApiMethod method) c.at_call.there (call_stays (shape_of c.at_call.insn) c.at_call.call)))
+        let asked : ruled.r.past ≡ Given (notes.Owed site 1 false false) = ap (λ (r : Row). r.past) row_is.is ∙ behind_held rules c.site (ap (holds_round annotations.held) c.of ∙ c.hold) in
+        subst (LeadsTo program policy annotations frame (frame.at + 1)) asked
+        (ruled.past (goes_behind program policy annotations o frame (c.at_call.insn, target.ApiMethod method) c.at_call.there (call_stays (shape_of c.at_call.insn) c.at_call.call)))
 
-    returns : ChangesOwner program policy certificate number seen (with_event (goes gave.0 thread (moved_to frame (frame.at + 1) frame.locals items ∷ below)) (Some event))
+    returns : ChangesOwner program policy annotations number seen (with_event (goes gave.0 thread (moved_to frame (frame.at + 1) frame.locals items ∷ below)) (Some event))
     returns =
         let of : IsEventOf site event = record { method = sym c.of; phase = refl } in
         goes_seen gave.0 event (moved_to frame (frame.at + 1) frame.locals items)
         (record {
           clean = clean.clean;
           locks = ap (held_locks program) clean.monitors ∙ locked;
-          variables = ap (λ (statics : List (List Value)). slice_get statics (state_of program policy certificate)) clean.statics ∙ variables;
+          variables = ap (λ (statics : List (List Value)). slice_get statics (state_of program policy annotations)) clean.statics ∙ variables;
         })
-        (owner_frame program policy certificate o frame c.well (seen ++ event ∷ []) fields (frame.at + 1) frame.locals items (notes.Owed site 1 false false) c.well.locals leads
-        (owes site event (frame.at + 1) items refl of result_clean tells_result))
+        (owner_frame program policy annotations o frame c.well (seen ++ event ∷ []) fields (frame.at + 1) frame.locals items (notes.Owed site 1 false false) c.well.locals leads
+        (owes site event (frame.at + 1) items c.of refl of result_clean tells_result))
 
-    returns_change : (change : Change) → returned program gave.0 thread (frame ∷ below) gave.1 (Some event) ≡ Some change → ChangesOwner program policy certificate number seen change
+    returns_change : (change : Change) → returned program gave.0 thread (frame ∷ below) gave.1 (Some event) ≡ Some change → ChangesOwner program policy annotations number seen change
     returns_change change e =
         let onward = λ (f : Frame). with_event (goes gave.0 thread (f ∷ below)) (Some event) in
         let m = map_of onward (after frame items) change e in
         let f : moved_to frame (frame.at + 1) frame.locals items ≡ m.0 = unless_of (nat_lt frame.stack.size (length items)) _ _ m.1 in
-        subst (ChangesOwner program policy certificate number seen) (ap onward f ∙ m.2) returns
+        subst (ChangesOwner program policy annotations number seen) (ap onward f ∙ m.2) returns
 
   -- ---- the method throws
 
-  module _ (world : World) (clean : IsCleanWorld program (state_of program policy certificate) world)
-      (locked : held_locks program world.monitors ≡ locked_by program number) (variables : slice_get world.statics (state_of program policy certificate) ≡ Some fields)
+  module _ (world : World) (clean : IsCleanWorld program (state_of program policy annotations) world)
+      (locked : held_locks program world.monitors ≡ locked_by program number) (variables : slice_get world.statics (state_of program policy annotations) ≡ Some fields)
       (class : Name) where
     abbrev thrown : Value
     thrown = values.Ref (length world.heap)
@@ -284,7 +284,7 @@ module _ (program : Program) (policy : Policy) (certificate : Certificate) (o : 
 
     catches : (handler : Handler) × (handler_of program frame class ≡ Some handler)
     catches =
-        ruled.duty method refl c.at_call.call has (duty_held rules method (ap is_hold c.hold)) class
+        ruled.duty method refl c.at_call.call has (duty_held rules method c.hold) class
 
     abbrev caught : Frame
     caught = moved_to frame catches.0.at frame.locals (thrown ∷ [])
@@ -300,36 +300,36 @@ module _ (program : Program) (policy : Policy) (certificate : Certificate) (o : 
           by None e size = absurd cc
           by (Some n) e size = let same : n ≡ ruled.of = cc in subst (λ (x : Method). frame.stack.size ≡ x.max_stack) same size
 
-    leads_caught : LeadsTo program policy certificate frame catches.0.at (Given (notes.Owed thrown_site 1 false false))
+    leads_caught : LeadsTo program policy annotations frame catches.0.at (Given (notes.Owed thrown_site 1 false false))
     leads_caught =
-        subst (LeadsTo program policy certificate frame catches.0.at)
-        (ap (λ (r : Row). r.thrown) row_is.is ∙ thrown_held rules c.site (ap is_hold c.hold))
+        subst (LeadsTo program policy annotations frame catches.0.at)
+        (ap (λ (r : Row). r.thrown) row_is.is ∙ thrown_held rules c.site (ap (holds_round annotations.held) c.of ∙ c.hold))
         (ruled.caught class catches.0 catches.1)
 
-    throws_well : ChangesOwner program policy certificate number seen (with_event (goes (with_object world (bare_object class)) thread (caught ∷ below)) (Some excepted))
+    throws_well : ChangesOwner program policy annotations number seen (with_event (goes (with_object world (bare_object class)) thread (caught ∷ below)) (Some excepted))
     throws_well =
         let of : IsEventOf thrown_site excepted = record { method = sym c.of; phase = refl } in
         goes_seen (with_object world (bare_object class)) excepted caught
-        (record { clean = with_clean program (state_of program policy certificate) world (bare_object class) clean (tt, refl); locks = locked; variables = variables })
-        (owner_frame program policy certificate o frame c.well (seen ++ excepted ∷ []) fields catches.0.at frame.locals (thrown ∷ []) (notes.Owed thrown_site 1 false false) c.well.locals leads_caught
-        (owes thrown_site excepted catches.0.at (thrown ∷ []) refl of (refl, tt) (λ clause is. tt)))
+        (record { clean = with_clean program (state_of program policy annotations) world (bare_object class) clean (tt, refl); locks = locked; variables = variables })
+        (owner_frame program policy annotations o frame c.well (seen ++ excepted ∷ []) fields catches.0.at frame.locals (thrown ∷ []) (notes.Owed thrown_site 1 false false) c.well.locals leads_caught
+        (owes thrown_site excepted catches.0.at (thrown ∷ []) c.of refl of (refl, tt) (λ clause is. tt)))
 
-    throws_change : ChangesOwner program policy certificate number seen (throws_new program world number thread (frame ∷ below) class (Some excepted))
-    throws_change = subst (ChangesOwner program policy certificate number seen) (sym (throws_caught program world number thread frame below class excepted caught caught_is)) throws_well
+    throws_change : ChangesOwner program policy annotations number seen (throws_new program world number thread (frame ∷ below) class (Some excepted))
+    throws_change = subst (ChangesOwner program policy annotations number seen) (sym (throws_caught program world number thread frame below class excepted caught caught_is)) throws_well
 
   -- ---- any answer
 
-  module _ (world : World) (clean : IsCleanWorld program (state_of program policy certificate) world)
-      (locked : held_locks program world.monitors ≡ locked_by program number) (variables : slice_get world.statics (state_of program policy certificate) ≡ Some fields)
+  module _ (world : World) (clean : IsCleanWorld program (state_of program policy annotations) world)
+      (locked : held_locks program world.monitors ≡ locked_by program number) (variables : slice_get world.statics (state_of program policy annotations) ≡ Some fields)
       (frames : thread.frames ≡ frame ∷ below) (receiver : Option Value) (arguments : List Value) (passed : ArePassed program receiver arguments) (change : Change) where
     abbrev Changes : Type 0
-    Changes = ChangesOwner program policy certificate number seen change
+    Changes = ChangesOwner program policy annotations number seen change
 
     throws : (class : Name) → Some (throws_new program world number thread thread.frames class (Some (events.Except number method))) ≡ Some change → Changes
     throws class e =
         let same : throws_new program world number thread (frame ∷ below) class (Some (events.Except number method)) ≡ change =
         ap (λ (fs : List Frame). throws_new program world number thread fs class (Some (events.Except number method))) (sym frames) ∙ some_is _ change e in
-        subst (ChangesOwner program policy certificate number seen) same (throws_change world clean locked variables class)
+        subst (ChangesOwner program policy annotations number seen) same (throws_change world clean locked variables class)
 
     answers_well : (listed : ListedMethod) (answer : ApiAnswer) → slice_get program.listing.methods method ≡ Some listed
         → answer_fits program world.heap (types_of listed.id.desc).result receiver arguments answer ≡ true
@@ -344,7 +344,7 @@ module _ (program : Program) (policy : Policy) (certificate : Certificate) (o : 
           let returns : returned program gave.0.0 thread (frame ∷ below) gave.0.1 (Some (events.Return number method (option_map (value_shown program gave.0.0.heap) gave.0.1))) ≡ Some change =
           subst (λ (fs : List Frame). returned program gave.0.0 thread fs gave.0.1 (Some (events.Return number method (option_map (value_shown program gave.0.0.heap) gave.0.1))) ≡ Some change) frames gave.2 in
           returns_change receiver arguments answer world listed there fits gave.0 gave.1
-          (gives_clean program (state_of program policy certificate) world clean receiver arguments answer gave.0 passed gave.1) locked variables change returns
+          (gives_clean program (state_of program policy annotations) world clean receiver arguments answer gave.0 passed gave.1) locked variables change returns
 
     answers_fit : (answer : ApiAnswer) → answered program world number thread method receiver arguments answer ≡ Some change → Changes
     answers_fit answer e =
@@ -369,11 +369,11 @@ module _ (program : Program) (policy : Policy) (certificate : Certificate) (o : 
       | inr there ↦ let answers : answered program world number thread method receiver arguments answer ≡ Some change = rw there at e in answers_fit answer answers
     ]
 
-module _ (program : Program) (policy : Policy) (certificate : Certificate) (o : IsObeying program policy certificate) (rules_hold : RulesHold program policy certificate) where
+module _ (program : Program) (policy : Policy) (annotations : Annotations) (o : IsObeying program policy annotations) (rules_hold : RulesHold program policy annotations) where
   -- An answer to a call that was granted changes what it may.
-  pub owner_answers : OwnerAnswers program policy certificate
+  pub owner_answers : OwnerAnswers program policy annotations
   owner_answers world number thread method receiver arguments choice change seen fields clean has call passed locked variables step = by thread.frames refl call where
-    by : (frames : List Frame) → thread.frames ≡ frames → AreOwnerCall program policy certificate seen fields method frames → ChangesOwner program policy certificate number seen change
+    by : (frames : List Frame) → thread.frames ≡ frames → AreOwnerCall program policy annotations seen fields method frames → ChangesOwner program policy annotations number seen change
     by [] is call = absurd call
     by (frame ∷ below) is call =
-        steps program policy certificate o rules_hold number thread method seen fields frame below call.1 call.0 has world clean locked variables is receiver arguments passed change choice step
+        steps program policy annotations o rules_hold number thread method seen fields frame below call.1 call.0 has world clean locked variables is receiver arguments passed change choice step

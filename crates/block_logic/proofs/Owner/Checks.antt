@@ -17,7 +17,7 @@ use Rattle.insn_codec.specs.Shapes.{shape_of}
 use Rattle.insn_codec.specs.Table.{ends}
 use Rattle.bytecode_model.specs.declared.program.Program.{Program}
 use Rattle.bytecode_model.specs.declared.program.Target.{Target}
-use Rattle.cert_format.specs.declared.certificate.Certificate.{Certificate}
+use Rattle.block_logic.specs.Annotations.{Annotations}
 use Rattle.cert_format.specs.declared.note.Note.TheVariants as notes
 use Rattle.cert_format.specs.declared.note.Site.{Site}
 use Rattle.cert_format.specs.declared.note.Term.{Term}
@@ -92,19 +92,19 @@ other_tested c rel relation r other e =
 
 -- ---- a check in a frame
 
-module _ (program : Program) (policy : Policy) (certificate : Certificate) (o : IsObeying program policy certificate) (open_is_free : OpenIsFree program policy certificate)
+module _ (program : Program) (policy : Policy) (annotations : Annotations) (o : IsObeying program policy annotations) (open_is_free : OpenIsFree program policy annotations)
     (machine : Machine) (a : Acting) (next : Insn × Target) (change : Change) (fields : List Value) (seen : List Event)
     (site : Site) (failed holding : ℕ) (list map : List Term)
-    (h : ActsHolding program policy certificate machine a next change (notes.Held site failed holding list map) fields)
+    (h : ActsHolding program policy annotations machine a next change (notes.Held site failed holding list map) fields)
     (m : MeansHeld program policy seen fields a.frame site failed holding list map) where
   abbrev rules : Rules
-  rules = rules_of program policy certificate
+  rules = rules_of program policy annotations
 
   abbrev check : Check
   check = record { site = site; clause = m.clause; failed = failed; holding = holding; terms = list; map = map }
 
   abbrev Changes : Type 0
-  Changes = ChangesOwner program policy certificate a.number seen change
+  Changes = ChangesOwner program policy annotations a.number seen change
 
   abbrev r : Row
   r = h.ruled.r
@@ -138,13 +138,13 @@ module _ (program : Program) (policy : Policy) (certificate : Certificate) (o : 
 
   pushes : (t : Term) → term_pushed rules site m.clause map (shape_of next.0) next.1 ≡ Some t → Asks r (Given (notes.Held site failed holding (list ++ t ∷ []) map)) → Changes
   pushes t pushed asks =
-      let p = term_is_pushed program policy certificate machine a change next h.step site m.clause map m.state m.event m.told fields m.variables h.there t pushed in
+      let p = term_is_pushed program policy annotations machine a change next h.step site m.clause map m.state m.event m.told fields m.variables h.there t pushed in
       let items = p.value ∷ a.frame.stack.items in
       let terms : AreTerms program m.state m.event (reverse (list ++ t ∷ [])) (p.value ∷ m.tops) =
       subst (λ (ts : List Term). AreTerms program m.state m.event ts (p.value ∷ m.tops)) (sym (one_more list t))
       (one_above program m.state m.event t p.value (reverse list) m.tops p.stands m.pushed) in
       let above : IsAbove program (p.value ∷ m.tops) items = record { rest = m.above.rest; is = ap (λ (vs : List Value). p.value ∷ vs) m.above.is; clean = m.above.clean } in
-      goes_with_behind program policy certificate o machine a next change _ fields h seen items (notes.Held site failed holding (list ++ t ∷ []) map) p.stays asks p.goes
+      goes_with_behind program policy annotations o machine a next change _ fields h seen items (notes.Held site failed holding (list ++ t ∷ []) map) p.stays asks p.goes
       (means_on (a.frame.at + 1) items failed holding (list ++ t ∷ []) map fields (p.value ∷ m.tops) m.tried m.variables terms above)
 
   -- ---- the two topmost terms
@@ -202,16 +202,16 @@ module _ (program : Program) (policy : Policy) (certificate : Certificate) (o : 
       subst (λ (ts : List Term). AreTerms program m.state m.event ts (value ∷ two.below)) (sym (one_more (without 2 list) t))
       (one_above program m.state m.event t value (reverse (without 2 list)) two.below stands two.others) in
       let left : items ≡ value ∷ two.below ++ m.above.rest = ap (λ (vs : List Value). value ∷ drop 2 vs) two.is in
-      goes_with_behind program policy certificate o machine a next change _ fields h seen items (notes.Held site failed holding (without 2 list ++ t ∷ []) map) (ap ends is) asks added.4
+      goes_with_behind program policy annotations o machine a next change _ fields h seen items (notes.Held site failed holding (without 2 list ++ t ∷ []) map) (ap ends is) asks added.4
       (means_on (a.frame.at + 1) items failed holding (without 2 list ++ t ∷ []) map fields (value ∷ two.below) m.tried m.variables terms (above_rest (value ∷ two.below) items left))
 
   -- ---- control goes elsewhere
 
   going : (to : ℕ) → shape_of next.0 ≡ shapes.Goto to → Asks r (Given (notes.Held site failed holding list map)) → Changes
   going to is asks =
-      let leads : LeadsTo program policy certificate a.frame to (Given (notes.Held site failed holding list map)) =
-      subst (LeadsTo program policy certificate a.frame to) asks.jump (h.ruled.jump to (goes_there program policy certificate o a.frame next h.acts.there to is)) in
-      goes_with program policy certificate o machine a next change _ fields h seen to a.frame.locals a.frame.stack.items (notes.Held site failed holding list map) h.acts.well.locals leads
+      let leads : LeadsTo program policy annotations a.frame to (Given (notes.Held site failed holding list map)) =
+      subst (LeadsTo program policy annotations a.frame to) asks.jump (h.ruled.jump to (goes_there program policy annotations o a.frame next h.acts.there to is)) in
+      goes_with program policy annotations o machine a next change _ fields h seen to a.frame.locals a.frame.stack.items (notes.Held site failed holding list map) h.acts.well.locals leads
       (jumps program machine a change next h.step to is)
       (means_on to a.frame.stack.items failed holding list map fields m.tops m.tried m.variables m.pushed m.above)
 
@@ -226,17 +226,17 @@ module _ (program : Program) (policy : Policy) (certificate : Certificate) (o : 
     tops = two_tops (base_term atom.base) (terms.Const atom.value) asked.base asked.value
 
     -- with the atom known to hold or to fail, at the instruction where control goes
-    tells : (at : ℕ) (outcome : Bool) → so ≡ outcome → LeadsTo program policy certificate a.frame at (Given (cond outcome (holding_on check) (failing check)))
+    tells : (at : ℕ) (outcome : Bool) → so ≡ outcome → LeadsTo program policy annotations a.frame at (Given (cond outcome (holding_on check) (failing check)))
         → Goes program machine a change (world_of machine) at a.frame.locals (drop 2 a.frame.stack.items) → Changes
     tells at true outcome leads g =
         let items = drop 2 a.frame.stack.items in
-        goes_with program policy certificate o machine a next change _ fields h seen at a.frame.locals items (holding_on check) h.acts.well.locals leads g
+        goes_with program policy annotations o machine a next change _ fields h seen at a.frame.locals items (holding_on check) h.acts.well.locals leads g
         (means_on at items failed (holding + 1) (without 2 list) map fields tops.below
         (one_more_holds program m.state m.event m.clause.branches failed holding branch atom there atom_is m.tried outcome) m.variables tops.others
         (above_rest tops.below items (ap (drop 2) tops.is)))
     tells at false outcome leads g =
         let items = drop 2 a.frame.stack.items in
-        goes_with program policy certificate o machine a next change _ fields h seen at a.frame.locals items (failing check) h.acts.well.locals leads g
+        goes_with program policy annotations o machine a next change _ fields h seen at a.frame.locals items (failing check) h.acts.well.locals leads g
         (means_on at items (failed + 1) 0 (without 2 list) map fields tops.below
         (one_more_fails program m.state m.event m.clause.branches failed holding branch atom there atom_is m.tried outcome) m.variables tops.others
         (above_rest tops.below items (ap (drop 2) tops.is)))
@@ -249,11 +249,11 @@ module _ (program : Program) (policy : Policy) (certificate : Certificate) (o : 
     jumps_or_not true outcome known asks y x first second relates g =
         let at_to : next_of values_seen next.0 to a.frame.stack.items ≡ to =
         ap (λ (s : Shape). goes_to values_seen next.0 s (to + 1) a.frame.stack.items) is ∙ compared_to next.0 relation to (to + 1) a.frame.stack.items y x first second ∙ ap (λ (b : Bool). cond b to (to + 1)) relates in
-        let leads = subst (LeadsTo program policy certificate a.frame to) asks (h.ruled.jump to (compares_there program policy certificate o a.frame next h.acts.there relation to a.frame.stack.items is at_to)) in
+        let leads = subst (LeadsTo program policy annotations a.frame to) asks (h.ruled.jump to (compares_there program policy annotations o a.frame next h.acts.there relation to a.frame.stack.items is at_to)) in
         tells to outcome known leads
         (subst (λ (b : Bool). Goes program machine a change (world_of machine) (cond b to (a.frame.at + 1)) a.frame.locals (drop 2 a.frame.stack.items)) relates g)
     jumps_or_not false outcome known asks y x first second relates g =
-        let leads = leads_behind program policy certificate o machine a next change _ fields h seen (Given (cond outcome (holding_on check) (failing check))) (ap ends is) asks in
+        let leads = leads_behind program policy annotations o machine a next change _ fields h seen (Given (cond outcome (holding_on check) (failing check))) (ap ends is) asks in
         tells (a.frame.at + 1) outcome known leads
         (subst (λ (b : Bool). Goes program machine a change (world_of machine) (cond b to (a.frame.at + 1)) a.frame.locals (drop 2 a.frame.stack.items)) relates g)
 
@@ -311,13 +311,13 @@ module _ (program : Program) (policy : Policy) (certificate : Certificate) (o : 
       let given = notes.Held site failed holding (without 1 list) (slice_set map var t) in
       let means = means_on (a.frame.at + 1) items failed holding (without 1 list) (slice_set map var t) now top.below m.tried
       (term_set program m.state m.event map fields var t top.value m.variables top.stands) top.others (above_rest top.below items (ap (drop 1) items_are)) in
-      let leads = leads_behind program policy certificate o machine a next change _ fields h seen (Given given) (ap ends is) asks.past in
+      let leads = leads_behind program policy annotations o machine a next change _ fields h seen (Given given) (ap ends is) asks.past in
       let here : slice_get (slice_set machine.statics rules.state now) rules.state ≡ Some now =
       set_there machine.statics rules.state now (slice_get_within machine.statics rules.state fields h.there) in
-      subst (ChangesOwner program policy certificate a.number seen) (sym g.is)
-      (goes_holding program policy certificate o a.number seen now world a.thread (moved_to a.frame (a.frame.at + 1) a.frame.locals items) a.below h.acts.below
+      subst (ChangesOwner program policy annotations a.number seen) (sym g.is)
+      (goes_holding program policy annotations o a.number seen now world a.thread (moved_to a.frame (a.frame.at + 1) a.frame.locals items) a.below h.acts.below
       (record { clean = statics_kept now; locks = h.locked; variables = here })
-      (owner_frame program policy certificate o a.frame h.acts.well seen now (a.frame.at + 1) a.frame.locals items given h.acts.well.locals leads means))
+      (owner_frame program policy annotations o a.frame h.acts.well seen now (a.frame.at + 1) a.frame.locals items given h.acts.well.locals leads means))
 
   -- ---- the lock is left
 
@@ -330,24 +330,24 @@ module _ (program : Program) (policy : Policy) (certificate : Certificate) (o : 
       let tops : m.tops ≡ lock_of program ∷ [] = top.is ∙ ap (λ (v : Value). v ∷ top.below) lock ∙ ap (λ (vs : List Value). lock_of program ∷ vs) none in
       record { rest = m.above.rest; is = m.above.is ∙ ap (λ (vs : List Value). vs ++ m.above.rest) tops; clean = m.above.clean }
 
-  leaving : RulesHold program policy certificate → shape_of next.0 ≡ shapes.Heap heap.Exit → is_done policy site failed holding map ≡ true → list ≡ terms.Lock ∷ []
+  leaving : RulesHold program policy annotations → shape_of next.0 ≡ shapes.Heap heap.Exit → is_done policy site failed holding map ≡ true → list ≡ terms.Lock ∷ []
       → Asks r (left site) → Changes
   leaving rules_hold is done only asks =
-      let p = passed program policy certificate o seen fields a.frame site failed holding list map m done in
+      let p = passed program policy annotations o seen fields a.frame site failed holding list map m done in
       elim (cases_Bool (is_before site.phase)) [
         | inl before ↦
             let asked : left site ≡ Given (notes.Granted site false 0 false) = rw before refl in
-            let leads = leads_behind program policy certificate o machine a next change _ fields h seen (Given (notes.Granted site false 0 false)) (ap ends is) (asks.past ∙ asked) in
-            absurd (never_unlocked program policy certificate o rules_hold p.hold a.frame next site 0 h.acts.there (ap ends is) leads)
+            let leads = leads_behind program policy annotations o machine a next change _ fields h seen (Given (notes.Granted site false 0 false)) (ap ends is) (asks.past ∙ asked) in
+            absurd (never_unlocked program policy annotations o rules_hold site (p.hold site.method) a.frame next 0 h.acts.there (ap ends is) leads)
         | inr behind ↦
             let asked : left site ≡ Open = rw behind refl in
-            gives_up program policy certificate o machine a next change _ fields h seen open_is_free is (record { past = asks.past ∙ asked; jump = asks.jump ∙ asked; thrown = asks.thrown })
-            (lock_alone only) p.end p.ranged (passed_leads program policy certificate o seen fields a.frame site site.phase m.state p.end m.event behind m.due p.taken) p.variables
+            gives_up program policy annotations o machine a next change _ fields h seen open_is_free is (record { past = asks.past ∙ asked; jump = asks.jump ∙ asked; thrown = asks.thrown })
+            (lock_alone only) p.end p.ranged (passed_leads program policy annotations o seen fields a.frame site site.phase m.state p.end m.event behind m.due p.taken) p.variables
       ]
 
   -- ---- by its row
 
-  module _ (rules_hold : RulesHold program policy certificate) where
+  module _ (rules_hold : RulesHold program policy annotations) where
     last_rows : only_if (leaves (shape_of next.0)) (leaves_done policy check) ≡ Some r → Changes
     last_rows e =
         let w = where_so _ _ r e in

@@ -16,7 +16,7 @@ use Rattle.insn_codec.proofs.Table.{goes_on_alike, goes_to_successor}
 use Rattle.bytecode_model.specs.declared.program.Method.{Method}
 use Rattle.bytecode_model.specs.declared.program.Program.{Program}
 use Rattle.bytecode_model.specs.declared.program.Target.{Target}
-use Rattle.cert_format.specs.declared.certificate.Certificate.{Certificate}
+use Rattle.block_logic.specs.Annotations.{Annotations}
 use Rattle.cert_format.specs.declared.note.Note.{Note}
 use Rattle.cert_format.specs.declared.note.Note.TheVariants as notes
 use Rattle.conspec_automaton.specs.declared.policy.Policy.{Policy}
@@ -57,7 +57,7 @@ jump_there insn to stack is frame goes =
       | inr jump ↦ jump
     ]
 
-module _ (program : Program) (policy : Policy) (certificate : Certificate) (o : IsObeying program policy certificate) where
+module _ (program : Program) (policy : Policy) (annotations : Annotations) (o : IsObeying program policy annotations) where
   module _ (frame : Frame) (next : Insn × Target) (there : insn_at program frame ≡ Some next) where
     pub is_insn : IsInsn next.0
     is_insn =
@@ -81,19 +81,19 @@ module _ (program : Program) (policy : Policy) (certificate : Certificate) (o : 
     frame_moved to locals items clean = record { size = well.size; lock = well.lock; locals = clean }
 
     -- the frame at a note of a block that holds the lock
-    pub owner_frame : (fields : List Value) (to : ℕ) (locals items : List Value) (given : Note) → AreClean program locals → LeadsTo program policy certificate frame to (Given given)
-        → Owns program policy certificate.mode seen fields (moved_to frame to locals items) given
-        → IsOwnerFrame program policy certificate seen fields (moved_to frame to locals items)
+    pub owner_frame : (fields : List Value) (to : ℕ) (locals items : List Value) (given : Note) → AreClean program locals → LeadsTo program policy annotations frame to (Given given)
+        → Owns program policy annotations.held seen fields (moved_to frame to locals items) given
+        → IsOwnerFrame program policy annotations seen fields (moved_to frame to locals items)
     owner_frame fields to locals items given clean leads owns = record {
       well = frame_moved to locals items clean;
       note = leads.note;
       told = leads.told;
-      owns = stands program policy certificate o seen fields (moved_to frame to locals items) given leads.note owns leads.meets;
+      owns = stands program policy annotations o seen fields (moved_to frame to locals items) given leads.note owns leads.meets;
     }
 
     -- the frame in no block
-    pub client_frame : OpenIsFree program policy certificate → (to : ℕ) (locals items : List Value) → AreClean program items → LeadsTo program policy certificate frame to Open
-        → IsClientFrame program policy certificate (moved_to frame to locals items)
+    pub client_frame : OpenIsFree program policy annotations → (to : ℕ) (locals items : List Value) → AreClean program items → LeadsTo program policy annotations frame to Open
+        → IsClientFrame program policy annotations (moved_to frame to locals items)
     client_frame open_is_free to locals items clean leads =
         let free : leads.note ≡ notes.Free = open_is_free leads.note leads.meets in
         inr (notes.Free, leads.told ∙ ap Some free, clean)
@@ -102,28 +102,28 @@ module _ (program : Program) (policy : Policy) (certificate : Certificate) (o : 
 
   -- What is shared is clean, the thread of this number holds the lock, and these are the variables.
   pub record IsHeldBy (number : ℕ) (fields : List Value) (world : World) : Type 0 where
-    pub clean : IsCleanWorld program (state_of program policy certificate) world
+    pub clean : IsCleanWorld program (state_of program policy annotations) world
     pub locks : held_locks program world.monitors ≡ locked_by program number
-    pub variables : slice_get world.statics (state_of program policy certificate) ≡ Some fields
+    pub variables : slice_get world.statics (state_of program policy annotations) ≡ Some fields
 
-  module _ (number : ℕ) (seen : List Event) (fields : List Value) (world : World) (thread : Thread) (frame : Frame) (below : List Frame) (under : AreBelow program policy certificate below) where
+  module _ (number : ℕ) (seen : List Event) (fields : List Value) (world : World) (thread : Thread) (frame : Frame) (below : List Frame) (under : AreBelow program policy annotations below) where
     -- It goes on with the lock.
-    pub goes_holding : IsHeldBy number fields world → IsOwnerFrame program policy certificate seen fields frame
-        → ChangesOwner program policy certificate number seen (goes world thread (frame ∷ below))
+    pub goes_holding : IsHeldBy number fields world → IsOwnerFrame program policy annotations seen fields frame
+        → ChangesOwner program policy annotations number seen (goes world thread (frame ∷ below))
     goes_holding held top =
         let same : seen ++ [] ≡ seen = append-nil seen in
-        let top' : IsOwnerFrame program policy certificate (seen ++ []) fields frame = subst (λ (es : List Event). IsOwnerFrame program policy certificate es fields frame) (sym same) top in
+        let top' : IsOwnerFrame program policy annotations (seen ++ []) fields frame = subst (λ (es : List Event). IsOwnerFrame program policy annotations es fields frame) (sym same) top in
         record {
           begins = refl;
-          followed = owned_followed program policy certificate o (seen ++ []) fields frame top'.note top'.owns;
+          followed = owned_followed program policy annotations o (seen ++ []) fields frame top'.note top'.owns;
           goes = λ on. (held.clean, inl (record { locks = held.locks; fields = fields; variables = held.variables; owns = (top', under) }));
         }
 
     -- It goes on without it.
-    pub goes_free : IsCleanWorld program (state_of program policy certificate) world → held_locks program world.monitors ≡ []
-        → slice_get world.statics (state_of program policy certificate) ≡ Some fields → (state : Values) → in_range policy state ≡ true → Leads policy seen state
-        → AreState fields state → IsFrame program frame → IsClientFrame program policy certificate frame
-        → ChangesOwner program policy certificate number seen (goes world thread (frame ∷ below))
+    pub goes_free : IsCleanWorld program (state_of program policy annotations) world → held_locks program world.monitors ≡ []
+        → slice_get world.statics (state_of program policy annotations) ≡ Some fields → (state : Values) → in_range policy state ≡ true → Leads policy seen state
+        → AreState fields state → IsFrame program frame → IsClientFrame program policy annotations frame
+        → ChangesOwner program policy annotations number seen (goes world thread (frame ∷ below))
     goes_free clean none variables state ranged led are well client =
         let led' : Leads policy (seen ++ []) state = leads_still_seen policy seen state led in
         record {

@@ -18,8 +18,7 @@ use Rattle.bytecode_model.specs.declared.program.Program.{Program}
 use Rattle.bytecode_model.specs.declared.program.Target.{Target}
 use Rattle.bytecode_model.specs.declared.program.Target.TheVariants as target
 use Rattle.bytecode_model.specs.SearchOrder.{Name}
-use Rattle.cert_format.specs.declared.certificate.Certificate.{Certificate}
-use Rattle.cert_format.specs.declared.certificate.Mode.TheVariants as modes
+use Rattle.block_logic.specs.Annotations.{Annotations, holds_round}
 use Rattle.cert_format.specs.declared.note.Note.TheVariants as notes
 use Rattle.cert_format.specs.declared.note.Phase8.TheVariants.{Before}
 use Rattle.cert_format.specs.declared.note.Site.{Site}
@@ -100,7 +99,7 @@ library_call program machine a change how method e =
       is = sym (some_is _ change passed.2);
     }
 
-module _ (program : Program) (policy : Policy) (certificate : Certificate) (o : IsObeying program policy certificate) where
+module _ (program : Program) (policy : Policy) (annotations : Annotations) (o : IsObeying program policy annotations) where
   -- a method is granted as many arguments as it takes
   needs_all : (method : ℕ) (clause : Clause) (listed : ListedMethod) → clause_at policy method Before ≡ Some clause → slice_get program.listing.methods method ≡ Some listed
       → (length clause.args ≡ arity listed.id.desc) × (needs policy method ≡ arity listed.id.desc)
@@ -111,15 +110,15 @@ module _ (program : Program) (policy : Policy) (certificate : Certificate) (o : 
       let fits = (found.so listed same).0 in
       (fits, ap (λ (c : Option Clause). option_map_or (λ (d : Clause). length d.args) c 0) is ∙ fits)
 
-  module _ (seen_is_enough : SeenIsEnough) (rules_hold : RulesHold program policy certificate)
+  module _ (seen_is_enough : SeenIsEnough) (rules_hold : RulesHold program policy annotations)
       (machine : Machine) (a : Acting) (next : Insn × Target) (change : Change) (fields : List Value) (seen : List Event)
-      (site : Site) (locked : Bool) (count : ℕ) (top : Bool) (h : ActsHolding program policy certificate machine a next change (notes.Granted site locked count top) fields)
-      (hold : certificate.mode ≡ modes.Hold) (m : MeansGranted program policy seen fields a.frame site locked count top) where
+      (site : Site) (locked : Bool) (count : ℕ) (top : Bool) (h : ActsHolding program policy annotations machine a next change (notes.Granted site locked count top) fields)
+      (hold : holds_round annotations.held site.method ≡ true) (m : MeansGranted program policy seen fields a.frame site locked count top) where
     abbrev rules : Rules
-    rules = rules_of program policy certificate
+    rules = rules_of program policy annotations
 
     abbrev Changes : Type 0
-    Changes = ChangesOwner program policy certificate a.number seen change
+    Changes = ChangesOwner program policy annotations a.number seen change
 
     abbrev r : Row
     r = h.ruled.r
@@ -153,7 +152,7 @@ module _ (program : Program) (policy : Policy) (certificate : Certificate) (o : 
         let more : map Some (l.0 ∷ m.loaded) ≡ loads site.base a.frame.locals (suc count) = rw (l.1.there, m.are) refl in
         let are : map Some (l.0 ∷ m.loaded) ≡ loads site.base a.frame.locals (count + 1) = rw (add-one count) more in
         let asks : Asks r (Given (notes.Granted site true (count + 1) false)) = subst (λ (b : Bool). Asks r (Given (notes.Granted site b (count + 1) false))) m.holds c.asks in
-        goes_with_behind program policy certificate o machine a next change _ fields h seen items (notes.Granted site true (count + 1) false) (ap ends c.is) asks l.2 (
+        goes_with_behind program policy annotations o machine a next change _ fields h seen items (notes.Granted site true (count + 1) false) (ap ends c.is) asks l.2 (
           hold,
           granted_on (a.frame.at + 1) items (count + 1) false (l.0 ∷ m.loaded) (omega (arith, c.less)) are
               (record { rest = above.rest; is = ap (λ (vs : List Value). l.0 ∷ vs) above.is; clean = above.clean }),
@@ -163,11 +162,11 @@ module _ (program : Program) (policy : Policy) (certificate : Certificate) (o : 
 
     pushing : PushesLock rules site locked count top (shape_of next.0) next.1 r → Changes
     pushing c =
-        let p = pushes_lock program policy certificate machine a change next h.step c.pushes in
+        let p = pushes_lock program policy annotations machine a change next h.step c.pushes in
         let above = bare_above c.bare in
         let items = lock_of program ∷ a.frame.stack.items in
         let asks : Asks r (Given (notes.Granted site true count true)) = subst (λ (b : Bool). Asks r (Given (notes.Granted site b count true))) m.holds c.asks in
-        goes_with_behind program policy certificate o machine a next change _ fields h seen items (notes.Granted site true count true) p.1 asks p.0 (
+        goes_with_behind program policy annotations o machine a next change _ fields h seen items (notes.Granted site true count true) p.1 asks p.0 (
           hold,
           granted_on (a.frame.at + 1) items count true m.loaded m.few m.are
               (record { rest = above.rest; is = ap (λ (vs : List Value). lock_of program ∷ vs) above.is; clean = above.clean }),
@@ -177,8 +176,8 @@ module _ (program : Program) (policy : Policy) (certificate : Certificate) (o : 
 
     leaving : LeavesLock rules site locked count top (shape_of next.0) next.1 r → Changes
     leaving c =
-        let leads = leads_behind program policy certificate o machine a next change _ fields h seen (Given (notes.Granted site false count false)) (ap ends c.is) c.asks.past in
-        absurd (never_unlocked program policy certificate o rules_hold hold a.frame next site count h.acts.there (ap ends c.is) leads)
+        let leads = leads_behind program policy annotations o machine a next change _ fields h seen (Given (notes.Granted site false count false)) (ap ends c.is) c.asks.past in
+        absurd (never_unlocked program policy annotations o rules_hold site hold a.frame next count h.acts.there (ap ends c.is) leads)
 
     -- ---- the call is made
 
@@ -237,10 +236,10 @@ module _ (program : Program) (policy : Policy) (certificate : Certificate) (o : 
 
         -- the frame waits for the answer
         waits : Leads policy (seen ++ event ∷ []) m.state
-            → IsOwnerCall program policy certificate (seen ++ event ∷ []) fields site.method (moved_to a.frame a.frame.at a.frame.locals l.passed.beneath)
+            → IsOwnerCall program policy annotations (seen ++ event ∷ []) fields site.method (moved_to a.frame a.frame.at a.frame.locals l.passed.beneath)
         waits now = record {
           hold = hold;
-          well = frame_moved program policy certificate o a.frame h.acts.well seen a.frame.at a.frame.locals l.passed.beneath h.acts.well.locals;
+          well = frame_moved program policy annotations o a.frame h.acts.well seen a.frame.at a.frame.locals l.passed.beneath h.acts.well.locals;
           site = site;
           of = refl;
           at_call = record {
@@ -256,7 +255,7 @@ module _ (program : Program) (policy : Policy) (certificate : Certificate) (o : 
           variables = m.variables;
         }
 
-        changes : ChangesOwner program policy certificate a.number seen
+        changes : ChangesOwner program policy annotations a.number seen
             (calls_library program (world_of machine) (record { number = a.number; thread = a.thread; frame = a.frame; below = a.below; passed = l.passed }) site.method)
         changes =
             let now = led (clause_at policy site.method Before) refl m.granted in
@@ -280,7 +279,7 @@ module _ (program : Program) (policy : Policy) (certificate : Certificate) (o : 
           let made : calls_out program machine a.number a.thread a.frame a.below how.0 (target.ApiMethod site.method) ≡ Some change =
           subst (λ (ref : Target). calls_out program machine a.number a.thread a.frame a.below how.0 ref ≡ Some change) call_is.1 (on_heap program machine a change next h.step (heap.Call how.0) how.1) in
           let l = library_call program machine a change how.0 site.method made in
-          subst (ChangesOwner program policy certificate a.number seen) (sym l.is) (changes how.0 l)
+          subst (ChangesOwner program policy annotations a.number seen) (sym l.is) (changes how.0 l)
 
     -- An instruction of a granted call changes what it may.
     pub granted_steps : Changes

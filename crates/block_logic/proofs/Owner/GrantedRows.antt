@@ -11,10 +11,10 @@ use Rattle.insn_codec.specs.declared.shape.Shape.TheVariants as shapes
 use Rattle.bytecode_model.specs.declared.program.Target.{Target}
 use Rattle.cert_format.specs.declared.note.Note.TheVariants as notes
 use Rattle.cert_format.specs.declared.note.Site.{Site}
+use Rattle.block_logic.specs.Annotations.{holds_round}
 use Rattle.block_logic.specs.Clauses.{needs}
 use Rattle.block_logic.specs.Operands.{loaded, pushes_state}
 use Rattle.block_logic.specs.Rows.{Given, Nothing, Row, Rules, calls_of, granted_row, returned, thrown}
-use Rattle.block_logic.specs.Standing.{is_hold}
 use Rattle.block_logic.proofs.Owner.Rows.{Asks, gives_asks, leaves_is, one_row, where_so}
 
 loads_is : (shape : Shape) (slot : ℕ) → loaded shape ≡ Some slot → (kind : ValueKind) × (shape ≡ shapes.Load kind slot)
@@ -52,7 +52,7 @@ module _ (rules : Rules) (site : Site) (locked : Bool) (count : ℕ) (top : Bool
   pub record CallsMethod : Type 0 where
     pub bare : top ≡ false
     pub all : count ≡ needs rules.policy site.method
-    pub locks : beq locked (is_hold rules.mode) ≡ true
+    pub locks : beq locked (holds_round rules.held site.method) ≡ true
     pub calls : calls_of site shape ref ≡ true
     pub is : r ≡ record { past = returned rules site; jump = Nothing; thrown = thrown rules site }
 
@@ -86,7 +86,7 @@ module _ (rules : Rules) (site : Site) (locked : Bool) (count : ℕ) (top : Bool
             let w = where_so _ _ r calling in
             let p = and_parts (not top) _ w.0 in
             let q = and_parts (count == needs rules.policy site.method) _ p.1 in
-            let u = and_parts (beq locked (is_hold rules.mode)) _ q.1 in
+            let u = and_parts (beq locked (holds_round rules.held site.method)) _ q.1 in
             let row : record { past = returned rules site; jump = Nothing; thrown = thrown rules site } ≡ r = cc in
             inr (record { bare = not-true top p.0; all = eqb-true count (needs rules.policy site.method) q.0; locks = u.0; calls = u.1; is = sym row })
       ])

@@ -12,8 +12,7 @@ use Rattle.insn_codec.specs.Shapes.{shape_of}
 use Rattle.insn_codec.specs.Table.{ends}
 use Rattle.bytecode_model.specs.declared.program.Program.{Program}
 use Rattle.bytecode_model.specs.declared.program.Target.{Target}
-use Rattle.cert_format.specs.declared.certificate.Certificate.{Certificate}
-use Rattle.cert_format.specs.declared.certificate.Mode.TheVariants as modes
+use Rattle.block_logic.specs.Annotations.{Annotations, holds_round}
 use Rattle.cert_format.specs.declared.note.Note.TheVariants as notes
 use Rattle.cert_format.specs.declared.note.Phase8.{Phase8}
 use Rattle.cert_format.specs.declared.note.Phase8.TheVariants.{Before, After, Exceptional}
@@ -119,15 +118,15 @@ module _ (rules : Rules) (site : Site) (stage : ℕ) (kept top : Bool) (shape : 
 
 -- ---- the steps
 
-module _ (program : Program) (policy : Policy) (certificate : Certificate) (o : IsObeying program policy certificate) (open_is_free : OpenIsFree program policy certificate)
+module _ (program : Program) (policy : Policy) (annotations : Annotations) (o : IsObeying program policy annotations) (open_is_free : OpenIsFree program policy annotations)
     (machine : Machine) (a : Acting) (next : Insn × Target) (change : Change) (fields : List Value) (seen : List Event)
-    (site : Site) (stage : ℕ) (kept top : Bool) (h : ActsHolding program policy certificate machine a next change (notes.Owed site stage kept top) fields)
-    (hold : certificate.mode ≡ modes.Hold) (m : MeansOwed program policy seen fields a.frame site stage kept top) where
+    (site : Site) (stage : ℕ) (kept top : Bool) (h : ActsHolding program policy annotations machine a next change (notes.Owed site stage kept top) fields)
+    (hold : holds_round annotations.held site.method ≡ true) (m : MeansOwed program policy seen fields a.frame site stage kept top) where
   abbrev rules : Rules
-  rules = rules_of program policy certificate
+  rules = rules_of program policy annotations
 
   abbrev Changes : Type 0
-  Changes = ChangesOwner program policy certificate a.number seen change
+  Changes = ChangesOwner program policy annotations a.number seen change
 
   abbrev r : Row
   r = h.ruled.r
@@ -171,9 +170,9 @@ module _ (program : Program) (policy : Policy) (certificate : Certificate) (o : 
       let value : IsClean program s.0 = all_get (IsClean program) a.frame.stack.items 0 s.0 clean s.1 in
       let owed : IsOwed policy site stage (clause_of policy site) seen m.state false a.frame.locals m.above.rest =
       subst (λ (b : Bool). IsOwed policy site stage (clause_of policy site) seen m.state b a.frame.locals m.above.rest) c.loose m.owed in
-      goes_with program policy certificate o machine a next change _ fields h seen (a.frame.at + 1) (slice_set a.frame.locals site.base s.0) items (notes.Owed site stage true false)
+      goes_with program policy annotations o machine a next change _ fields h seen (a.frame.at + 1) (slice_set a.frame.locals site.base s.0) items (notes.Owed site stage true false)
       (all_set (IsClean program) a.frame.locals site.base s.0 h.acts.well.locals value)
-      (leads_behind program policy certificate o machine a next change _ fields h seen (Given (notes.Owed site stage true false)) (ap ends c.is) c.asks.past) s.3 (
+      (leads_behind program policy annotations o machine a next change _ fields h seen (Given (notes.Owed site stage true false)) (ap ends c.is) c.asks.past) s.3 (
         hold,
         record {
           behind = m.behind;
@@ -189,9 +188,9 @@ module _ (program : Program) (policy : Policy) (certificate : Certificate) (o : 
 
   pushing : PushesLock rules site stage kept top (shape_of next.0) next.1 r → Changes
   pushing c =
-      let p = pushes_lock program policy certificate machine a change next h.step c.pushes in
+      let p = pushes_lock program policy annotations machine a change next h.step c.pushes in
       let items = lock_of program ∷ a.frame.stack.items in
-      goes_with_behind program policy certificate o machine a next change _ fields h seen items (notes.Owed site stage kept true) p.1 c.asks p.0 (
+      goes_with_behind program policy annotations o machine a next change _ fields h seen items (notes.Owed site stage kept true) p.1 c.asks p.0 (
         hold,
         record {
           behind = m.behind;
@@ -217,7 +216,7 @@ module _ (program : Program) (policy : Policy) (certificate : Certificate) (o : 
   leaving c =
       let above : IsAbove program (lock_of program ∷ []) a.frame.stack.items =
       record { rest = m.above.rest; is = m.above.is ∙ ap (λ (on : Bool). lock_on program on ++ m.above.rest) c.on; clean = m.above.clean } in
-      gives_up program policy certificate o machine a next change _ fields h seen open_is_free c.is c.asks above m.state m.ranged
+      gives_up program policy annotations o machine a next change _ fields h seen open_is_free c.is c.asks above m.state m.ranged
       (led_with stage (clause_of policy site) c.may m.owed) m.variables
 
   -- An instruction behind a call changes what it may.

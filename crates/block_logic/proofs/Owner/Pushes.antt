@@ -17,7 +17,7 @@ use Rattle.bytecode_model.specs.declared.program.Program.{Program}
 use Rattle.bytecode_model.specs.declared.program.Target.{Target}
 use Rattle.bytecode_model.specs.declared.program.Target.TheVariants as target
 use Rattle.bytecode_model.specs.Classes.{classes_of}
-use Rattle.cert_format.specs.declared.certificate.Certificate.{Certificate}
+use Rattle.block_logic.specs.Annotations.{Annotations}
 use Rattle.cert_format.specs.declared.note.Phase8.{Phase8}
 use Rattle.cert_format.specs.declared.note.Phase8.TheVariants.{Before, After, Exceptional}
 use Rattle.cert_format.specs.declared.note.Site.{Site}
@@ -136,7 +136,7 @@ module _ (program : Program) (clause : Clause) (base : ℕ) (locals : List Value
 
 -- ---- what is pushed
 
-module _ (program : Program) (policy : Policy) (certificate : Certificate) (machine : Machine) (a : Acting) (change : Change) (next : Insn × Target)
+module _ (program : Program) (policy : Policy) (annotations : Annotations) (machine : Machine) (a : Acting) (change : Change) (next : Insn × Target)
     (step : insn_stepped program machine a next ≡ Some change) where
   -- The instruction pushes the lock.
   pub pushes_lock : pushes_state (shape_of next.0) next.1 ≡ true
@@ -161,9 +161,9 @@ module _ (program : Program) (policy : Policy) (certificate : Certificate) (mach
   ]
 
   module _ (site : Site) (clause : Clause) (map : List Term) (state : Values) (event : Event) (told : TellsIn clause site.phase site.base a.frame.locals event)
-      (fields : List Value) (variables : AreTerms program state event map fields) (there : slice_get machine.statics (state_of program policy certificate) ≡ Some fields) where
+      (fields : List Value) (variables : AreTerms program state event map fields) (there : slice_get machine.statics (state_of program policy annotations) ≡ Some fields) where
     abbrev rules : Rules
-    rules = rules_of program policy certificate
+    rules = rules_of program policy annotations
 
     -- What stands for the term is pushed.
     pub record IsPushed (t : Term) : Type 0 where

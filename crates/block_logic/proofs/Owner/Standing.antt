@@ -6,8 +6,7 @@ use Rattle.std.specs.Option.{option_map_or}
 use Rattle.std.proofs.lemmas.Bool.{and_from, and_parts, cases_Bool, not-true, or_cases}
 use Rattle.api_listing.specs.declared.events.Event.{Event}
 use Rattle.bytecode_model.specs.declared.program.Program.{Program}
-use Rattle.cert_format.specs.declared.certificate.Certificate.{Certificate}
-use Rattle.cert_format.specs.declared.certificate.Mode.TheVariants as modes
+use Rattle.block_logic.specs.Annotations.{Annotations, holds_round}
 use Rattle.cert_format.specs.declared.note.Note.{Note}
 use Rattle.cert_format.specs.declared.note.Note.TheVariants as notes
 use Rattle.cert_format.specs.declared.note.Phase8.{Phase8}
@@ -28,7 +27,7 @@ use Rattle.conspec_automaton.proofs.Ranges.{found_is}
 use Rattle.guest_heap.specs.declared.frame.Frame.{Frame}
 use Rattle.guest_heap.specs.declared.value.Value.{Value}
 use Rattle.block_logic.specs.Clauses.{clause_at, clause_of, is_of_phase, result_kind}
-use Rattle.block_logic.specs.Meaning.{AreClean, AreState, AreTerms, HasResult, HasResultIn, IsAbove, IsChecked, IsDue, IsEventOf, IsGranted, IsOwed, IsPending, IsTried, Leads, MeansHeld, MeansOwed, Owns, Pends, Promised, TellsArguments, TellsIn, TellsResult}
+use Rattle.block_logic.specs.Meaning.{AreClean, AreState, AreTerms, HasResult, HasResultIn, IsAbove, IsChecked, IsDue, IsEventOf, IsGranted, IsOwed, IsPending, IsTried, Leads, MeansHeld, MeansOwed, Owns, Pends, IsJudged, TellsArguments, TellsIn, TellsResult}
 use Rattle.block_logic.specs.Obeying.{FitsListing, IsObeying}
 use Rattle.block_logic.specs.Standing.{asks_kept, branches_of, done, fails, in_phase, is_after, is_before, is_done, is_empty, may_begin, may_stand, same_note, same_phase, same_site, stands_for_held}
 use Rattle.block_logic.specs.Terms.{after_updates, as_taken, same_terms}
@@ -159,12 +158,12 @@ done_by policy site clause failed holding map there e =
           let p = and_parts (holding == length b.atoms) (same_terms map (after_updates policy b.updates)) e in
           record { branch = b; there = is; all = eqb-true holding (length b.atoms) p.0; written = same_terms_are map (after_updates policy b.updates) p.1 }
 
-module _ (program : Program) (policy : Policy) (certificate : Certificate) (o : IsObeying program policy certificate) where
+module _ (program : Program) (policy : Policy) (annotations : Annotations) (o : IsObeying program policy annotations) where
   -- Where a clause has a branch, calls are not denied outright.
   holds_lock : (site : Site) (clause : Clause) (i : ℕ) (branch : Branch) → clause_of policy site ≡ Some clause → slice_get clause.branches i ≡ Some branch
-      → certificate.mode ≡ modes.Hold
-  holds_lock site clause i branch there is = by o.promised where
-    by : Promised certificate.mode policy → certificate.mode ≡ modes.Hold
+      → (method : ℕ) → holds_round annotations.held method ≡ true
+  holds_lock site clause i branch there is = by o.judged where
+    by : IsJudged annotations.held policy → (method : ℕ) → holds_round annotations.held method ≡ true
     by (inl hold) = hold
     by (inr denies) =
         let none : clause.branches ≡ [] = (found_is Denies _ policy.clauses clause denies.clauses there).so.all in
@@ -174,7 +173,7 @@ module _ (program : Program) (policy : Policy) (certificate : Certificate) (o : 
   module _ (seen : List Event) (fields : List Value) (frame : Frame) where
     -- The event of a check is accepted, and the variables are the state that it leads to.
     pub record IsPassed (state : Values) (event : Event) : Type 0 where
-      pub hold : certificate.mode ≡ modes.Hold
+      pub hold : (method : ℕ) → holds_round annotations.held method ≡ true
       pub end : Values
       pub taken : next policy state event ≡ Some end
       pub ranged : in_range policy end ≡ true
@@ -207,7 +206,7 @@ module _ (program : Program) (policy : Policy) (certificate : Certificate) (o : 
     passed_leads site Exceptional state end event not due taken = pending_taken policy seen site event state end due taken
 
     granted_means : (site : Site) (failed holding : ℕ) (map : List Term) (h : MeansHeld program policy seen fields frame site failed holding [] map)
-        → IsPassed h.state h.event → site.phase ≡ Before → Owns program policy certificate.mode seen fields frame (notes.Granted site true 0 false)
+        → IsPassed h.state h.event → site.phase ≡ Before → Owns program policy annotations.held seen fields frame (notes.Granted site true 0 false)
     granted_means site failed holding map h p is =
         let due : Leads policy seen h.state × IsEventOf site h.event = subst (λ (x : Phase8). IsDue policy site x seen h.state h.event) is h.due in
         let told : TellsArguments site.base (length h.clause.args) frame.locals h.event = subst (λ (x : Phase8). TellsIn h.clause x site.base frame.locals h.event) is h.told in
@@ -216,7 +215,7 @@ module _ (program : Program) (policy : Policy) (certificate : Certificate) (o : 
         record { method = due.1.method; phase = subst (λ (x : Phase8). is_of_phase x (sight_of h.event).phase ≡ true) is due.1.phase } in
         let checked : IsChecked policy site h.clause seen p.end frame.locals = record { before = h.state; event = h.event; led = due.0; of = of; told = told; taken = p.taken } in
         let none : h.tops ≡ [] = map_some_is h.tops [] (sym h.pushed) in (
-          p.hold,
+          p.hold site.method,
           record {
             holds = refl;
             state = p.end;
@@ -231,10 +230,10 @@ module _ (program : Program) (policy : Policy) (certificate : Certificate) (o : 
         )
 
     owed_means : (site : Site) (failed holding : ℕ) (map : List Term) (kept : Bool) (h : MeansHeld program policy seen fields frame site failed holding [] map)
-        → IsPassed h.state h.event → is_before site.phase ≡ false → Owns program policy certificate.mode seen fields frame (notes.Owed site 2 kept false)
+        → IsPassed h.state h.event → is_before site.phase ≡ false → Owns program policy annotations.held seen fields frame (notes.Owed site 2 kept false)
     owed_means site failed holding map kept h p not =
         let none : h.tops ≡ [] = map_some_is h.tops [] (sym h.pushed) in (
-          p.hold,
+          p.hold site.method,
           record {
             behind = not;
             state = p.end;
@@ -246,7 +245,7 @@ module _ (program : Program) (policy : Policy) (certificate : Certificate) (o : 
         )
 
     done_means : (site : Site) (failed holding : ℕ) (map : List Term) (h : MeansHeld program policy seen fields frame site failed holding [] map)
-        → IsPassed h.state h.event → Owns program policy certificate.mode seen fields frame (done policy site)
+        → IsPassed h.state h.event → Owns program policy annotations.held seen fields frame (done policy site)
     done_means site failed holding map h p = elim (cases_Bool (is_before site.phase)) [
       | inl before ↦
           let is : done policy site ≡ notes.Granted site true 0 false = rw before refl in
@@ -258,14 +257,14 @@ module _ (program : Program) (policy : Policy) (certificate : Certificate) (o : 
 
     -- the way out
     stop_means : (site : Site) (failed holding : ℕ) (list map : List Term) → MeansHeld program policy seen fields frame site failed holding list map
-        → Owns program policy certificate.mode seen fields frame (notes.Stop site 0)
+        → Owns program policy annotations.held seen fields frame (notes.Stop site 0)
     stop_means site failed holding list map h = record { followed = due_followed policy seen site site.phase h.event h.state refl h.due; stopping = tt }
 
     -- What may stand for the note of a check means what is so.
     pub held_stands : (site : Site) (failed holding : ℕ) (list map : List Term) (note : Note) → MeansHeld program policy seen fields frame site failed holding list map
-        → stands_for_held policy site failed holding list map note ≡ true → Owns program policy certificate.mode seen fields frame note
+        → stands_for_held policy site failed holding list map note ≡ true → Owns program policy annotations.held seen fields frame note
     held_stands site failed holding list map note h e = elim (or_cases (same_note (notes.Held site failed holding list map) note) _ e) [
-      | inl same ↦ subst (λ (n : Note). Owns program policy certificate.mode seen fields frame n) (same_note_is (notes.Held site failed holding list map) note same) h
+      | inl same ↦ subst (λ (n : Note). Owns program policy annotations.held seen fields frame n) (same_note_is (notes.Held site failed holding list map) note same) h
       | inr other ↦ elim (or_cases ((is_done policy site failed holding map && is_empty list) && same_note (done policy site) note) _ other) [
         | inl is ↦
             let p = and_parts (is_done policy site failed holding map && is_empty list) _ is in
@@ -273,11 +272,11 @@ module _ (program : Program) (policy : Policy) (certificate : Certificate) (o : 
             let none : list ≡ [] = empty_is list q.1 in
             let h' : MeansHeld program policy seen fields frame site failed holding [] map =
             subst (λ (l : List Term). MeansHeld program policy seen fields frame site failed holding l map) none h in
-            subst (λ (n : Note). Owns program policy certificate.mode seen fields frame n) (same_note_is (done policy site) note p.1)
+            subst (λ (n : Note). Owns program policy annotations.held seen fields frame n) (same_note_is (done policy site) note p.1)
             (done_means site failed holding map h' (passed site failed holding [] map h' q.0))
         | inr is ↦
             let p = and_parts (fails policy site failed) _ is in
-            subst (λ (n : Note). Owns program policy certificate.mode seen fields frame n) (same_note_is (notes.Stop site 0) note p.1)
+            subst (λ (n : Note). Owns program policy annotations.held seen fields frame n) (same_note_is (notes.Stop site 0) note p.1)
             (stop_means site failed holding list map h)
       ]
     ]
@@ -354,9 +353,9 @@ module _ (program : Program) (policy : Policy) (certificate : Certificate) (o : 
         (tells_kept site clause site.phase kept m.above.rest p.event there refl m.behind asks p.told)
         (subst (AreClean program) (sym m.above.is) m.above.clean)
 
-    owed_stands : (site : Site) (stage : ℕ) (kept top : Bool) (note : Note) → Owns program policy certificate.mode seen fields frame (notes.Owed site stage kept top)
+    owed_stands : (site : Site) (stage : ℕ) (kept top : Bool) (note : Note) → Owns program policy annotations.held seen fields frame (notes.Owed site stage kept top)
         → (may_begin policy site stage kept top && stands_for_held policy site 0 0 [] (as_taken policy) note) ≡ true
-        → Owns program policy certificate.mode seen fields frame note
+        → Owns program policy annotations.held seen fields frame note
     owed_stands site stage kept top note m e =
         let p = and_parts (may_begin policy site stage kept top) _ e in
         let q = and_parts (stage == 1) _ p.0 in
@@ -372,19 +371,19 @@ module _ (program : Program) (policy : Policy) (certificate : Certificate) (o : 
     -- ---- any note
 
     -- What may stand for a note of a block that holds the lock means what is so.
-    pub stands : (given note : Note) → Owns program policy certificate.mode seen fields frame given → may_stand policy given note ≡ true
-        → Owns program policy certificate.mode seen fields frame note
+    pub stands : (given note : Note) → Owns program policy annotations.held seen fields frame given → may_stand policy given note ≡ true
+        → Owns program policy annotations.held seen fields frame note
     stands notes.Free note m e = absurd m
     stands (notes.Taking site) note m e = absurd m
     stands (notes.Held site failed holding list map) note m e = held_stands seen fields frame site failed holding list map note m e
     stands (notes.Granted site locked loaded top) note m e =
-        subst (λ (n : Note). Owns program policy certificate.mode seen fields frame n) (same_note_is (notes.Granted site locked loaded top) note e) m
+        subst (λ (n : Note). Owns program policy annotations.held seen fields frame n) (same_note_is (notes.Granted site locked loaded top) note e) m
     stands (notes.Owed site stage kept top) note m e = elim (or_cases (same_note (notes.Owed site stage kept top) note) _ e) [
-      | inl same ↦ subst (λ (n : Note). Owns program policy certificate.mode seen fields frame n) (same_note_is (notes.Owed site stage kept top) note same) m
+      | inl same ↦ subst (λ (n : Note). Owns program policy annotations.held seen fields frame n) (same_note_is (notes.Owed site stage kept top) note same) m
       | inr begins ↦ owed_stands site stage kept top note m begins
     ]
     stands (notes.Stop site place) note m e =
-        subst (λ (n : Note). Owns program policy certificate.mode seen fields frame n) (same_note_is (notes.Stop site place) note e) m
+        subst (λ (n : Note). Owns program policy annotations.held seen fields frame n) (same_note_is (notes.Stop site place) note e) m
 
     -- ---- the events so far
 
@@ -401,7 +400,7 @@ module _ (program : Program) (policy : Policy) (certificate : Certificate) (o : 
     owed_followed site (suc (suc (suc n))) clause state kept rest behind owed = absurd owed
 
     -- All clause events are accepted, or all but the last, which is a return.
-    pub owned_followed : (note : Note) → Owns program policy certificate.mode seen fields frame note → IsFollowed policy seen
+    pub owned_followed : (note : Note) → Owns program policy annotations.held seen fields frame note → IsFollowed policy seen
     owned_followed notes.Free m = absurd m
     owned_followed (notes.Taking site) m = absurd m
     owned_followed (notes.Held site failed holding list map) m = due_followed policy seen site site.phase m.event m.state refl m.due

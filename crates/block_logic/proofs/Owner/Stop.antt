@@ -13,7 +13,7 @@ use Rattle.bytecode_model.specs.declared.program.Program.{Program}
 use Rattle.bytecode_model.specs.declared.program.Target.{Target}
 use Rattle.bytecode_model.specs.declared.program.Target.TheVariants as target
 use Rattle.bytecode_model.specs.SearchOrder.{Name}
-use Rattle.cert_format.specs.declared.certificate.Certificate.{Certificate}
+use Rattle.block_logic.specs.Annotations.{Annotations}
 use Rattle.cert_format.specs.declared.note.Note.TheVariants as notes
 use Rattle.cert_format.specs.declared.note.Site.{Site}
 use Rattle.conspec_automaton.specs.declared.policy.Policy.{Policy}
@@ -86,10 +86,10 @@ exit_stops program machine a change how index exit e =
 
 -- ---- the steps
 
-module _ (program : Program) (policy : Policy) (certificate : Certificate) (o : IsObeying program policy certificate)
+module _ (program : Program) (policy : Policy) (annotations : Annotations) (o : IsObeying program policy annotations)
     (machine : Machine) (a : Acting) (next : Insn × Target) (change : Change) (fields : List Value) (seen : List Event) (site : Site) where
   abbrev Changes : Type 0
-  Changes = ChangesOwner program policy certificate a.number seen change
+  Changes = ChangesOwner program policy annotations a.number seen change
 
   stopping : Stops change → IsFollowed policy seen → Changes
   stopping s followed =
@@ -105,12 +105,12 @@ module _ (program : Program) (policy : Policy) (certificate : Certificate) (o : 
   value_pushed n (Some m) e = ap Some (same_number m n e)
 
   -- An instruction of the way out changes what it may.
-  pub stop_steps : (place : ℕ) → ActsHolding program policy certificate machine a next change (notes.Stop site place) fields → MeansStop policy seen a.frame place → Changes
+  pub stop_steps : (place : ℕ) → ActsHolding program policy annotations machine a next change (notes.Stop site place) fields → MeansStop policy seen a.frame place → Changes
   stop_steps zero h m =
       let w = where_so _ _ h.ruled.r h.ruled.has in
       let value = value_pushed (pos 77) (number_pushed (shape_of next.0) next.1) w.0 in
-      let p = pushes_this program policy certificate machine a change next h.step (pos 77) value in
-      goes_with_behind program policy certificate o machine a next change _ fields h seen (values.Int (pos 77) ∷ a.frame.stack.items) (notes.Stop site 1) p.1
+      let p = pushes_this program policy annotations machine a change next h.step (pos 77) value in
+      goes_with_behind program policy annotations o machine a next change _ fields h seen (values.Int (pos 77) ∷ a.frame.stack.items) (notes.Stop site 1) p.1
       (gives_asks (notes.Stop site 1) h.ruled.r w.1) p.0 (record { followed = m.followed; stopping = refl })
   stop_steps (suc zero) h m =
       let w = where_so _ _ h.ruled.r h.ruled.has in

@@ -16,8 +16,7 @@ use Rattle.insn_codec.specs.Shapes.{shape_of}
 use Rattle.insn_codec.specs.Table.{ends}
 use Rattle.bytecode_model.specs.declared.program.Program.{Program}
 use Rattle.bytecode_model.specs.declared.program.Target.{Target}
-use Rattle.cert_format.specs.declared.certificate.Certificate.{Certificate}
-use Rattle.cert_format.specs.declared.certificate.Mode.TheVariants as modes
+use Rattle.block_logic.specs.Annotations.{Annotations, holds_round}
 use Rattle.cert_format.specs.declared.note.Note.TheVariants as notes
 use Rattle.cert_format.specs.declared.note.Phase8.{Phase8}
 use Rattle.cert_format.specs.declared.note.Phase8.TheVariants.{Before}
@@ -35,7 +34,7 @@ use Rattle.guest_model.specs.Changes.{with_monitors, world_of}
 use Rattle.guest_model.specs.Parts.{number_in}
 use Rattle.guest_model.specs.Stepping.{enters}
 use Rattle.block_logic.specs.Clauses.{clause_at, is_of_phase}
-use Rattle.block_logic.specs.Meaning.{AreClean, AreState, IsAbove, IsDue, IsEventOf, IsGranted, Leads, Owns, Promised, TellsArguments, TellsIn, lock_of}
+use Rattle.block_logic.specs.Meaning.{AreClean, AreState, IsAbove, IsDue, IsEventOf, IsGranted, Leads, Owns, IsJudged, TellsArguments, TellsIn, lock_of}
 use Rattle.block_logic.specs.Obeying.{IsObeying}
 use Rattle.block_logic.specs.Rows.{Given, note_taken}
 use Rattle.block_logic.specs.Standing.{begun, is_before}
@@ -103,28 +102,28 @@ denied_before method (c ∷ clauses) all has = by (c.method == method) refl (den
       let others : list_any (λ (d : Clause). d.method == method) clauses ≡ true = rw is at has in
       rw is (later others)
 
-module _ (program : Program) (policy : Policy) (certificate : Certificate) (o : IsObeying program policy certificate) where
-  -- A method that has clauses but none before its calls is of a policy of mode hold.
-  holds_unchecked : (method : ℕ) → has_clauses policy method ≡ true → is_some (clause_at policy method Before) ≡ false → certificate.mode ≡ modes.Hold
-  holds_unchecked method has none = by o.promised where
-    by : Promised certificate.mode policy → certificate.mode ≡ modes.Hold
-    by (inl hold) = hold
+module _ (program : Program) (policy : Policy) (annotations : Annotations) (o : IsObeying program policy annotations) where
+  -- Where a method has clauses but none before its calls, the lock is held round these.
+  holds_unchecked : (method : ℕ) → has_clauses policy method ≡ true → is_some (clause_at policy method Before) ≡ false → holds_round annotations.held method ≡ true
+  holds_unchecked method has none = by o.judged where
+    by : IsJudged annotations.held policy → holds_round annotations.held method ≡ true
+    by (inl held) = held method
     by (inr denies) = let some : is_some (clause_at policy method Before) ≡ true = denied_before method policy.clauses denies.clauses has in absurd cc
 
   module _ (site : Site) (before : site.phase ≡ Before) (seen : List Event) (fields : List Value) (frame : Frame) (state : Values) (ranged : in_range policy state ≡ true)
       (led : Leads policy seen state) (are : AreState fields state) (clean : AreClean program frame.stack.items) where
     -- the check begins
-    checks : (clause : Clause) → clause_at policy site.method Before ≡ Some clause → Owns program policy certificate.mode seen fields frame (begun policy site)
+    checks : (clause : Clause) → clause_at policy site.method Before ≡ Some clause → Owns program policy annotations.held seen fields frame (begun policy site)
     checks clause there =
         let event = call_told frame.locals site clause in
         let of : IsEventOf site event = record { method = refl; phase = subst (λ (p : Phase8). is_of_phase p phases.Before ≡ true) (sym before) refl } in
-        begun_means program policy certificate o seen fields frame site clause state event
+        begun_means program policy annotations o seen fields frame site clause state event
         (subst (λ (p : Phase8). clause_at policy site.method p ≡ Some clause) (sym before) there) ranged are
         (subst (λ (p : Phase8). IsDue policy site p seen state event) (sym before) (led, of))
         (subst (λ (p : Phase8). TellsIn clause p site.base frame.locals event) (sym before) (call_tells frame.locals site clause)) clean
 
     -- there is none
-    grants : has_clauses policy site.method ≡ true → is_some (clause_at policy site.method Before) ≡ false → Owns program policy certificate.mode seen fields frame (notes.Granted site true 0 false)
+    grants : has_clauses policy site.method ≡ true → is_some (clause_at policy site.method Before) ≡ false → Owns program policy annotations.held seen fields frame (notes.Granted site true 0 false)
     grants has none =
         let nothing : clause_at policy site.method Before ≡ None = none_there (clause_at policy site.method Before) none in (
           holds_unchecked site.method has none,
@@ -141,7 +140,7 @@ module _ (program : Program) (policy : Policy) (certificate : Certificate) (o : 
           },
         )
 
-    takes : has_clauses policy site.method ≡ true → Owns program policy certificate.mode seen fields frame (note_taken policy site)
+    takes : has_clauses policy site.method ≡ true → Owns program policy annotations.held seen fields frame (note_taken policy site)
     takes has = elim (cases_Bool (is_some (clause_at policy site.method Before))) [
       | inl some ↦
           let c = some_there (clause_at policy site.method Before) some in
@@ -152,9 +151,9 @@ module _ (program : Program) (policy : Policy) (certificate : Certificate) (o : 
           rw is (grants has none)
     ]
 
-  module _ (rules_hold : RulesHold program policy certificate) where
+  module _ (rules_hold : RulesHold program policy annotations) where
     -- an instruction under Taking takes the lock
-    enters_here : (frame : Frame) (next : Insn × Target) (site : Site) → (r : IsRuled program policy certificate frame next (notes.Taking site))
+    enters_here : (frame : Frame) (next : Insn × Target) (site : Site) → (r : IsRuled program policy annotations frame next (notes.Taking site))
         → (shape_of next.0 ≡ shapes.Heap heap.Enter) × (r.r.past ≡ Given (note_taken policy site))
     enters_here frame next site r =
         let w = where_so _ _ r.r r.has in
@@ -163,7 +162,7 @@ module _ (program : Program) (policy : Policy) (certificate : Certificate) (o : 
     top_is : (frame : Frame) (above : IsAbove program (lock_of program ∷ []) frame.stack.items) → slice_get frame.stack.items 0 ≡ Some (lock_of program)
     top_is frame above = rw above.is refl
 
-    pub taking_steps : TakingSteps program policy certificate
+    pub taking_steps : TakingSteps program policy annotations
     taking_steps machine a next change site seen fields state acts free none ranged led are there step =
         let ruled = rules_hold a.frame next (notes.Taking site) acts.there acts.told in
         let here = enters_here a.frame next site ruled in
@@ -174,15 +173,15 @@ module _ (program : Program) (policy : Policy) (certificate : Certificate) (o : 
         let clean : AreClean program rest = subst (λ (items : List Value). AreClean program (drop 1 items)) (sym free.1.is) free.1.clean in
         let frame = moved_to a.frame (a.frame.at + 1) a.frame.locals rest in
         let owns = takes site (before_is site.phase asks.0) seen fields frame state ranged led are clean asks.1 in
-        let behind : LeadsTo program policy certificate a.frame (a.frame.at + 1) (Given (note_taken policy site)) =
-        subst (LeadsTo program policy certificate a.frame (a.frame.at + 1)) here.1
-        (ruled.past (goes_behind program policy certificate o a.frame next acts.there (ap ends here.0))) in
-        let top = owner_frame program policy certificate o a.frame acts.well seen fields (a.frame.at + 1) a.frame.locals rest (note_taken policy site) acts.well.locals behind owns in
-        subst (ChangesOwner program policy certificate a.number seen) (sym g.is)
-        (goes_holding program policy certificate o a.number seen fields (with_monitors (world_of machine) lock.held) a.thread frame a.below acts.below
+        let behind : LeadsTo program policy annotations a.frame (a.frame.at + 1) (Given (note_taken policy site)) =
+        subst (LeadsTo program policy annotations a.frame (a.frame.at + 1)) here.1
+        (ruled.past (goes_behind program policy annotations o a.frame next acts.there (ap ends here.0))) in
+        let top = owner_frame program policy annotations o a.frame acts.well seen fields (a.frame.at + 1) a.frame.locals rest (note_taken policy site) acts.well.locals behind owns in
+        subst (ChangesOwner program policy annotations a.number seen) (sym g.is)
+        (goes_holding program policy annotations o a.number seen fields (with_monitors (world_of machine) lock.held) a.thread frame a.below acts.below
         (record { clean = record { heap = acts.world.heap; statics = acts.world.statics }; locks = lock.locks; variables = there }) top)
 
-    pub taking_waits : TakingWaits program policy certificate
+    pub taking_waits : TakingWaits program policy annotations
     taking_waits machine a next site owner acts free locked other =
         let ruled = rules_hold a.frame next (notes.Taking site) acts.there acts.told in
         let here = enters_here a.frame next site ruled in

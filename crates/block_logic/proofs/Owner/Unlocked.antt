@@ -15,8 +15,7 @@ use Rattle.bytecode_model.specs.declared.program.Method.{Method}
 use Rattle.bytecode_model.specs.declared.program.Program.{Program}
 use Rattle.bytecode_model.specs.declared.program.Target.{Target}
 use Rattle.bytecode_model.specs.Sound.{IsSoundClass, IsSoundMethod}
-use Rattle.cert_format.specs.declared.certificate.Certificate.{Certificate}
-use Rattle.cert_format.specs.declared.certificate.Mode.TheVariants as modes
+use Rattle.block_logic.specs.Annotations.{Annotations, holds_round}
 use Rattle.cert_format.specs.declared.note.Note.TheVariants as notes
 use Rattle.cert_format.specs.declared.note.Site.{Site}
 use Rattle.conspec_automaton.specs.declared.policy.Policy.{Policy}
@@ -31,7 +30,6 @@ use Rattle.block_logic.specs.Clauses.{needs}
 use Rattle.block_logic.specs.Meaning.{note_of}
 use Rattle.block_logic.specs.Obeying.{IsObeying}
 use Rattle.block_logic.specs.Rows.{Given, Row, Rules, granted_row}
-use Rattle.block_logic.specs.Standing.{is_hold}
 use Rattle.block_logic.proofs.Owner.Going.{goes_behind}
 use Rattle.block_logic.proofs.Owner.GrantedRows.{LoadsNext as Loads, granted_cases}
 use Rattle.block_logic.proofs.Owner.Standing.{same_note_is, slice_get_there}
@@ -52,7 +50,7 @@ not_last (first ∷ second ∷ others) (suc i) insn ends there goes = omega (ari
 -- ---- the row
 
 -- without the lock an argument is loaded, and nothing else is done
-only_loads : (rules : Rules) (site : Site) (count : ℕ) (shape : Shape) (ref : Target) (r : Row) → is_hold rules.mode ≡ true
+only_loads : (rules : Rules) (site : Site) (count : ℕ) (shape : Shape) (ref : Target) (r : Row) → holds_round rules.held site.method ≡ true
     → granted_row rules site false count false shape ref ≡ Some r → Loads rules site false count false shape ref r
 only_loads rules site count shape ref r hold e = elim (granted_cases rules site false count false shape ref r e) [
   | inl loads ↦ loads
@@ -66,7 +64,7 @@ in_method : (o : Option Method) (m : Method) (at : ℕ) (insn : Insn) (ref : Tar
     → option_and_then (λ (method : Method). insn_in method at) o ≡ Some (insn, ref)
 in_method o m at insn ref there is names = rw (there, is, names) refl
 
-module _ (program : Program) (policy : Policy) (certificate : Certificate) (o : IsObeying program policy certificate) where
+module _ (program : Program) (policy : Policy) (annotations : Annotations) (o : IsObeying program policy annotations) where
   -- where control can go on, there is an instruction behind
   behind_there : (frame : Frame) (next : Insn × Target) (locals items : List Value) → insn_at program frame ≡ Some next → goes_on (opcode_of next.0) ≡ true
       → (after : Insn × Target) × (insn_at program (moved_to frame (frame.at + 1) locals items) ≡ Some after)
@@ -81,37 +79,37 @@ module _ (program : Program) (policy : Policy) (certificate : Certificate) (o : 
       let ref = slice_get_there m.0.refs (frame.at + 1) (omega (arith, sound.refs, inside)) in
       ((insn.0, ref.0), in_method (method_at program frame.class frame.method) m.0 (frame.at + 1) insn.0 ref.0 m.1 insn.1 ref.1)
 
-  module _ (rules_hold : RulesHold program policy certificate) (hold : certificate.mode ≡ modes.Hold) where
+  module _ (rules_hold : RulesHold program policy annotations) (site : Site) (hold : holds_round annotations.held site.method ≡ true) where
     -- the instruction loads the next argument, and the one behind it is so too
-    record LoadsNext (frame : Frame) (site : Site) (count : ℕ) : Type 0 where
+    record LoadsNext (frame : Frame) (count : ℕ) : Type 0 where
       pub less : count < needs policy site.method
       pub next : Insn × Target
       pub there : insn_at program (moved_to frame (frame.at + 1) [] []) ≡ Some next
-      pub told : note_of program certificate (moved_to frame (frame.at + 1) [] []) ≡ Some (notes.Granted site false (count + 1) false)
+      pub told : note_of program annotations (moved_to frame (frame.at + 1) [] []) ≡ Some (notes.Granted site false (count + 1) false)
 
-    loads_next : (frame : Frame) (next : Insn × Target) (site : Site) (count : ℕ) → insn_at program frame ≡ Some next
-        → note_of program certificate frame ≡ Some (notes.Granted site false count false) → LoadsNext frame site count
-    loads_next frame next site count there told =
+    loads_next : (frame : Frame) (next : Insn × Target) (count : ℕ) → insn_at program frame ≡ Some next
+        → note_of program annotations frame ≡ Some (notes.Granted site false count false) → LoadsNext frame count
+    loads_next frame next count there told =
         let ruled = rules_hold frame next (notes.Granted site false count false) there told in
-        let l = only_loads (rules_of program policy certificate) site count (shape_of next.0) next.1 ruled.r (ap is_hold hold) ruled.has in
-        let goes = goes_behind program policy certificate o frame next there (ap ends l.is) in
-        let behind : LeadsTo program policy certificate frame (frame.at + 1) (Given (notes.Granted site false (count + 1) false)) =
-        subst (LeadsTo program policy certificate frame (frame.at + 1)) l.asks.past (ruled.past goes) in
+        let l = only_loads (rules_of program policy annotations) site count (shape_of next.0) next.1 ruled.r hold ruled.has in
+        let goes = goes_behind program policy annotations o frame next there (ap ends l.is) in
+        let behind : LeadsTo program policy annotations frame (frame.at + 1) (Given (notes.Granted site false (count + 1) false)) =
+        subst (LeadsTo program policy annotations frame (frame.at + 1)) l.asks.past (ruled.past goes) in
         let same = same_note_is (notes.Granted site false (count + 1) false) behind.note behind.meets in
         let after = behind_there frame next [] [] there goes in
         record { less = l.less; next = after.0; there = after.1; told = behind.told ∙ ap Some (sym same) }
 
-    none_granted : (n : ℕ) (frame : Frame) (next : Insn × Target) (site : Site) (count : ℕ) → needs policy site.method ≤ count + n → insn_at program frame ≡ Some next
-        → note_of program certificate frame ≡ Some (notes.Granted site false count false) → ⊥
-    none_granted zero frame next site count few there told = let l = loads_next frame next site count there told in absurd (omega (arith, l.less))
-    none_granted (suc n) frame next site count few there told =
-        let l = loads_next frame next site count there told in
-        none_granted n (moved_to frame (frame.at + 1) [] []) l.next site (count + 1) (omega (arith, few)) l.there l.told
+    none_granted : (n : ℕ) (frame : Frame) (next : Insn × Target) (count : ℕ) → needs policy site.method ≤ count + n → insn_at program frame ≡ Some next
+        → note_of program annotations frame ≡ Some (notes.Granted site false count false) → ⊥
+    none_granted zero frame next count few there told = let l = loads_next frame next count there told in absurd (omega (arith, l.less))
+    none_granted (suc n) frame next count few there told =
+        let l = loads_next frame next count there told in
+        none_granted n (moved_to frame (frame.at + 1) [] []) l.next (count + 1) (omega (arith, few)) l.there l.told
 
     -- No instruction leads there.
-    pub never_unlocked : (frame : Frame) (next : Insn × Target) (site : Site) (count : ℕ) → insn_at program frame ≡ Some next → ends (shape_of next.0) ≡ false
-        → LeadsTo program policy certificate frame (frame.at + 1) (Given (notes.Granted site false count false)) → ⊥
-    never_unlocked frame next site count there stays leads =
+    pub never_unlocked : (frame : Frame) (next : Insn × Target) (count : ℕ) → insn_at program frame ≡ Some next → ends (shape_of next.0) ≡ false
+        → LeadsTo program policy annotations frame (frame.at + 1) (Given (notes.Granted site false count false)) → ⊥
+    never_unlocked frame next count there stays leads =
         let same = same_note_is (notes.Granted site false count false) leads.note leads.meets in
-        let after = behind_there frame next [] [] there (goes_behind program policy certificate o frame next there stays) in
-        none_granted (needs policy site.method) (moved_to frame (frame.at + 1) [] []) after.0 site count (omega arith) after.1 (leads.told ∙ ap Some (sym same))
+        let after = behind_there frame next [] [] there (goes_behind program policy annotations o frame next there stays) in
+        none_granted (needs policy site.method) (moved_to frame (frame.at + 1) [] []) after.0 count (omega arith) after.1 (leads.told ∙ ap Some (sym same))

@@ -1,6 +1,7 @@
 use Rattle.std.proofs.Common.{◌≡◌, ◌∙◌, List, Some, ap, sym, refl}
 use Rattle.bytecode_model.specs.declared.program.LinkedClass.{LinkedClass}
 use Rattle.bytecode_model.specs.declared.program.Program.{Program}
+use Rattle.block_logic.specs.Annotations.{annotations_of}
 use Rattle.block_logic.specs.Accepted.{IsAccepted}
 use Rattle.block_logic.specs.State.{state_fault}
 use Rattle.cert_checker.specs.Acceptance.{notes_fault, shape_fault}
@@ -69,4 +70,4 @@ returns-clause-secure c =
 
 pub returns-clause-leaves_blocks : goal.returns-clause-leaves_blocks
 returns-clause-leaves_blocks c =
-    λ e. c.errors_leave_blocks.ensures.leaves c.args.program.now c.args.policy.now c.args.certificate.now (accepted_here c)
+    λ e. c.errors_leave_blocks.ensures.leaves c.args.program.now c.args.policy.now (annotations_of c.args.certificate.now) (accepted_here c)

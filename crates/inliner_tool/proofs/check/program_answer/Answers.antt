@@ -4,6 +4,7 @@ use Rattle.std.specs.List.{AllByRecursion}
 use Rattle.block_logic.specs.Accepted.{IsAccepted}
 use Rattle.block_logic.specs.Meaning.{Promised}
 use Rattle.block_logic.specs.Obeying.{FitsListing}
+use Rattle.block_logic.specs.Annotations.{annotations_of}
 use Rattle.block_logic.specs.Outside.{LeavesBlocks}
 use Rattle.cert_checker.specs.Secure.{Secure}
 use Rattle.conspec_automaton.specs.Building.{built}
@@ -33,5 +34,5 @@ returns-in-Ok-check-clause-checked c =
     record {
       accepted = subst (λ (p : Policy). IsAccepted program p certificate) is (c.check.ensures.ok.0 ok);
       secure = subst (Secure certificate.mode program) is (c.check.ensures.secure ok promised);
-      errors = subst (λ (p : Policy). LeavesBlocks program p certificate) is (c.check.ensures.leaves_blocks ok);
+      errors = subst (λ (p : Policy). LeavesBlocks program p (annotations_of certificate)) is (c.check.ensures.leaves_blocks ok);
     }

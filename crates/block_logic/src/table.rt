@@ -5,6 +5,7 @@ ghost use Rattle.std.specs.Bool.{beq};
 ghost use Rattle.std.specs.Prelude.{◌≡◌, ◌+◌, ◌==◌, ◌&&◌, false, nat_lt, option_map};
 ghost use Rattle.std.specs.Option.{option_map_or};
 ghost use Rattle.cert_format.specs.declared.note.Note.TheVariants as notes;
+ghost use Rattle.block_logic.specs.Annotations.{holds_round};
 ghost use Rattle.block_logic.specs.Clauses.{needs};
 ghost use Rattle.block_logic.specs.Lent.{asked_lent, due_lent, note_lent, row_lent};
 ghost use Rattle.block_logic.specs.Operands.{loaded, stored};
@@ -12,15 +13,19 @@ ghost use Rattle.block_logic.specs.Rows.{Given, begins_owed, calls_of, free_row,
 ghost use Rattle.block_logic.specs.Rows.{held_row, is_duty, is_on_way, may_keep};
 ghost use Rattle.block_logic.specs.Rows.{may_leave, may_push, note_taken, owed_row, returned, row, stage_behind, stop_row};
 ghost use Rattle.block_logic.specs.Rows.{taking_row, thrown};
-ghost use Rattle.block_logic.specs.Standing.{is_hold};
 
-use block_logic::{
-    AskedRef, CheckRef, DueRef, NoteRef, RowRef, Rules, asks_kept, begun, calls, check_row,
-    clause_at, clause_of, enters, gives, in_phase, is_after, is_hold, is_way_out, leads, leaves,
-    loaded, needs, pushes, pushes_null, pushes_state, result_kind, stored, throws, variable_named,
+use crate::checks::check_row;
+use crate::clauses::{clause_at, clause_of, needs, result_kind};
+use crate::held_calls::holds_round;
+use crate::lent::{AskedRef, CheckRef, DueRef, NoteRef, RowRef, gives, leads};
+use crate::operands::{
+    calls, enters, is_way_out, leaves, loaded, pushes, pushes_null, pushes_state, stored, throws,
+    variable_named,
 };
+use crate::rules::Rules;
+use crate::standing::{asks_kept, begun, in_phase, is_after};
 use bytecode_model::Target;
-use cert_format::{Mode, Note, Phase8, Site, Term};
+use cert_format::{Note, Phase8, Site, Term};
 use conspec_automaton::Policy;
 use insn_codec::Shape;
 
@@ -152,13 +157,13 @@ fn calls_of(site: Site, shape: Shape, target: &Target) -> bool
     }
 }
 
-/// Behind the call: in mode hold its lock is still held; in mode release an update is due where a clause is for the
+/// Behind the call its lock is still held, if it is held round the call; if not, an update is due where a clause is for the
 /// return.
 fn returned(rules: &Rules<'_>, site: Site) -> DueRef
     ensures { due_lent result ≡ returned rules.now site }
 {
     let behind = in_phase(Phase8::After, site);
-    if is_hold(rules.mode) {
+    if holds_round(rules.held, u32::from(site.method)) {
         due(behind, 1)
     } else if clause_of(rules.policy, behind).is_some() {
         due(behind, 0)
@@ -178,13 +183,14 @@ fn due(site: Site, stage: usize) -> DueRef
 pub fn is_duty(rules: &Rules<'_>, method: u32) -> bool
     ensures { result ≡ is_duty rules.now method }
 {
-    is_hold(rules.mode) || clause_at(rules.policy, method, Phase8::Exceptional).is_some()
+    holds_round(rules.held, method)
+        || clause_at(rules.policy, method, Phase8::Exceptional).is_some()
 }
 
-fn stage_behind(mode: Mode) -> usize
-    ensures { result ≡ stage_behind mode }
+fn stage_behind(held: bool) -> usize
+    ensures { result ≡ stage_behind held }
 {
-    if is_hold(mode) { 1 } else { 0 }
+    if held { 1 } else { 0 }
 }
 
 /// What is asked where the call throws.
@@ -194,7 +200,7 @@ pub fn thrown(rules: &Rules<'_>, site: Site) -> DueRef
     if is_duty(rules, u32::from(site.method)) {
         due(
             in_phase(Phase8::Exceptional, site),
-            stage_behind(rules.mode),
+            stage_behind(holds_round(rules.held, u32::from(site.method))),
         )
     } else {
         DueRef::Open
@@ -259,12 +265,12 @@ fn loads_next(policy: &Policy, site: Site, count: u8, shape: Shape) -> bool
     }
 }
 
-/// Whether all arguments are loaded, and the lock is as the mode has it.
+/// Whether all arguments are loaded, and the lock is held exactly where it is held round the call.
 pub fn is_ready(rules: &Rules<'_>, site: Site, locked: bool, count: u8) -> bool
-    ensures { result ≡ ((count == needs rules.now.policy site.method) && beq locked (is_hold rules.now.mode)) }
+    ensures { result ≡ ((count == needs rules.now.policy site.method) && beq locked (holds_round rules.now.held site.method)) }
 {
     usize::from(count) == needs(rules.policy, u32::from(site.method))
-        && locked == is_hold(rules.mode)
+        && locked == holds_round(rules.held, u32::from(site.method))
 }
 
 // ---- Owed
