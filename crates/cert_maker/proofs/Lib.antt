@@ -1,3 +1,7 @@
+pub mod ToldTrimming
+pub mod ToldRows
+pub mod ToldMethods
+pub mod ToldPrograms
 pub mod Same
 pub mod ClausesAlike
 pub mod Updates

@@ -29,11 +29,11 @@ use Rattle.conspec_automaton.specs.Building.{built}
 use Rattle.conspec_parse.specs.Telling.{KindsAreTold, ResultsAreTold}
 use Rattle.input_files.specs.declared.inline_inputs.InlineInputs.{InlineInputs}
 use Rattle.input_files.specs.InlineInputs.{InlineSound}
-use Rattle.told_typing.specs.Laws.{IsTypedStill, ToldIsTyped}
+use Rattle.cert_maker.specs.ToldIsTyped.{IsTypedStill, ToldIsTyped}
 use Rattle.woven_linking.specs.Links.{OriginalIsFree, WovenLinks}
 use Rattle.woven_linking.specs.Program.{IsWovenOf, WovenFilesComeBack, WovenFilesHaveRoom, WovenProgramIsLinked, WovenProgramIsSound}
 use Rattle.output_files.specs.Outputs.{is_written}
-use Rattle.told_typing.specs.Told.{FitsTyping, told}
+use Rattle.cert_maker.specs.Told.{FitsTyping, told}
 use Rattle.cert_format.specs.Fits as spell
 use Rattle.class_codec.specs.Fits.{CanSpell}
 use Rattle.std.specs.List.{AllByRecursion}

@@ -20,7 +20,7 @@ use Rattle.cert_maker.specs.Noting.{certificate_of, class_notes, if_framed, meth
 use Rattle.conspec_automaton.specs.declared.policy.Policy.{Policy}
 use Rattle.conspec_automaton.specs.Sound.{IsPolicy}
 use Rattle.output_files.specs.Outputs.{is_written}
-use Rattle.told_typing.specs.Told.{FitsTold, FitsTyping}
+use Rattle.cert_maker.specs.Told.{FitsTold, FitsTyping}
 use Rattle.inliner_tool.proofs.Bases.{few_locals}
 use Rattle.inliner_tool.proofs.Names.{fit_names}
 use Rattle.inliner_tool.proofs.Notes.{parts_fit}

@@ -21,7 +21,7 @@ use Rattle.conspec_automaton.specs.Building.{built}
 use Rattle.input_files.specs.declared.inline_inputs.InlineInputs.{InlineInputs}
 use Rattle.input_files.specs.InlineInputs.{InlineSound}
 use Rattle.output_files.specs.Outputs.{is_written}
-use Rattle.told_typing.specs.Told.{FitsTyping}
+use Rattle.cert_maker.specs.Told.{FitsTyping}
 use Rattle.woven_linking.specs.Program.{HaveRoom, program_with}
 use Rattle.inliner_tool.specs.declared.inline.Given.{Given}
 use Rattle.inliner_tool.specs.Policy.{IsSoundFor}

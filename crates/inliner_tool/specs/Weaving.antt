@@ -38,7 +38,7 @@ use Rattle.input_files.specs.Forms.{Yields, Then}
 use Rattle.offset_patch.specs.declared.fault.SpliceFault.{SpliceFault}
 use Rattle.offset_patch.specs.declared.fault.SpliceFault.TheVariants as splices
 use Rattle.output_files.specs.Outputs.{is_written, outputs_of}
-use Rattle.told_typing.specs.Told.{told}
+use Rattle.cert_maker.specs.Told.{told}
 use Rattle.woven_typing.specs.Framing.{typing_of}
 use Rattle.inliner_tool.specs.declared.refusal.Refusal.{Refusal}
 use Rattle.inliner_tool.specs.declared.refusal.Refusal.TheVariants as refusals

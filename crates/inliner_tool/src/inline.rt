@@ -23,7 +23,7 @@ ghost use Rattle.input_files.specs.InlineInputs.{InlineSound};
 ghost use Rattle.input_files.specs.Named.{IsListed};
 ghost use Rattle.mon_base.specs.Answer.{Answers};
 ghost use Rattle.output_files.specs.Outputs.{is_written, outputs_of};
-ghost use Rattle.told_typing.specs.Told.{FitsTyping, told};
+ghost use Rattle.cert_maker.specs.Told.{FitsTyping, told};
 ghost use Rattle.woven_linking.specs.Program.{HaveRoom, program_with};
 ghost use Rattle.woven_typing.specs.Framing.{typing_of};
 ghost use Rattle.inliner_tool.specs.Expected.{IsExpected, WovenHasBlocks, WovenIsExpected};
@@ -73,7 +73,7 @@ use mon_store::{Output, Store, WriteFault, write_all};
 use offset_patch::SpliceFault;
 use policy_weaving::inline;
 use std::alloc::Global;
-use told_typing::{told, told_is_typed};
+use cert_maker::{told, told_is_typed};
 use type_lattice::Indexed;
 use woven_linking::{original_is_free, program_with, woven_files_link, woven_program_is_linked};
 use woven_typing::{

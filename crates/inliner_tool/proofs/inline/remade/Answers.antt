@@ -2,7 +2,7 @@ use Rattle.std.proofs.Common.{◌∙◌, List, ap}
 use Rattle.bytecode_model.specs.declared.program.LinkedClass.{LinkedClass}
 use Rattle.bytecode_model.specs.declared.program.Program.{Program}
 use Rattle.cert_maker.specs.Noting.{certificate_of}
-use Rattle.told_typing.specs.Told.{told}
+use Rattle.cert_maker.specs.Told.{told}
 use Rattle.inliner_tool.proofs.inline.remade.Goals as goal
 
 pub returns-in-Ok-clause-certificate : goal.returns-in-Ok-clause-certificate

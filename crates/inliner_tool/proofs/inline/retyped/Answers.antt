@@ -11,10 +11,10 @@ use Rattle.cert_format.specs.Fits.{CanSpell}
 use Rattle.command_words.specs.InlineWords.{inline_named}
 use Rattle.output_files.specs.Outputs.{is_written, outputs_of}
 use Rattle.std.specs.Prelude.{IfOk, true, length}
-use Rattle.told_typing.specs.Told.{FitsTyping}
+use Rattle.cert_maker.specs.Told.{FitsTyping}
 use Rattle.cert_format.specs.declared.typing.Typing.{Typing}
 use Rattle.cert_maker.specs.Noting.{certificate_of}
-use Rattle.told_typing.specs.Told.{told}
+use Rattle.cert_maker.specs.Told.{told}
 use Rattle.woven_typing.specs.Framing.{typing_of}
 use Rattle.inliner_tool.specs.declared.inline.Given.{Given}
 use Rattle.inliner_tool.specs.declared.inline.Ready.{Ready}

@@ -1,6 +1,6 @@
 use Rattle.std.proofs.Common.{◌∙◌, sym}
-use Rattle.told_typing.proofs.Trimming.{trimmed_shorter, trimmed_stays}
-use Rattle.told_typing.proofs.telling.trimmed.Goals as goal
+use Rattle.cert_maker.proofs.ToldTrimming.{trimmed_shorter, trimmed_stays}
+use Rattle.cert_maker.proofs.telling.trimmed.Goals as goal
 
 pub loop-kept-preserved : goal.loop-kept-preserved
 loop-kept-preserved c = trimmed_shorter c.loop-kept.kept.now (sym c.loop-kept-test.ensures) ∙ c.loop-kept.invariant

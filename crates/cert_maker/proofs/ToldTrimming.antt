@@ -10,7 +10,7 @@ use Rattle.bytecode_model.specs.declared.program.Program.{Program}
 use Rattle.bytecode_model.specs.Assigning.{assignable}
 use Rattle.bytecode_model.specs.Makes.{is_same_object, type_at}
 use Rattle.bytecode_model.specs.Rules.{has_object, locals_fit}
-use Rattle.told_typing.specs.Told.{before_others, trimmed}
+use Rattle.cert_maker.specs.Told.{before_others, trimmed}
 
 -- ---- the end of a list
 

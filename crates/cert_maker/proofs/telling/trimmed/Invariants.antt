@@ -1,6 +1,6 @@
 use Rattle.std.proofs.Common.{◌≡◌, length}
-use Rattle.told_typing.specs.Told.{trimmed}
-use Rattle.told_typing.proofs.telling.trimmed.Given as goal
+use Rattle.cert_maker.specs.Told.{trimmed}
+use Rattle.cert_maker.proofs.telling.trimmed.Given as goal
 
 abbrev pub invariant-loop-kept : goal.invariant-loop-kept
 invariant-loop-kept l = trimmed l.kept ≡ trimmed l.fn.types

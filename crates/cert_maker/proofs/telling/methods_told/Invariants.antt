@@ -1,7 +1,7 @@
 use Rattle.std.proofs.Common.{◌≡◌, ◌++◌, length}
 use Rattle.std.specs.List.{AllByRecursion}
-use Rattle.told_typing.specs.Told.{FitsTold, methods_told}
-use Rattle.told_typing.proofs.telling.methods_told.Given as goal
+use Rattle.cert_maker.specs.Told.{FitsTold, methods_told}
+use Rattle.cert_maker.proofs.telling.methods_told.Given as goal
 
 abbrev pub invariant-loop-left : goal.invariant-loop-left
 invariant-loop-left l = record {

@@ -1,7 +1,7 @@
 use Rattle.std.proofs.Common.{length}
 use Rattle.std.specs.List.{AllByRecursion}
 use Rattle.cert_format.specs.Fits.{FitsType}
-use Rattle.told_typing.proofs.telling.are_numbered.Given as goal
+use Rattle.cert_maker.proofs.telling.are_numbered.Given as goal
 
 abbrev pub invariant-loop-left : goal.invariant-loop-left
 invariant-loop-left l = AllByRecursion FitsType l.left → AllByRecursion FitsType l.types

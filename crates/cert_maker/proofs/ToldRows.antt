@@ -14,8 +14,8 @@ use Rattle.bytecode_model.specs.Makes.{below, changed, local_after, stack_after,
 use Rattle.bytecode_model.specs.InsnPlace.{InsnPlace, is_maker}
 use Rattle.bytecode_model.specs.Rules.{Depth, Entry, Local, Made, entry_locals, has_object, leaves_made, local_caught, locals_fit, made_well, taken, uses_local, when_thrown}
 use Rattle.bytecode_model.specs.Wants.{of_kind, takes}
-use Rattle.told_typing.specs.Told.{frame_trimmed, trimmed}
-use Rattle.told_typing.proofs.Trimming.{at_trimmed, fit_trimmed, object_trimmed, trimmed_short}
+use Rattle.cert_maker.specs.Told.{frame_trimmed, trimmed}
+use Rattle.cert_maker.proofs.ToldTrimming.{at_trimmed, fit_trimmed, object_trimmed, trimmed_short}
 
 -- ---- what is left behind
 

@@ -3,7 +3,7 @@
 ghost use Rattle.std.specs.Prelude.{◌≡◌, ◌<◌, ◌^◌, false, map, IfOk, IsTrue, length};
 ghost use Rattle.std.specs.List.{AllByRecursion};
 ghost use Rattle.cert_format.specs.Fits.{FitsType, ends_with_top};
-ghost use Rattle.told_typing.specs.Told.{FitsTold, FitsTyping, classes_told, frame_told, has_room, if_room, methods_told, told, trimmed};
+ghost use Rattle.cert_maker.specs.Told.{FitsTold, FitsTyping, classes_told, frame_told, has_room, if_room, methods_told, told, trimmed};
 
 use bytecode_model::{LinkedClass, Method, Program};
 use cert_format::{FrameType, Typing, VType, are_same, copied_types};

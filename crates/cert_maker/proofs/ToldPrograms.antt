@@ -12,9 +12,9 @@ use Rattle.bytecode_model.specs.declared.program.Program.{Program}
 use Rattle.bytecode_model.specs.Rules.{Frames, frame_of, row_failing}
 use Rattle.bytecode_model.specs.Layout.{IsLaidOut, coded, has_code}
 use Rattle.bytecode_model.specs.Typed.{IsTyped, frames_in, frames_told, list_at, place_at, reached, reached_in, row_in, row_of_method}
-use Rattle.told_typing.specs.Laws.{ToldIsTyped}
-use Rattle.told_typing.specs.Told.{classes_told, frame_told, methods_told, told}
-use Rattle.told_typing.proofs.Methods.{frame_map, told_met}
+use Rattle.cert_maker.specs.ToldIsTyped.{ToldIsTyped}
+use Rattle.cert_maker.specs.Told.{classes_told, frame_told, methods_told, told}
+use Rattle.cert_maker.proofs.ToldMethods.{frame_map, told_met}
 
 -- ---- where frames stand
 

@@ -4,7 +4,7 @@ use Rattle.cert_format.specs.declared.typing.Typing.{Typing}
 use Rattle.bytecode_model.specs.declared.program.Program.{Program}
 use Rattle.bytecode_model.specs.Layout.{IsLaidOut}
 use Rattle.bytecode_model.specs.Typed.{IsTyped, reached}
-use Rattle.told_typing.specs.Told.{told}
+use Rattle.cert_maker.specs.Told.{told}
 
 -- It is typed and shaped as it was, and no more is reached.
 pub record IsTypedStill (program : Program) (typing : Typing) : Type 0 where

@@ -20,10 +20,10 @@ use Rattle.bytecode_model.specs.InsnPlace.{InsnPlace}
 use Rattle.bytecode_model.specs.Rules.{Frames, catches_well, class_caught, covers, entry_locals, frame_of, goes_well, is_alone, is_handled, local_caught, locals_fit, row_failing, stack_fits, taken}
 use Rattle.bytecode_model.specs.Typed.{place_at, row_in}
 use Rattle.bytecode_model.specs.Wants.{takes}
-use Rattle.told_typing.specs.Told.{frame_told, frame_trimmed, has_room, trimmed}
+use Rattle.cert_maker.specs.Told.{frame_told, frame_trimmed, has_room, trimmed}
 use Rattle.bytecode_model.proofs.Passing.{Passes, passes, row_met}
-use Rattle.told_typing.proofs.Rows.{caught_same, depth_same, entry_trimmed, local_room, local_same, local_trimmed, made_same, stack_same}
-use Rattle.told_typing.proofs.Trimming.{fit_alike, fit_trimmed, trimmed_short}
+use Rattle.cert_maker.proofs.ToldRows.{caught_same, depth_same, entry_trimmed, local_room, local_same, local_trimmed, made_same, stack_same}
+use Rattle.cert_maker.proofs.ToldTrimming.{fit_alike, fit_trimmed, trimmed_short}
 
 -- ---- lists of frames
 

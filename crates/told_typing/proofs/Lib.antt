@@ -1,4 +1,0 @@
-pub mod Trimming
-pub mod Rows
-pub mod Methods
-pub mod Programs
