@@ -5,3 +5,4 @@ pub mod Obeying
 pub mod Turned
 mod Seeing
 mod Refusing
+mod Verdicts

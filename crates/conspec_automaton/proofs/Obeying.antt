@@ -90,7 +90,7 @@ any_none p (x ∷ xs) e = by (p x) refl (any_none p xs) where
   by true is later = let some = rw is at e in absurd (false≢true (sym some))
   by false is later = later (rw is at e)
 
-not_true_is : (b : Bool) → not b ≡ true → b ≡ false
+pub not_true_is : (b : Bool) → not b ≡ true → b ≡ false
 not_true_is true e = sym e
 not_true_is false e = refl
 

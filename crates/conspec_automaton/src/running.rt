@@ -1,15 +1,15 @@
 //! A policy's automaton, run on events.
 
-ghost use Rattle.std.specs.Prelude.{◌≡◌, ◌<◌, length, IsTrue, MatchBool, Some, None, List, false};
+ghost use Rattle.std.specs.Prelude.{◌≡◌, ◌<◌, length, IsSome, IsTrue, MatchBool, Some, None, List, false};
 ghost use Rattle.api_listing.specs.declared.events.Event.{Event};
 ghost use Rattle.conspec_tree.specs.Updates.{target};
 ghost use Rattle.conspec_automaton.specs.declared.policy.Policy.{Policy};
 ghost use Rattle.conspec_automaton.specs.Next.{initial, next, next_by, updated, updated_once};
-ghost use Rattle.conspec_automaton.specs.Obeys.{IsFollowed};
+ghost use Rattle.conspec_automaton.specs.Obeys.{IsFollowed, after};
 ghost use Rattle.conspec_automaton.specs.Range.{MayUpdate, SumFits, in_range};
 ghost use Rattle.conspec_automaton.specs.Sound.{IsPolicy, IsClauseIn};
 ghost use Rattle.conspec_automaton.specs.Turning.{Keeps};
-ghost use Rattle.conspec_automaton.specs.Verdict.{is_refused, refusal, verdict};
+ghost use Rattle.conspec_automaton.specs.Verdict.{IsVerdict, is_refused, refusal, verdict};
 
 use crate::asking::{any_has_clause, branch_of, clause_of, is_return};
 use crate::policy::{Clause, Policy};
@@ -108,6 +108,9 @@ fn update_once(state: &mut State, update: Update)
 pub fn accept(policy: &Policy, events: &[Event]) -> Verdict
     requires { IsPolicy policy.now }
     ensures is { result ≡ verdict policy.now events.now }
+    // The events before an index that is told are accepted, and that of the index is refused in the state that they lead to.
+    ensures means { IsVerdict policy.now events.now result }
+    ensures accepted { IsSome (after (next policy.now) (initial policy.now) events.now) → result ≡ Verdict.Accepted }
     // It is not refused exactly where the events are accepted, or all but a return that comes last.
     ensures followed { is_refused result ≡ false → IsFollowed policy.now events.now }
     ensures refused { IsTrue (is_refused result) → IsFollowed policy.now events.now → ⊥ }

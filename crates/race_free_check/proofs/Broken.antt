@@ -1,6 +1,6 @@
 -- A point that breaks its condition is of a state and events that can be, so the policy is not race-free.
-use Rattle.std.proofs.Common.{◌≡◌, inl, inr, Bool, true, false, not, [], ◌∷◌, map, Option, Some, None, refl, sym, ap, ◌∙◌}
-use Rattle.std.specs.Prelude.{is_none}
+use Rattle.std.proofs.Common.{◌≡◌, inl, inr, ℕ, true, false, not, [], ◌∷◌, map, Option, Some, None, refl, sym, ap, subst, ◌∙◌}
+use Rattle.std.specs.Prelude.{◌≢◌, is_none, is_some}
 use Rattle.std.specs.Option.{option_map_or}
 use Rattle.std.proofs.lemmas.Bool.{false≢true, not-true}
 use Rattle.api_listing.specs.declared.events.Event.{Event}
@@ -12,14 +12,20 @@ use Rattle.conspec_automaton.specs.Racing.{IsCall, IsEnd, IsRaceFree}
 use Rattle.conspec_automaton.specs.Range.{in_range}
 use Rattle.conspec_automaton.specs.Sound.{IsPolicy}
 use Rattle.conspec_automaton.specs.Trying.{Placed, Point, Trial, breaks, clauses_of, is_broken, is_end, is_turned, points, seconds_of, trials}
-use Rattle.conspec_automaton.specs.Turning.{Turns}
-use Rattle.race_free_check.specs.Laws.{BrokenPointsRace}
+use Rattle.race_free_check.specs.declared.verdict.RaceVerdict.{RaceVerdict}
+use Rattle.race_free_check.specs.declared.verdict.RaceVerdict.TheVariants.{Free, Racy}
+use Rattle.race_free_check.specs.Laws.{BrokenPointsRace, BrokenPointsShow}
+use Rattle.race_free_check.specs.Shown.{Breaks, DoNotTurn, IsShown, ShowsRace, calls_do_not_turn, end_does_not_come_first, end_is_refused, ends_do_not_turn}
 use Rattle.race_free_check.proofs.Comparing.{ends_same}
 use Rattle.race_free_check.proofs.Fitting.{formed, state_in_range, tried}
 use Rattle.race_free_check.proofs.Members.{Has, at_index, map_has}
-use Rattle.race_free_check.proofs.Trials.{IsPlaced, IsTrial, Parts, of_end, of_two, parts_of, trial_is}
+use Rattle.race_free_check.proofs.Trials.{IsPlaced, IsTrial, Parts, of_call_and_end, of_calls, of_end, of_ends, parts_of, trial_is}
 
-module _ (policy : Policy) (sound : IsPolicy policy) (free : IsRaceFree policy) where
+none_is : {X : Type 0} (o : Option X) → is_none o ≡ true → o ≡ None
+none_is None e = refl
+none_is (Some x) e = absurd (false≢true e)
+
+module _ (policy : Policy) (sound : IsPolicy policy) where
   -- ---- events that are tried
 
   call_of : (q : Placed) (event : Event) → IsPlaced policy true q → Has (events_of q.1) event → IsCall policy event
@@ -34,46 +40,78 @@ module _ (policy : Policy) (sound : IsPolicy policy) (free : IsRaceFree policy) 
 
   -- ---- two events
 
-  turned_from : (state : Values) (first second : Event) → in_range policy state ≡ true → Turns (next policy) (in_range policy) first second → is_turned policy state first second ≡ true
-  turned_from state first second ranged turns = by (after (next policy) state (first ∷ second ∷ [])) refl where
-    by : (o : Option Values) → after (next policy) state (first ∷ second ∷ []) ≡ o → option_map_or (λ (end : Values). is_end end (after (next policy) state (second ∷ first ∷ []))) o true ≡ true
-    by None e = refl
-    by (Some end) e = ap (is_end end) (turns state end ranged e) ∙ ends_same end end refl
+  not_turned : (state : Values) (first second : Event) → is_turned policy state first second ≡ false → DoNotTurn policy state first second
+  not_turned state first second turned = by (after (next policy) state (first ∷ second ∷ [])) refl turned where
+    by : (o : Option Values) → after (next policy) state (first ∷ second ∷ []) ≡ o → option_map_or (λ (end : Values). is_end end (after (next policy) state (second ∷ first ∷ []))) o true ≡ false
+        → DoNotTurn policy state first second
+    by None e turned = absurd (false≢true (sym turned))
+    by (Some end) e turned = record { end = end; accepted = e; differs = λ same. false≢true (sym turned ∙ ap (is_end end) same ∙ ends_same end end refl) }
 
-  turns_of : (q r : Placed) (a b : Bool) (first second : Event) → IsPlaced policy a q → IsPlaced policy b r → (a ≡ false → b ≡ false) → Has (events_of q.1) first → Has (events_of r.1) second
-      → Turns (next policy) (in_range policy) first second
-  turns_of q r true true first second p o order hf hn = free.calls_turn first second (call_of q first p hf) (call_of r second o hn)
-  turns_of q r true false first second p o order hf hn = free.ends_come_first first second (call_of q first p hf) (end_of r second o hn)
-  turns_of q r false true first second p o order hf hn = absurd (false≢true (sym (order refl)))
-  turns_of q r false false first second p o order hf hn = free.ends_turn first second (end_of q first p hf) (end_of r second o hn)
+  -- the second event of a point, and that the two do not turn
+  record PairAt (r : Placed) (state : Values) (first : Event) (second : Option Event) : Type 0 where
+    pub event : Event
+    pub is : Some event ≡ second
+    pub there : Has (events_of r.1) event
+    pub turn : DoNotTurn policy state first event
+
+  pair_at : (r : Placed) (state : Values) (first : Event) (second : Option Event) → Has (map Some (events_of r.1)) second → is_broken policy state first second ≡ true → PairAt r state first second
+  pair_at r state first second h broken =
+      let m = map_has Some (events_of r.1) second h in
+      let both_broken : not (is_turned policy state first m.item) ≡ true = ap (is_broken policy state first) m.so ∙ broken in
+      record { event = m.item; is = m.so; there = m.there; turn = not_turned state first m.item (not-true (is_turned policy state first m.item) both_broken) }
 
   -- ---- points
 
-  unbroken_end : (q : Placed) → IsPlaced policy false q → (state : Values) (event : Event) (second : Option Event) → Has (states_of policy (q.1 ∷ [])) state → Has (events_of q.1) event → Has (None ∷ []) second
-      → is_broken policy state event second ≡ true → ⊥
-  unbroken_end q placed state event second hs he (inl same) broken = false≢true (sym taken ∙ alone_broken) where
-    alone_broken : is_none (next policy state event) ≡ true
-    alone_broken = ap (is_broken policy state event) same ∙ broken
+  end_shown : (q : Placed) → IsPlaced policy false q → (state : Values) (event : Event) (second : Option Event) → in_range policy state ≡ true → Has (events_of q.1) event → Has (None ∷ []) second
+      → is_broken policy state event second ≡ true → IsShown policy 0 state event second
+  end_shown q placed state event second ranged he (inl same) broken =
+      let refused : next policy state event ≡ None = none_is (next policy state event) (ap (is_broken policy state event) same ∙ broken) in
+      let shown : IsShown policy 0 state event None = record { ranged = ranged; broken = end_is_refused event (end_of q event placed he) refused } in
+      subst (λ (o : Option Event). IsShown policy 0 state event o) same shown
+  end_shown q placed state event second ranged he (inr none) broken = absurd none
 
-    taken : is_none (next policy state event) ≡ false
-    taken = ap not (free.ends_are_taken event (end_of q event placed he) state (state_in_range policy sound (q.1 ∷ []) state hs))
-  unbroken_end q placed state event second hs he (inr none) broken = absurd none
+  pair_shown : (condition : ℕ) (r : Placed) (state : Values) (first : Event) (second : Option Event) → in_range policy state ≡ true
+      → ((event : Event) → Has (events_of r.1) event → DoNotTurn policy state first event → Breaks policy state condition first (Some event))
+      → Has (map Some (events_of r.1)) second → is_broken policy state first second ≡ true → IsShown policy condition state first second
+  pair_shown condition r state first second ranged each h broken =
+      let m = pair_at r state first second h broken in
+      let shown : IsShown policy condition state first (Some m.event) = record { ranged = ranged; broken = each m.event m.there m.turn } in
+      subst (λ (o : Option Event). IsShown policy condition state first o) m.is shown
 
-  unbroken_pair : (q r : Placed) (a b : Bool) → IsPlaced policy a q → IsPlaced policy b r → (a ≡ false → b ≡ false) → (state : Values) (first : Event) (second : Option Event) → Has (states_of policy (q.1 ∷ r.1 ∷ [])) state
-      → Has (events_of q.1) first → Has (map Some (events_of r.1)) second → is_broken policy state first second ≡ true → ⊥
-  unbroken_pair q r a b p o order state first second hs hf hn broken =
-      let m = map_has Some (events_of r.1) second hn in
-      let ranged = state_in_range policy sound (q.1 ∷ r.1 ∷ []) state hs in
-      let turned = turned_from state first m.item ranged (turns_of q r a b first m.item p o order hf m.there) in
-      let both_broken : not (is_turned policy state first m.item) ≡ true = ap (is_broken policy state first) m.so ∙ broken in
-      false≢true (sym (not-true (is_turned policy state first m.item) both_broken) ∙ turned)
+  point_shown : (trial : Trial) (point : Point) → IsTrial policy trial → Parts (states_of policy (clauses_of trial)) (events_of trial.first.1) (seconds_of trial.second) point → breaks policy point ≡ true
+      → IsShown policy trial.condition point.state point.first point.second
+  point_shown trial point (of_end q placed) parts broken =
+      end_shown q placed point.state point.first point.second (state_in_range policy sound (q.1 ∷ []) point.state parts.state) parts.first parts.second broken
+  point_shown trial point (of_calls q r p o) parts broken =
+      pair_shown 1 r point.state point.first point.second (state_in_range policy sound (q.1 ∷ r.1 ∷ []) point.state parts.state)
+      (λ event h turn. calls_do_not_turn point.first event (call_of q point.first p parts.first) (call_of r event o h) turn) parts.second broken
+  point_shown trial point (of_ends q r p o) parts broken =
+      pair_shown 2 r point.state point.first point.second (state_in_range policy sound (q.1 ∷ r.1 ∷ []) point.state parts.state)
+      (λ event h turn. ends_do_not_turn point.first event (end_of q point.first p parts.first) (end_of r event o h) turn) parts.second broken
+  point_shown trial point (of_call_and_end q r p o) parts broken =
+      pair_shown 3 r point.state point.first point.second (state_in_range policy sound (q.1 ∷ r.1 ∷ []) point.state parts.state)
+      (λ event h turn. end_does_not_come_first point.first event (call_of q point.first p parts.first) (end_of r event o h) turn) parts.second broken
 
-  unbroken : (trial : Trial) (point : Point) → IsTrial policy trial → Parts (states_of policy (clauses_of trial)) (events_of trial.first.1) (seconds_of trial.second) point → breaks policy point ≡ true → ⊥
-  unbroken trial point (of_end q placed) parts broken = unbroken_end q placed point.state point.first point.second parts.state parts.first parts.second broken
-  unbroken trial point (of_two condition q r a b p o order) parts broken = unbroken_pair q r a b p o order point.state point.first point.second parts.state parts.first parts.second broken
+pub broken_points_show : BrokenPointsShow
+broken_points_show policy sound i j trial point ht hp broken =
+    let trial_there = at_index (trials policy) i trial ht in
+    let point_there = at_index (points policy trial) j point hp in
+    point_shown policy sound trial point (trial_is policy trial trial_there) (parts_of policy trial point point_there) broken
+
+-- ---- what breaks a condition is not there in a policy that is race-free
+
+module _ (policy : Policy) (free : IsRaceFree policy) where
+  none_breaks : (condition : ℕ) (state : Values) (first : Event) (second : Option Event) → in_range policy state ≡ true → Breaks policy state condition first second → ⊥
+  none_breaks condition state first second ranged (end_is_refused end is refused) = false≢true (sym (ap is_some refused) ∙ free.ends_are_taken end is state ranged)
+  none_breaks condition state first second ranged (calls_do_not_turn d c a b turn) = turn.differs (free.calls_turn d c a b state turn.end ranged turn.accepted)
+  none_breaks condition state first second ranged (ends_do_not_turn d c a b turn) = turn.differs (free.ends_turn d c a b state turn.end ranged turn.accepted)
+  none_breaks condition state first second ranged (end_does_not_come_first d c a b turn) = turn.differs (free.ends_come_first d c a b state turn.end ranged turn.accepted)
+
+pub shown_races : (policy : Policy) (verdict : RaceVerdict) → ShowsRace policy verdict → verdict ≢ Free → IsRaceFree policy → ⊥
+shown_races policy Free shows racy free = racy refl
+shown_races policy (Racy condition state first second) shows racy free = none_breaks policy free condition state first second shows.ranged shows.broken
 
 pub broken_points_race : BrokenPointsRace
 broken_points_race policy sound i j trial point ht hp broken free =
-    let trial_there = at_index (trials policy) i trial ht in
-    let point_there = at_index (points policy trial) j point hp in
-    unbroken policy sound free trial point (trial_is policy trial trial_there) (parts_of policy trial point point_there) broken
+    let shown = broken_points_show policy sound i j trial point ht hp broken in
+    none_breaks policy free trial.condition point.state point.first point.second shown.ranged shown.broken

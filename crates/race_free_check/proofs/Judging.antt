@@ -1,9 +1,10 @@
 -- The clauses of each trial are those of the policy, and what the decision says of the policy.
-use Rattle.std.proofs.Common.{◌≡◌, ◌≢◌, ℕ, zero, suc, ◌+◌, Bool, true, false, cond, not, List, [], ◌∷◌, ◌++◌, filter, map, Option, Some, None, Result, Ok, Err, refl, sym, ap, subst, ◌∙◌, arith}
+use Rattle.std.proofs.Common.{◌≡◌, ℕ, zero, suc, ◌+◌, Bool, true, false, cond, not, List, [], ◌∷◌, ◌++◌, filter, map, Option, Some, None, Result, Ok, Err, refl, ap, subst, ◌∙◌, arith}
 use Rattle.std.specs.Prelude.{IfOk, find, slice_get}
 use Rattle.std.specs.List.{AllByRecursion, enumerate_from}
 use Rattle.std.specs.Option.{option_map_or}
 use Rattle.mon_base.specs.Answer.{Answers}
+use Rattle.mon_base.specs.Reading.{◌>>=◌}
 use Rattle.conspec_automaton.specs.declared.policy.Clause.{Clause}
 use Rattle.conspec_automaton.specs.declared.policy.Policy.{Policy}
 use Rattle.conspec_automaton.specs.Racing.{IsRaceFree}
@@ -13,8 +14,9 @@ use Rattle.race_free_check.specs.declared.fault.RaceFault.{RaceFault}
 use Rattle.race_free_check.specs.declared.fault.RaceFault.TheVariants.{Memory}
 use Rattle.race_free_check.specs.declared.verdict.RaceVerdict.{RaceVerdict}
 use Rattle.race_free_check.specs.declared.verdict.RaceVerdict.TheVariants.{Free}
-use Rattle.race_free_check.specs.Deciding.{AreClausesOf, broken_in, judged, shown}
-use Rattle.race_free_check.specs.Laws.{BrokenPointsRace, PointsAreEnough}
+use Rattle.race_free_check.specs.Deciding.{AreClausesOf, all_small, broken_in, decided, judged, shown}
+use Rattle.race_free_check.specs.Laws.{BrokenPointsShow, PointsAreEnough}
+use Rattle.race_free_check.specs.Shown.{IsShown, ShowsRace}
 use Rattle.race_free_check.proofs.Bounded.{all_joined}
 
 -- ---- the clauses of trials
@@ -70,26 +72,20 @@ module _ (policy : Policy) where
 
 -- ---- what a verdict says
 
--- A point of a list that passes a test, with its place.
-record PointAt (test : Point → Bool) (ps : List Point) : Type 0 where
+-- The point is in a list, and passes a test.
+record PointAt (test : Point → Bool) (ps : List Point) (point : Point) : Type 0 where
   pub place : ℕ
-  pub point : Point
   pub there : slice_get ps place ≡ Some point
   pub passes : test point ≡ true
 
-found_at : (test : Point → Bool) (ps : List Point) (point : Point) → find test ps ≡ Some point → PointAt test ps
+found_at : (test : Point → Bool) (ps : List Point) (point : Point) → find test ps ≡ Some point → PointAt test ps point
 found_at test [] point e = absurd cc
 found_at test (p ∷ ps) point e = by (test p) refl e (found_at test ps point) where
-  by : (b : Bool) → test p ≡ b → cond b (Some p) (find test ps) ≡ Some point → (find test ps ≡ Some point → PointAt test ps) → PointAt test (p ∷ ps)
-  by true passes e later = record { place = 0; point = p; there = refl; passes = passes }
-  by false fails e later = let at = later e in record { place = suc at.place; point = at.point; there = at.there; passes = at.passes }
-
--- the trial and the point by which it is judged
-record Judged (policy : Policy) (ts : List Trial) : Type 0 where
-  pub place : ℕ
-  pub trial : Trial
-  pub there : slice_get ts place ≡ Some trial
-  pub broken : PointAt (breaks policy) (points policy trial)
+  by : (b : Bool) → test p ≡ b → cond b (Some p) (find test ps) ≡ Some point → (find test ps ≡ Some point → PointAt test ps point) → PointAt test (p ∷ ps) point
+  by true passes e later =
+      let same : p ≡ point = cc in
+      subst (λ (q : Point). PointAt test (p ∷ ps) q) same (record { place = 0; there = refl; passes = passes })
+  by false fails e later = let at = later e in record { place = suc at.place; there = at.there; passes = at.passes }
 
 module _ (policy : Policy) where
   none_broken : (ts : List Trial) → judged policy ts ≡ Free → (i : ℕ) (trial : Trial) → slice_get ts i ≡ Some trial → broken_in policy trial ≡ None
@@ -103,23 +99,33 @@ module _ (policy : Policy) where
       at zero here = let same : t ≡ trial = cc in subst (λ (u : Trial). broken_in policy u ≡ None) same e
       at (suc i) here = later free i trial here
 
-  one_broken : (ts : List Trial) → judged policy ts ≢ Free → Judged policy ts
-  one_broken [] racy = absurd (racy refl)
-  one_broken (t ∷ ts) racy = by (broken_in policy t) refl racy (one_broken ts) where
-    by : (o : Option Point) → broken_in policy t ≡ o → option_map_or (shown t) o (judged policy ts) ≢ Free → (judged policy ts ≢ Free → Judged policy ts) → Judged policy (t ∷ ts)
-    by (Some point) e racy later = record { place = 0; trial = t; there = refl; broken = found_at (breaks policy) (points policy t) point e }
-    by None e racy later = let found = later racy in record { place = suc found.place; trial = found.trial; there = found.there; broken = found.broken }
+  -- each point of the trials that breaks its condition shows it
+  abbrev EachShows : List Trial → Type 0
+  EachShows ts =
+      (i j : ℕ) (trial : Trial) (point : Point) → slice_get ts i ≡ Some trial → slice_get (points policy trial) j ≡ Some point → breaks policy point ≡ true
+      → IsShown policy trial.condition point.state point.first point.second
 
-  -- The points of a policy that is judged free are enough, and one of a policy that is not breaks a condition.
-  pub free_is : PointsAreEnough → IsPolicy policy → (ts : List Trial) (answer : Result RaceVerdict RaceFault) → ts ≡ trials policy → Answers Memory answer (Ok (judged policy ts)) → IfOk answer (λ verdict. verdict ≡ Free → IsRaceFree policy)
-  free_is enough sound ts (Ok verdict) all e = λ free.
-      let told : judged policy ts ≡ verdict = cc in
-      enough policy sound (none_broken (trials policy) (ap (judged policy) (sym all) ∙ told ∙ free))
-  free_is enough sound ts (Err fault) all e = tt
+  judged_shows : (ts : List Trial) → EachShows ts → ShowsRace policy (judged policy ts)
+  judged_shows [] each = tt
+  judged_shows (t ∷ ts) each = by (broken_in policy t) refl (judged_shows ts (λ i. each (suc i))) where
+    by : (o : Option Point) → broken_in policy t ≡ o → ShowsRace policy (judged policy ts) → ShowsRace policy (option_map_or (shown t) o (judged policy ts))
+    by (Some point) e later = let at = found_at (breaks policy) (points policy t) point e in each 0 at.place t point refl at.there at.passes
+    by None e later = later
 
-  pub racy_is : BrokenPointsRace → IsPolicy policy → (ts : List Trial) (answer : Result RaceVerdict RaceFault) → ts ≡ trials policy → Answers Memory answer (Ok (judged policy ts)) → IfOk answer (λ verdict. verdict ≢ Free → IsRaceFree policy → ⊥)
-  racy_is race sound ts (Ok verdict) all e = λ racy free.
-      let told : judged policy ts ≡ verdict = cc in
-      let found = one_broken (trials policy) (λ same. racy (sym (ap (judged policy) (sym all) ∙ told) ∙ same)) in
-      race policy sound found.place found.broken.place found.trial found.broken.point found.there found.broken.there found.broken.passes free
-  racy_is race sound ts (Err fault) all e = tt
+  decided_judged : (verdict : RaceVerdict) → decided policy ≡ Ok verdict → judged policy (trials policy) ≡ verdict
+  decided_judged verdict e = by (all_small policy (trials policy)) e where
+    by : (o : Result (Unit {0}) RaceFault) → (o >>= λ small. Ok (judged policy (trials policy))) ≡ Ok verdict → judged policy (trials policy) ≡ verdict
+    by (Ok small) e = cc
+    by (Err fault) e = absurd cc
+
+  -- A verdict that is decided shows why the policy is racy, and else the policy is race-free.
+  pub shows : BrokenPointsShow → IsPolicy policy → (verdict : RaceVerdict) → decided policy ≡ Ok verdict → ShowsRace policy verdict
+  shows show sound verdict e = subst (ShowsRace policy) (decided_judged verdict e) (judged_shows (trials policy) (show policy sound))
+
+  pub free_is : PointsAreEnough → IsPolicy policy → (verdict : RaceVerdict) → decided policy ≡ Ok verdict → verdict ≡ Free → IsRaceFree policy
+  free_is enough sound verdict e free = enough policy sound (none_broken (trials policy) (decided_judged verdict e ∙ free))
+
+  -- What is told of decided verdicts is told of answers.
+  pub of_decided : (P : RaceVerdict → Type 0) (answer : Result RaceVerdict RaceFault) → Answers Memory answer (decided policy) → ((verdict : RaceVerdict) → decided policy ≡ Ok verdict → P verdict) → IfOk answer P
+  of_decided P (Ok verdict) e each = each verdict e
+  of_decided P (Err fault) e each = tt

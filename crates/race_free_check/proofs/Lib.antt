@@ -28,3 +28,4 @@ pub mod Trials
 pub mod Parting
 pub mod Enough
 pub mod Broken
+pub mod Limiting

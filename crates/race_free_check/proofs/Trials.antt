@@ -82,31 +82,32 @@ module _ (policy : Policy) where
   tries_mixed q r hq hr =
       in_right (lone_ends ++ call_pairs ++ end_pairs) mixed_pairs (both 3 q r) (in_pairs 3 (calls_in policy) (ends_in policy) q r hq hr)
 
-  -- What a trial is: of an end, or of two events that may be in this order.
+  -- What a trial is, by its condition.
   pub data IsTrial : Trial → Type 0 where
     of_end : (q : Placed) → IsPlaced false q → IsTrial (alone 0 q)
-    of_two : (condition : ℕ) (q r : Placed) (first second : Bool) → IsPlaced first q → IsPlaced second r → (first ≡ false → second ≡ false) → IsTrial (both condition q r)
+    of_calls : (q r : Placed) → IsPlaced true q → IsPlaced true r → IsTrial (both 1 q r)
+    of_ends : (q r : Placed) → IsPlaced false q → IsPlaced false r → IsTrial (both 2 q r)
+    of_call_and_end : (q r : Placed) → IsPlaced true q → IsPlaced false r → IsTrial (both 3 q r)
 
-  pair_is : (condition : ℕ) (firsts seconds : List Placed) (first second : Bool) → (first ≡ false → second ≡ false)
-      → ((q : Placed) → Has firsts q → IsPlaced first q) → ((r : Placed) → Has seconds r → IsPlaced second r) → (trial : Trial) → Has (pairs condition firsts seconds) trial → IsTrial trial
-  pair_is condition firsts seconds first second order are be trial h =
+  pair_is : (condition : ℕ) (firsts seconds : List Placed) → ((q r : Placed) → Has firsts q → Has seconds r → IsTrial (both condition q r)) → (trial : Trial) → Has (pairs condition firsts seconds) trial → IsTrial trial
+  pair_is condition firsts seconds are trial h =
       let m = flat_has (λ q. map (both condition q) seconds) firsts trial h in
       let k = map_has (both condition m.item) seconds trial m.so in
-      subst IsTrial k.so (of_two condition m.item k.item first second (are m.item m.there) (be k.item k.there) order)
+      subst IsTrial k.so (are m.item k.item m.there k.there)
 
   pub trial_is : (trial : Trial) → Has (trials policy) trial → IsTrial trial
   trial_is trial h = by_mixed (in_either (lone_ends ++ call_pairs ++ end_pairs) mixed_pairs trial h) where
     by_calls : Has lone_ends trial ⊎ Has call_pairs trial → IsTrial trial
     by_calls (inl k) = let m = map_has (alone 0) (ends_in policy) trial k in subst IsTrial m.so (of_end m.item (end_is m.item m.there))
-    by_calls (inr k) = pair_is 1 (calls_in policy) (calls_in policy) true true (λ e. e) call_is call_is trial k
+    by_calls (inr k) = pair_is 1 (calls_in policy) (calls_in policy) (λ q r hq hr. of_calls q r (call_is q hq) (call_is r hr)) trial k
 
     by_ends : Has (lone_ends ++ call_pairs) trial ⊎ Has end_pairs trial → IsTrial trial
     by_ends (inl k) = by_calls (in_either lone_ends call_pairs trial k)
-    by_ends (inr k) = pair_is 2 (ends_in policy) (ends_in policy) false false (λ e. e) end_is end_is trial k
+    by_ends (inr k) = pair_is 2 (ends_in policy) (ends_in policy) (λ q r hq hr. of_ends q r (end_is q hq) (end_is r hr)) trial k
 
     by_mixed : Has (lone_ends ++ call_pairs ++ end_pairs) trial ⊎ Has mixed_pairs trial → IsTrial trial
     by_mixed (inl k) = by_ends (in_either (lone_ends ++ call_pairs) end_pairs trial k)
-    by_mixed (inr k) = pair_is 3 (calls_in policy) (ends_in policy) true false (λ e. refl) call_is end_is trial k
+    by_mixed (inr k) = pair_is 3 (calls_in policy) (ends_in policy) (λ q r hq hr. of_call_and_end q r (call_is q hq) (end_is r hr)) trial k
 
 -- ---- points
 

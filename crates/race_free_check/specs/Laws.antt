@@ -5,6 +5,7 @@ use Rattle.conspec_automaton.specs.Racing.{IsRaceFree}
 use Rattle.conspec_automaton.specs.Sound.{IsPolicy}
 use Rattle.conspec_automaton.specs.Trying.{Point, Trial, breaks, points, trials}
 use Rattle.race_free_check.specs.Deciding.{broken_in}
+use Rattle.race_free_check.specs.Shown.{IsShown}
 
 -- A policy whose conditions no point breaks is race-free.
 abbrev pub PointsAreEnough : Type 0
@@ -12,6 +13,13 @@ PointsAreEnough =
     (policy : Policy) → IsPolicy policy
     → ((i : ℕ) (trial : Trial) → slice_get (trials policy) i ≡ Some trial → broken_in policy trial ≡ None)
     → IsRaceFree policy
+
+-- A point that breaks a condition is of a state in range and of events that can be, and they break the condition of its trial.
+abbrev pub BrokenPointsShow : Type 0
+BrokenPointsShow =
+    (policy : Policy) → IsPolicy policy
+    → (i j : ℕ) (trial : Trial) (point : Point) → slice_get (trials policy) i ≡ Some trial → slice_get (points policy trial) j ≡ Some point
+    → breaks policy point ≡ true → IsShown policy trial.condition point.state point.first point.second
 
 -- A policy of which a point breaks a condition is not race-free.
 abbrev pub BrokenPointsRace : Type 0

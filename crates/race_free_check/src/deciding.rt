@@ -1,17 +1,19 @@
 //! The decision: counts first, then points.
 
-ghost use Rattle.std.specs.Prelude.{◌≡◌, ◌≢◌, true, Ok, IfOk, IsOk};
+ghost use Rattle.std.specs.Prelude.{◌≡◌, ◌≢◌, true, Ok, IfErr, IfOk, IsOk};
 ghost use Rattle.std.specs.List.{AllByRecursion};
 ghost use Rattle.mon_base.specs.Answer.{Answers};
 ghost use Rattle.conspec_automaton.specs.Racing.{IsRaceFree};
 ghost use Rattle.conspec_automaton.specs.Sound.{IsPolicy};
 ghost use Rattle.conspec_automaton.specs.Trying.{is_small, point_count};
 ghost use Rattle.race_free_check.specs.Deciding.{AreClausesOf, broken_in, all_small, decided, judged, second_place, small_or_told};
+ghost use Rattle.race_free_check.specs.Limit.{AllHaveFewPoints, TellsLimit};
+ghost use Rattle.race_free_check.specs.Shown.{ShowsRace};
 
 use crate::apart::is_apart;
 use crate::events::events_count;
 use crate::fault::RaceFault;
-use crate::laws::{broken_points_race, points_are_enough};
+use crate::laws::{broken_points_show, points_are_enough};
 use crate::searching::{Point, broken_in};
 use crate::states::states_count;
 use crate::trial::{TrialRef, trials};
@@ -31,9 +33,21 @@ pub fn decide(alloc: Global, policy: &Policy) -> Result<RaceVerdict, RaceFault>
     ensures exact { Answers RaceFault.Memory result (decided policy.now) }
     ensures free { IfOk result (λ verdict. verdict ≡ RaceVerdict.Free → IsRaceFree policy.now) }
     ensures racy { IfOk result (λ verdict. verdict ≢ RaceVerdict.Free → IsRaceFree policy.now → ⊥) }
+    // The state that is shown is in range, a program can make the events, and they break the condition of the number.
+    ensures shown { IfOk result (ShowsRace policy.now) }
+    // It is decided only where no trial has too many points, and else the first that has too many is told.
+    ensures small { IsOk result → AllHaveFewPoints policy.now }
+    ensures limit { IfErr result (TellsLimit policy.now) }
 {
     points_are_enough();
-    broken_points_race();
+    broken_points_show();
+    decided(alloc, policy)
+}
+
+fn decided(alloc: Global, policy: &Policy) -> Result<RaceVerdict, RaceFault>
+    requires { IsPolicy policy.now }
+    ensures { Answers RaceFault.Memory result (decided policy.now) }
+{
     let trials = trials(alloc, policy)?;
     all_small(alloc, policy, trials.as_slice())?;
     judged(alloc, policy, trials.as_slice())

@@ -21,5 +21,5 @@ mod verdict;
 
 pub use deciding::{MAX_POINTS, decide};
 pub use fault::RaceFault;
-pub use laws::{broken_points_race, points_are_enough};
+pub use laws::{broken_points_race, broken_points_show, points_are_enough};
 pub use verdict::RaceVerdict;

@@ -1,18 +1,30 @@
-use Rattle.std.proofs.Common.{List, sym, subst, ◌∙◌}
-use Rattle.std.specs.List.{AllByRecursion}
-use Rattle.conspec_automaton.specs.Trying.{Trial}
-use Rattle.race_free_check.specs.Deciding.{AreClausesOf}
-use Rattle.race_free_check.proofs.Judging.{free_is, racy_is, trials_all}
+use Rattle.std.specs.Prelude.{◌≡◌, ◌≢◌}
+use Rattle.conspec_automaton.specs.Racing.{IsRaceFree}
+use Rattle.race_free_check.specs.declared.verdict.RaceVerdict.TheVariants.{Free}
+use Rattle.race_free_check.specs.Shown.{ShowsRace}
+use Rattle.race_free_check.proofs.Broken.{shown_races}
+use Rattle.race_free_check.proofs.Judging.{free_is, of_decided, shows}
+use Rattle.race_free_check.proofs.Limiting.{limit_is, small_is}
 use Rattle.race_free_check.proofs.deciding.decide.Goals as goal
 
-pub all_small-requires-clause-clauses : goal.all_small-requires-clause-clauses
-all_small-requires-clause-clauses c = subst (λ (ts : List Trial). AllByRecursion (AreClausesOf c.args.policy.now) ts) (sym (c.as_slice.ensures.value ∙ c.in_ok-trials.ensures)) (trials_all c.args.policy.now c.requires)
-
-pub judged-requires-clause-clauses : goal.judged-requires-clause-clauses
-judged-requires-clause-clauses c = subst (λ (ts : List Trial). AllByRecursion (AreClausesOf c.args.policy.now) ts) (sym (c.as_slice-2.ensures.value ∙ c.in_ok-trials.ensures)) (trials_all c.args.policy.now c.requires)
-
 pub returns-clause-free : goal.returns-clause-free
-returns-clause-free c = free_is c.args.policy.now c.points_are_enough.ensures c.requires c.as_slice-2.result.now c.judged.result (c.as_slice-2.ensures.value ∙ c.in_ok-trials.ensures) c.judged.ensures
+returns-clause-free c =
+    let policy = c.args.policy.now in
+    of_decided policy (λ verdict. verdict ≡ Free → IsRaceFree policy) c.decided.result c.decided.ensures (free_is policy c.points_are_enough.ensures c.requires)
 
 pub returns-clause-racy : goal.returns-clause-racy
-returns-clause-racy c = racy_is c.args.policy.now c.broken_points_race.ensures c.requires c.as_slice-2.result.now c.judged.result (c.as_slice-2.ensures.value ∙ c.in_ok-trials.ensures) c.judged.ensures
+returns-clause-racy c =
+    let policy = c.args.policy.now in
+    of_decided policy (λ verdict. verdict ≢ Free → IsRaceFree policy → ⊥) c.decided.result c.decided.ensures
+    (λ verdict is. shown_races policy verdict (shows policy c.broken_points_show.ensures c.requires verdict is))
+
+pub returns-clause-shown : goal.returns-clause-shown
+returns-clause-shown c =
+    let policy = c.args.policy.now in
+    of_decided policy (ShowsRace policy) c.decided.result c.decided.ensures (shows policy c.broken_points_show.ensures c.requires)
+
+pub returns-clause-small : goal.returns-clause-small
+returns-clause-small c = small_is c.args.policy.now c.decided.result c.decided.ensures
+
+pub returns-clause-limit : goal.returns-clause-limit
+returns-clause-limit c = limit_is c.args.policy.now c.decided.result c.decided.ensures
