@@ -6,6 +6,7 @@ pub mod Insns
 pub mod Catching
 pub mod Always
 pub mod Staying
+mod Seeing
 mod Going
 mod Throwing
 mod Calling

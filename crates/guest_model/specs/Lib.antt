@@ -20,6 +20,7 @@ pub mod Runs
 pub mod Enabled
 pub mod Always
 pub mod Staying
+pub mod Seeing
 pub mod Standing
 pub mod First
 pub mod Moving

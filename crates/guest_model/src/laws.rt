@@ -11,6 +11,7 @@ ghost use Rattle.guest_model.specs.Standing.{Places, HasInsns, IsClosed, SeesOnl
 ghost use Rattle.guest_model.specs.Always.{IsKeptBySteps, HoldsAlways};
 ghost use Rattle.guest_model.specs.First.{SeesFirstCall, GoesOnBehindFirstCall};
 ghost use Rattle.guest_model.specs.Numbers.{SeesInRange, AnswersAreWords, OneMakesWords, TwoMakeWords};
+ghost use Rattle.guest_model.specs.Seeing.{EventsAreOfTheirThread};
 ghost use Rattle.guest_model.specs.Staying.{OtherThreadsStay};
 ghost use Rattle.guest_model.specs.Throwing.{CoveringIsFound, HandlersCover};
 
@@ -40,6 +41,11 @@ pub fn what_each_step_keeps_holds_always()
 /// A step leaves each thread that was there as it was, but its own.
 pub fn other_threads_stay()
     ensures stay { OtherThreadsStay }
+{}
+
+/// What the library sees of a step, a call, a return or an exception, is of the thread that makes the step.
+pub fn events_are_of_their_thread()
+    ensures own { EventsAreOfTheirThread }
 {}
 
 /// Where control begins in a set of places and does not leave it, the library sees only calls of methods that are called at
