@@ -17,6 +17,7 @@ pub mod Comings
 mod KeptWords
 mod Passing
 mod Answers
+mod Permitted
 mod InRange
 mod Linked
 mod There

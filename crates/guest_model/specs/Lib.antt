@@ -15,6 +15,7 @@ pub mod Changes
 pub mod Working
 pub mod Calling
 pub mod Answering
+pub mod Permitted
 pub mod Stepping
 pub mod Runs
 pub mod Enabled

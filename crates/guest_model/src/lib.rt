@@ -22,7 +22,7 @@ pub use laws::{
     sees_the_first_call, what_each_step_keeps_holds_always,
 };
 pub use laws_of_steps::{
-    enabled_steps_are_made, fitting_answers_are_taken, frames_are_left,
+    answers_are_permitted, enabled_steps_are_made, fitting_answers_are_taken, frames_are_left,
     free_monitors_are_entered, ready_calls_are_made, steps_are_enabled, what_is_ready_moves,
 };
 pub use machine::{Choice, End, Machine, Step};
