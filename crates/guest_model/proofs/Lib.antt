@@ -7,6 +7,7 @@ pub mod Catching
 pub mod Always
 pub mod Staying
 mod Seeing
+mod Counting
 mod Going
 mod Throwing
 mod Calling

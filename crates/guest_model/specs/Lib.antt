@@ -22,6 +22,7 @@ pub mod Enabled
 pub mod Always
 pub mod Staying
 pub mod Seeing
+pub mod Counting
 pub mod Standing
 pub mod First
 pub mod Moving

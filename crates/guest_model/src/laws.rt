@@ -9,6 +9,7 @@ ghost use Rattle.bytecode_model.specs.Targets.{AreNamed};
 ghost use Rattle.guest_model.specs.declared.machine.Machine.{Machine};
 ghost use Rattle.guest_model.specs.Standing.{Places, HasInsns, IsClosed, SeesOnlyCalled};
 ghost use Rattle.guest_model.specs.Always.{IsKeptBySteps, HoldsAlways};
+ghost use Rattle.guest_model.specs.Counting.{FewAreAdded, SeesFewObjects, StepsAddOne};
 ghost use Rattle.guest_model.specs.First.{SeesFirstCall, GoesOnBehindFirstCall};
 ghost use Rattle.guest_model.specs.Numbers.{SeesInRange, AnswersAreWords, OneMakesWords, TwoMakeWords};
 ghost use Rattle.guest_model.specs.Seeing.{EventsAreOfTheirThread};
@@ -46,6 +47,14 @@ pub fn other_threads_stay()
 /// What the library sees of a step, a call, a return or an exception, is of the thread that makes the step.
 pub fn events_are_of_their_thread()
     ensures own { EventsAreOfTheirThread }
+{}
+
+/// A step adds at most one object to the heap and at most one thread; so there are never more than the fields of the listing,
+/// main's array and the steps, and the numbers of objects that the library sees are below that.
+pub fn steps_add_one()
+    ensures one { StepsAddOne }
+    ensures few { FewAreAdded }
+    ensures shown { SeesFewObjects }
 {}
 
 /// Where control begins in a set of places and does not leave it, the library sees only calls of methods that are called at
