@@ -1,8 +1,8 @@
 -- Each step adds at most one object to the heap and at most one thread, and the library sees numbers of the heap.
-use Rattle.std.proofs.Common.{◌≡◌, ◌≤◌, ◌<◌, ℕ, zero, suc, ◌+◌, cond, List, [], ◌∷◌, ◌++◌, length, drop, map, Option, Some, None, refl, sym, subst, ap, ◌∙◌, int_eq, arith}
+use Rattle.std.proofs.Common.{◌≡◌, ◌≤◌, ◌<◌, ℕ, zero, suc, ◌+◌, cond, List, [], ◌∷◌, ◌++◌, length, drop, map, Option, Some, None, refl, subst, ap, int_eq, arith}
 use Rattle.std.specs.Prelude.{ℤ, pos, negsuc, codes, Bool, true, false, Result, Ok, Err, is_some, nat_lt, slice_get, slice_set, option_map, option_and_then}
 use Rattle.std.specs.List.{AllByRecursion}
-use Rattle.std.specs.Option.{option_map_or, option_or, option_to_list}
+use Rattle.std.specs.Option.{option_map_or, option_to_list}
 use Rattle.std.proofs.lemmas.List.{length-append, length-map}
 use Rattle.std.proofs.lemmas.Option.{slice_get_within}
 use Rattle.api_listing.specs.declared.events.ApiValue.{ApiValue}
@@ -49,20 +49,20 @@ use Rattle.guest_model.specs.Places.{insn_at, method_at}
 use Rattle.guest_model.specs.Stepping.{Acting, acts_on, acts_throwing, call_stepped, changed, comes_to, doing_stepped, enters, frames_stepped, heap_in, heap_stepped, insn_stepped, is_on_null, leaves, left_with, returns, running_stepped, throws_top, works}
 use Rattle.insn_codec.specs.declared.shape.Item.{Item}
 use Rattle.insn_codec.specs.declared.shape.ValueKind.TheVariants as kinds
-use Rattle.guest_frames.specs.Values.{fits, is_null}
+use Rattle.guest_frames.specs.Values.{is_null}
 use Rattle.guest_heap.specs.Heap.{places_of, with_value, with_value_at}
 use Rattle.guest_heap.specs.declared.object.Object.{Object}
 use Rattle.guest_heap.specs.declared.object.Object.TheVariants as objects
 use Rattle.mon_base.specs.declared.method.MethodId.{MethodId}
-use Rattle.guest_model.specs.Calling.{Calling, aimed_at, aims, built_in, call_throws, calls_given, calls_library, calls_named, desc_named, enters_on, exits, goes_past, has_ended, is_static_call, joined, joins, lacked, lacking, on_receiver, run_of, runs, runs_object, runs_target, second_start, started, started_as, starts, stopped_by, target_of, thread_of_value, waiting, with_changed}
+use Rattle.guest_model.specs.Calling.{Calling, aimed_at, aims, built_in, call_throws, calls_given, calls_library, calls_named, desc_named, enters_on, goes_past, has_ended, is_static_call, joined, joins, lacked, lacking, on_receiver, run_of, runs, runs_object, runs_target, second_start, started, started_as, starts, stopped_by, target_of, thread_of_value, waiting, with_changed}
 use Rattle.guest_model.specs.Changes.{Change, World, applied, ends_thread, enters_method, goes, lock_of, lock_taken, returned, throws_new, with_heap, with_monitors, world_of}
 use Rattle.guest_model.specs.Counting.{FewAreAdded, IsNumberedBelow, IsResultBelow, SeesFewObjects, ShowsBelow, StepsAddOne}
 use Rattle.guest_model.specs.Layout.{new_of}
 use Rattle.guest_model.specs.Parts.{bad_monitor, constant_value, null_pointer, result_of}
 use Rattle.guest_model.specs.Runs.{exec_from, first_heap, inner, seen, start_of, stepped_or_same, trace_from}
-use Rattle.guest_model.specs.Seen.{object_shown, string_of, value_shown, values_shown}
+use Rattle.guest_model.specs.Seen.{object_shown, string_of, value_shown}
 use Rattle.guest_model.specs.Throwing.{bare_object}
-use Rattle.guest_model.specs.Working.{ArrayAt, Worked, array_in, array_made, bad_division, bad_item, bad_place, bad_size, casts, divided, divides, has_items, is_cast, item_kind, item_read, item_written, kept, length_told, makes_array, may_hold, name_named, number_operand, on_array, on_items, on_object, operand_of, place_among, place_named, reads_field, reads_item, reads_static, static_written, tells_instance, worked, writes_field, writes_item, writes_static}
+use Rattle.guest_model.specs.Working.{ArrayAt, Worked, array_in, array_made, bad_division, bad_item, bad_place, bad_size, casts, divides, has_items, is_cast, item_kind, item_read, item_written, kept, length_told, makes_array, may_hold, name_named, number_operand, on_array, on_items, on_object, operand_of, place_among, place_named, reads_field, reads_item, reads_static, static_written, worked, writes_field, writes_item, writes_static}
 use Rattle.guest_model.proofs.Options.{IfThere, all_append, all_map, if_either, if_made, if_mapped, if_none, if_some, if_then, is_there, map_of, there_or}
 
 -- ---- lists

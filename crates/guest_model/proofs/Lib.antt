@@ -21,6 +21,7 @@ mod Answers
 mod Permitted
 mod InRange
 mod Linked
+mod Listed
 mod There
 mod Enabled
 mod Working

@@ -1,6 +1,6 @@
 -- The answers that the machine takes are those that the rows allow.
-use Rattle.std.proofs.Common.{◌≡◌, ◌≤◌, ◌^◌, ℕ, ℤ, zero, suc, pos, Bool, true, false, cond, List, length, Option, Some, None, refl, sym, ap, ◌∙◌, subst, arith, inl, inr}
-use Rattle.std.specs.Prelude.{◌⊎◌, ◌↔◌, ◌≤ℤ◌, ◌-ℤ◌, ◌==◌, ◌&&◌, ◌||◌, bytes_eq, int_le, is_some, nat_le, not, negsuc, slice_get}
+use Rattle.std.proofs.Common.{◌≡◌, ◌≤◌, ℕ, ℤ, pos, Bool, true, false, List, length, Option, Some, None, refl, sym, ap, ◌∙◌, subst, arith, inl, inr}
+use Rattle.std.specs.Prelude.{◌⊎◌, ◌≤ℤ◌, ◌-ℤ◌, ◌==◌, ◌&&◌, ◌||◌, bytes_eq, int_le, is_some, nat_le, not, slice_get}
 use Rattle.std.specs.Option.{option_map_or}
 use Rattle.std.proofs.lemmas.Bool.{and_parts, eqb-true, leb-true}
 use Rattle.std.proofs.lemmas.Int.{ints}
@@ -12,18 +12,16 @@ use Rattle.api_listing.specs.declared.events.ApiAnswer.{ApiAnswer}
 use Rattle.api_listing.specs.declared.events.ApiAnswer.TheVariants as answers
 use Rattle.api_listing.specs.declared.types.ListedClass.{ListedClass}
 use Rattle.api_listing.specs.BuiltIn.{built_in_classes, object, throwable}
-use Rattle.api_listing.specs.Descriptor.{type_spelled}
 use Rattle.api_listing.specs.Listing.{is_known}
 use Rattle.api_listing.specs.Nearest.{class_named}
 use Rattle.bytecode_model.specs.declared.program.Program.{Program}
-use Rattle.bytecode_model.specs.Assigning.{reference_of}
 use Rattle.bytecode_model.specs.Classes.{is_below, is_interface}
 use Rattle.bytecode_model.specs.SearchOrder.{Name}
 use Rattle.guest_heap.specs.declared.object.Object.{Object}
 use Rattle.guest_heap.specs.declared.value.Value.{Value}
 use Rattle.guest_heap.specs.declared.value.Value.TheVariants as values
 use Rattle.guest_model.specs.Answering.{answer_fits, is_listed_class, is_no_object, is_of, of_class, result_class, takes_text}
-use Rattle.guest_model.specs.Answers.{between, fits_number, is_number_of, may_throw}
+use Rattle.guest_model.specs.Answers.{between, fits_number, is_number_of}
 use Rattle.guest_model.specs.Kinds.{is_instance, string}
 use Rattle.guest_model.specs.Permitted.{AnswersArePermitted, GivesNumber, GivesObject, IsAnswer, IsListedClass, IsNumberOf, IsObjectOf, IsReference, TakesTexts}
 use Rattle.guest_model.specs.Permitted as may

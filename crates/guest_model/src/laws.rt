@@ -12,7 +12,7 @@ ghost use Rattle.guest_model.specs.Always.{IsKeptBySteps, HoldsAlways};
 ghost use Rattle.guest_model.specs.Counting.{FewAreAdded, SeesFewObjects, StepsAddOne};
 ghost use Rattle.guest_model.specs.First.{SeesFirstCall, GoesOnBehindFirstCall};
 ghost use Rattle.guest_model.specs.Numbers.{SeesInRange, AnswersAreWords, OneMakesWords, TwoMakeWords};
-ghost use Rattle.guest_model.specs.Seeing.{EventsAreOfTheirThread};
+ghost use Rattle.guest_model.specs.Seeing.{EventsAreOfTheirThread, SeesGiven, SeesListed};
 ghost use Rattle.guest_model.specs.Staying.{OtherThreadsStay};
 ghost use Rattle.guest_model.specs.Throwing.{CoveringIsFound, HandlersCover};
 
@@ -47,6 +47,13 @@ pub fn other_threads_stay()
 /// What the library sees of a step, a call, a return or an exception, is of the thread that makes the step.
 pub fn events_are_of_their_thread()
     ensures own { EventsAreOfTheirThread }
+{}
+
+/// Whatever the steps are, a method of the library that gives something returns a value, and any other returns none; a number
+/// that is returned is one of the method's type; and of a linked program each event is of a method of the listing.
+pub fn sees_what_is_given()
+    ensures sees { (program : Program) → SeesGiven program }
+    ensures listed { (program : Program) → IsSound program → AreNamed program → SeesListed program }
 {}
 
 /// A step adds at most one object to the heap and at most one thread; so there are never more than the fields of the listing,

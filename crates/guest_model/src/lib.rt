@@ -19,7 +19,7 @@ pub use builtin::{Builtin, builtin_at};
 pub use laws::{
     covering_handlers_are_found, events_are_of_their_thread, handlers_cover,
     numbers_are_of_32_bits, other_threads_stay, sees_numbers_in_range, sees_only_what_is_called,
-    sees_the_first_call, steps_add_one, what_each_step_keeps_holds_always,
+    sees_the_first_call, sees_what_is_given, steps_add_one, what_each_step_keeps_holds_always,
 };
 pub use laws_of_steps::{
     answers_are_permitted, enabled_steps_are_made, fitting_answers_are_taken, frames_are_left,
