@@ -46,7 +46,7 @@ module _ (test : ListedMethod → Bool) where
       let t : test x ≡ false = first 0 x (omega arith) refl in
       rw t (first_again xs place (from + 1) method there passes (λ j m low at. first (suc j) m (omega (arith, low)) at) ∙ ap Some (omega arith))
 
-is_itself : (id : MethodId) → is_method id.class id.name id.desc id ≡ true
+pub is_itself : (id : MethodId) → is_method id.class id.name id.desc id ≡ true
 is_itself id =
     rw ((bytes_eq-Decides id.class id.class).1 refl, (bytes_eq-Decides id.name id.name).1 refl, (bytes_eq-Decides id.desc id.desc).1 refl) refl
 

@@ -12,3 +12,5 @@ pub mod Joining
 pub mod WrittenAgain
 pub mod FirstFault
 pub mod Indices
+mod ListingWords
+mod RunLines

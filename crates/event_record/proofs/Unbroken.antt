@@ -109,7 +109,7 @@ values_are_words (v ∷ values) all = (value_is_word v all.0, values_are_words v
 pub no_space : (word : List ℕ) → HasNoBreak word → All (λ b. (b == 32) ≡ false) word
 no_space word clear = All-from_recursion (λ (b : ℕ). (b == 32) ≡ false) word (each IsNoBreak (λ (b : ℕ). (b == 32) ≡ false) (λ b apart. ne_eqb b 32 apart.0) word clear)
 
-abbrev IsInLine : ℕ → Type 0
+abbrev pub IsInLine : ℕ → Type 0
 IsInLine b = b ≢ 10
 
 -- words with a space between two make no newline

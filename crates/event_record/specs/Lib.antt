@@ -7,5 +7,6 @@ pub mod Printing
 pub mod Spelling
 pub mod Again
 pub mod Writing
+pub mod RunLines
 pub mod Joined
 pub mod FirstFault

@@ -9,6 +9,7 @@ use Rattle.api_listing.specs.declared.events.Event.{Event}
 use Rattle.api_listing.specs.declared.events.Event.TheVariants.{Call, Return, Except}
 use Rattle.api_listing.specs.declared.types.ListedMethod.{ListedMethod}
 use Rattle.mon_base.specs.declared.method.MethodId.{MethodId}
+use Rattle.guest_model.specs.Seeing.{thread_of}
 use Rattle.event_record.specs.Entry.{gives_nothing}
 use Rattle.event_record.specs.Library.{Library}
 use Rattle.event_record.specs.Value.{value_word}
@@ -77,11 +78,6 @@ abbrev pub method_listed : Event → ℕ
 method_listed (Call thread method args) = method
 method_listed (Return thread method value) = method
 method_listed (Except thread method) = method
-
-abbrev pub thread_of : Event → ℕ
-thread_of (Call thread method args) = thread
-thread_of (Return thread method value) = thread
-thread_of (Except thread method) = thread
 
 -- A method without a result gives none, and any other gives a value.
 abbrev pub IsGiven : List ℕ → Event → Type 0

@@ -23,4 +23,6 @@ pub use printing::{
     events_are_read_again, push_event, push_threadless, push_value, values_are_read_again,
 };
 pub use reading::{Record, read_record};
-pub use writing::{EndLine, Line, events_text, record_text, records_are_read_again};
+pub use writing::{
+    EndLine, Line, events_text, lines_of_runs_are_told, record_text, records_are_read_again,
+};

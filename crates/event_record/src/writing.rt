@@ -7,6 +7,7 @@ ghost use Rattle.api_listing.specs.declared.types.ListedMethod.{ListedMethod};
 ghost use Rattle.event_record.specs.Again.{end_line};
 ghost use Rattle.event_record.specs.Joined.{WritesOn, end_head, joined_line};
 ghost use Rattle.event_record.specs.Printing.{behind, event_line};
+ghost use Rattle.event_record.specs.RunLines.{LinesOfRunsAreTold};
 ghost use Rattle.event_record.specs.Spelling.{answer_words};
 ghost use Rattle.event_record.specs.Value.{hex};
 ghost use Rattle.event_record.specs.Writing.{
@@ -24,7 +25,10 @@ ghost use Rattle.event_record.specs.Writing.{
 
 use crate::printing::{push_event, push_hex};
 use api_listing::{ApiAnswer, Event, Listing};
-use guest_model::{Choice, Step};
+use guest_model::{
+    Choice, Step, events_are_of_their_thread, numbers_are_of_32_bits, sees_numbers_in_range,
+    sees_what_is_given, steps_add_one, steps_are_enabled,
+};
 use mon_base::{Bytes, NoMemory, push_count, push_number};
 use std::alloc::Global;
 
@@ -95,6 +99,19 @@ pub fn events_text(
 pub fn records_are_read_again()
     ensures { RecordsAreReadAgain }
 {}
+
+/// A record can tell each line of a run of a linked program that has fewer than some 4,000,000,000 steps, where the names of
+/// classes that the library sees are words, and texts are made of bytes.
+pub fn lines_of_runs_are_told()
+    ensures told { LinesOfRunsAreTold }
+{
+    steps_are_enabled();
+    steps_add_one();
+    events_are_of_their_thread();
+    numbers_are_of_32_bits();
+    sees_numbers_in_range();
+    sees_what_is_given();
+}
 
 fn push_events(out: &mut Bytes, listing: &Listing, events: &[Event]) -> Result<(), NoMemory>
     ensures { OnOk result (out.new ≡ out.old ++ flat_map (event_line listing.now.methods) events.now) }

@@ -6,6 +6,8 @@ pub mod Insns
 pub mod Catching
 pub mod Always
 pub mod Staying
+mod Seeing
+mod Counting
 mod Going
 mod Throwing
 mod Calling
@@ -16,8 +18,10 @@ pub mod Comings
 mod KeptWords
 mod Passing
 mod Answers
+mod Permitted
 mod InRange
 mod Linked
+mod Listed
 mod There
 mod Enabled
 mod Working

@@ -15,11 +15,14 @@ pub mod Changes
 pub mod Working
 pub mod Calling
 pub mod Answering
+pub mod Permitted
 pub mod Stepping
 pub mod Runs
 pub mod Enabled
 pub mod Always
 pub mod Staying
+pub mod Seeing
+pub mod Counting
 pub mod Standing
 pub mod First
 pub mod Moving

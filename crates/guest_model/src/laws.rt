@@ -9,8 +9,10 @@ ghost use Rattle.bytecode_model.specs.Targets.{AreNamed};
 ghost use Rattle.guest_model.specs.declared.machine.Machine.{Machine};
 ghost use Rattle.guest_model.specs.Standing.{Places, HasInsns, IsClosed, SeesOnlyCalled};
 ghost use Rattle.guest_model.specs.Always.{IsKeptBySteps, HoldsAlways};
+ghost use Rattle.guest_model.specs.Counting.{FewAreAdded, SeesFewObjects, StepsAddOne};
 ghost use Rattle.guest_model.specs.First.{SeesFirstCall, GoesOnBehindFirstCall};
 ghost use Rattle.guest_model.specs.Numbers.{SeesInRange, AnswersAreWords, OneMakesWords, TwoMakeWords};
+ghost use Rattle.guest_model.specs.Seeing.{EventsAreOfTheirThread, SeesGiven, SeesListed};
 ghost use Rattle.guest_model.specs.Staying.{OtherThreadsStay};
 ghost use Rattle.guest_model.specs.Throwing.{CoveringIsFound, HandlersCover};
 
@@ -40,6 +42,26 @@ pub fn what_each_step_keeps_holds_always()
 /// A step leaves each thread that was there as it was, but its own.
 pub fn other_threads_stay()
     ensures stay { OtherThreadsStay }
+{}
+
+/// What the library sees of a step, a call, a return or an exception, is of the thread that makes the step.
+pub fn events_are_of_their_thread()
+    ensures own { EventsAreOfTheirThread }
+{}
+
+/// Whatever the steps are, a method of the library that gives something returns a value, and any other returns none; a number
+/// that is returned is one of the method's type; and of a linked program each event is of a method of the listing.
+pub fn sees_what_is_given()
+    ensures sees { (program : Program) → SeesGiven program }
+    ensures listed { (program : Program) → IsSound program → AreNamed program → SeesListed program }
+{}
+
+/// A step adds at most one object to the heap and at most one thread; so there are never more than the fields of the listing,
+/// main's array and the steps, and the numbers of objects that the library sees are below that.
+pub fn steps_add_one()
+    ensures one { StepsAddOne }
+    ensures few { FewAreAdded }
+    ensures shown { SeesFewObjects }
 {}
 
 /// Where control begins in a set of places and does not leave it, the library sees only calls of methods that are called at

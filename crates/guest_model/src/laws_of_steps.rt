@@ -14,6 +14,7 @@ ghost use Rattle.guest_model.specs.Moving.{
   CallingSteps,
   EnabledIsMade,
 };
+ghost use Rattle.guest_model.specs.Permitted.{AnswersArePermitted};
 
 /// Each step that the machine makes is enabled by the rules alone: nothing that the thread waits for is left, and an
 /// answer of the library fits the call.
@@ -41,6 +42,11 @@ pub fn free_monitors_are_entered()
 pub fn frames_are_left()
     ensures throws { ThrowingSteps }
     ensures returns { ReturningSteps }
+{}
+
+/// The machine takes an answer of the library exactly where a row of the table allows it.
+pub fn answers_are_permitted()
+    ensures rows { AnswersArePermitted }
 {}
 
 /// Each answer of the library that fits its call is taken, where the caller has room for what it gives; a call on null

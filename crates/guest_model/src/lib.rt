@@ -17,13 +17,13 @@ mod thrown;
 pub use arities::{arity, arity_of_row, is_static_call};
 pub use builtin::{Builtin, builtin_at};
 pub use laws::{
-    covering_handlers_are_found, handlers_cover, numbers_are_of_32_bits, other_threads_stay,
-    sees_numbers_in_range, sees_only_what_is_called, sees_the_first_call,
-    what_each_step_keeps_holds_always,
+    covering_handlers_are_found, events_are_of_their_thread, handlers_cover,
+    numbers_are_of_32_bits, other_threads_stay, sees_numbers_in_range, sees_only_what_is_called,
+    sees_the_first_call, sees_what_is_given, steps_add_one, what_each_step_keeps_holds_always,
 };
 pub use laws_of_steps::{
-    enabled_steps_are_made, fitting_answers_are_taken, frames_are_left, free_monitors_are_entered,
-    ready_calls_are_made, steps_are_enabled, what_is_ready_moves,
+    answers_are_permitted, enabled_steps_are_made, fitting_answers_are_taken, frames_are_left,
+    free_monitors_are_entered, ready_calls_are_made, steps_are_enabled, what_is_ready_moves,
 };
 pub use machine::{Choice, End, Machine, Step};
 pub use objects::{STRING, class_of_value, first_value, is_of_references};

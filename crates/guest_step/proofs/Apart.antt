@@ -1,6 +1,6 @@
 -- A thread whose doing stands apart while it acts.
 use Rattle.std.proofs.Common.{◌≡◌, ℕ, ◌<◌, cond, List, [], ◌∷◌, length, Option, Some, None, Result, Ok, Err, refl, sym, ap, ◌∙◌, subst}
-use Rattle.std.specs.Prelude.{IsSomeAnd, is_err, if◌then◌else◌, slice_get, slice_set, option_and_then}
+use Rattle.std.specs.Prelude.{IfOk, IfSome, IsSomeAnd, is_err, if◌then◌else◌, slice_get, slice_set, option_and_then}
 use Rattle.std.specs.Option.{option_map_or}
 use Rattle.api_listing.specs.declared.events.ApiAnswer.{ApiAnswer}
 use Rattle.api_listing.specs.declared.events.Event.{Event}
@@ -19,6 +19,7 @@ use Rattle.guest_model.specs.declared.machine.Step.{Step}
 use Rattle.guest_model.specs.Calls.{types_of}
 use Rattle.guest_model.specs.Answering.{answer_fits, answered_well, given, returned_by, thrown_by, thrown_by_library}
 use Rattle.guest_model.specs.Changes.{Change, World, returned, world_of}
+use Rattle.guest_model.specs.Seeing.{EventsAreOfTheirThread, thread_of}
 use Rattle.guest_model.specs.Stepping.{call_stepped, doing_stepped, is_on_null, stepped}
 use Rattle.guest_threads.specs.declared.fault.StepFault.{StepFault}
 use Rattle.guest_threads.specs.declared.fault.StepFault.TheVariants as faults
@@ -102,3 +103,10 @@ module _ (program : Program) (m : Machine) (step : Step) (t idle left : Thread) 
   pub did_step : (put : List Thread) → put ≡ slice_set new.threads step.thread left → Did result m (with_threads new put) (stepped program m step)
   did_step put is =
       subst (λ (zs : List Thread). Did result m (with_threads new zs) (stepped program m step)) (sym is) (did program m step t idle left new there goes idles result acts_out)
+
+-- what the library saw of it is of the thread of the step
+pub sees_own : EventsAreOfTheirThread → (program : Program) (m new : Machine) (step : Step) (result : Result (Option Event) StepFault)
+    → Did result m new (stepped program m step) → IfOk result (λ seen. IfSome seen (λ event. thread_of event ≡ step.thread))
+sees_own law program m new step (Ok None) did = tt
+sees_own law program m new step (Ok (Some event)) did = law program m new step event did
+sees_own law program m new step (Err fault) did = tt

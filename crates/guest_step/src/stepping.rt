@@ -1,11 +1,12 @@
 //! Steps.
 
 ghost use Rattle.std.specs.Borrow.{Bor};
-ghost use Rattle.std.specs.Prelude.{IfSome, if◌then◌else◌, option_map, ◌<◌, ◌^◌, ◌≡◌};
+ghost use Rattle.std.specs.Prelude.{IfOk, IfSome, if◌then◌else◌, option_map, ◌<◌, ◌^◌, ◌≡◌};
 ghost use Rattle.bytecode_model.specs.declared.program.Target.{Target};
 ghost use Rattle.guest_frames.specs.Stepping.{frame_stepped};
 ghost use Rattle.guest_heap.specs.declared.thread.Doing.TheVariants as doings;
 ghost use Rattle.guest_model.specs.Places.{insn_at};
+ghost use Rattle.guest_model.specs.Seeing.{thread_of};
 ghost use Rattle.guest_model.specs.Stepping.{Acting, doing_stepped, frames_stepped, heap_in, heap_stepped, running_stepped, stepped};
 ghost use Rattle.guest_step.specs.Turns.{StandsInCode, doing_this, thread_stepped, unseen};
 ghost use Rattle.guest_threads.specs.Acts.{ActsIn, acting};
@@ -19,7 +20,7 @@ use api_listing::Event;
 use bytecode_model::Target;
 use guest_frames::local_step;
 use guest_heap::{Doing, Frame, Frames, Thread};
-use guest_model::{Choice, Machine, Step};
+use guest_model::{Choice, Machine, Step, events_are_of_their_thread};
 use guest_tables::Guest;
 use guest_threads::{OnTop, StepFault, act_on_top, method_of, return_from};
 use insn_codec::{Heap, Insn, Shape, shape_of};
@@ -33,8 +34,10 @@ pub fn step(
     machine: &mut Machine,
     step: &Step,
 ) -> Result<Option<Event>, StepFault>
-    ensures { Did result machine.old machine.new (stepped guest.now machine.old step.now) }
+    ensures did { Did result machine.old machine.new (stepped guest.now machine.old step.now) }
+    ensures own { IfOk result (λ seen. IfSome seen (λ event. thread_of event ≡ step.now.thread)) }
 {
+    events_are_of_their_thread();
     let place = step.thread as usize;
     if machine.stopped.is_some() || place >= machine.threads.len() {
         return Err(StepFault::NotEnabled);
