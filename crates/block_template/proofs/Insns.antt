@@ -33,12 +33,12 @@ use Rattle.block_template.specs.Room.{HasLocal}
 use Rattle.block_template.proofs.Rows.{Rows}
 
 -- which of two is chosen by a test
-chosen : (P : BlockInsn → Type 0) (b : Bool) (x y : BlockInsn) → (b ≡ true → P x) → (b ≡ false → P y) → P (if b then x else y)
+pub chosen : (P : BlockInsn → Type 0) (b : Bool) (x y : BlockInsn) → (b ≡ true → P x) → (b ≡ false → P y) → P (if b then x else y)
 chosen P true x y p q = p refl
 chosen P false x y p q = q refl
 
 -- what pushes a number: one of three kinds
-pushed : (P : BlockInsn → Type 0) (n : ℤ) → ((k : ℕ) → k < 7 → P (Plain (ICONST_M1 + k))) → (FitsSigned w8 n → P (Byte n)) → (FitsSigned w16 n → P (Short n))
+pub pushed : (P : BlockInsn → Type 0) (n : ℤ) → ((k : ℕ) → k < 7 → P (Plain (ICONST_M1 + k))) → (FitsSigned w8 n → P (Byte n)) → (FitsSigned w16 n → P (Short n))
     → P (Want LDC_W (Integer n)) → P (push n)
 pushed P n plain byte short want =
     chosen P (int_eq n (neg_ℤ (pos 1))) _ _ (λ e. plain 0 (omega arith)) (λ e.

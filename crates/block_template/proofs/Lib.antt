@@ -7,6 +7,7 @@ pub mod Making
 pub mod Rows
 pub mod Insns
 pub mod Goods
+pub mod Ahead
 pub mod Denials
 pub mod Laying
 pub mod CheckFlows

@@ -68,11 +68,11 @@ reached_length true items = refl
 reached_length false items = mapped_length unreached items
 
 module _ (bools : List Bool) (base : ℕ) (phase : Phase) where
-  asks_length : (branch n next : ℕ) (atoms : List Atom) → length (asks bools base phase branch n next atoms) ≡ 3 * length atoms
+  pub asks_length : (branch n next : ℕ) (atoms : List Atom) → length (asks bools base phase branch n next atoms) ≡ 3 * length atoms
   asks_length branch n next [] = refl
   asks_length branch n next (atom ∷ atoms) = omega (arith, asks_length branch (n + 1) next atoms)
 
-  writes_length : (branch n : ℕ) (updates : List Update) → length (writes bools phase branch n updates) ≡ updates_size updates
+  pub writes_length : (branch n : ℕ) (updates : List Update) → length (writes bools phase branch n updates) ≡ updates_size updates
   writes_length branch n [] = refl
   writes_length branch n (Set var value ∷ updates) = omega (arith, writes_length branch (n + 1) updates)
   writes_length branch n (Add var by ∷ updates) = omega (arith, writes_length branch (n + 1) updates)

@@ -5,6 +5,7 @@ pub mod Denial
 pub mod Room
 pub mod Good
 pub mod Flow
+pub mod Forward
 pub mod Reached
 pub mod Frames
 pub mod Typed

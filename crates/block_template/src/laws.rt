@@ -2,6 +2,7 @@
 
 ghost use Rattle.block_template.specs.Denial.{DenialIsBlock};
 ghost use Rattle.block_template.specs.Flow.{BlocksFlow};
+ghost use Rattle.block_template.specs.Forward.{BlocksGoForward};
 ghost use Rattle.block_template.specs.Good.{PlansAreGood};
 ghost use Rattle.block_template.specs.Reached.{BlocksAreReached};
 ghost use Rattle.block_template.specs.Typed.{
@@ -26,6 +27,11 @@ pub fn plans_are_good()
 /// stands behind it and where it jumps have the roles that the graph tells, and so have the block's front and its handler.
 pub fn blocks_flow()
     ensures { BlocksFlow }
+{}
+
+/// Each jump of a block goes to a place behind it.
+pub fn blocks_go_forward()
+    ensures { BlocksGoForward }
 {}
 
 /// From an instruction of a block that is reached control comes to such alone.

@@ -19,8 +19,8 @@ pub use blocks::{block, items, locals_used};
 pub use clauses::{MethodClauses, clause_at, clauses_of};
 pub use item::{Item, Role};
 pub use laws::{
-    blocks_are_reached, blocks_are_typed, blocks_flow, calls_are_typed, catches_are_typed,
-    clauses_are_asked, denial_is_block, items_are_typed, plans_are_good,
+    blocks_are_reached, blocks_are_typed, blocks_flow, blocks_go_forward, calls_are_typed,
+    catches_are_typed, clauses_are_asked, denial_is_block, items_are_typed, plans_are_good,
 };
 pub use made::PolicyItems;
 pub use plan::PolicyPlan;

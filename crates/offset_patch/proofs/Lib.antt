@@ -8,6 +8,7 @@ pub mod Measure
 pub mod Putting
 pub mod Finding
 pub mod Texts
+pub mod Origins
 pub mod Lining
 pub mod Calling
 pub mod EntryFits

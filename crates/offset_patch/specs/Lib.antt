@@ -4,6 +4,7 @@ pub mod Entries
 pub mod Growth
 pub mod Known
 pub mod Splicing
+pub mod Origins
 pub mod Lines
 pub mod Plan
 pub mod Fits

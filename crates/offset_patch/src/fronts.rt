@@ -3,6 +3,7 @@
 ghost use Rattle.std.specs.Prelude.{◌≡◌, ◌++◌, ◌<◌, ◌^◌, IfOk, OnOk, length, map, slice_index};
 ghost use Rattle.std.specs.List.{AllByRecursion, enumerate_from};
 ghost use Rattle.offset_patch.specs.Fits.{IsSite};
+ghost use Rattle.offset_patch.specs.Origins.{StandAsTold};
 ghost use Rattle.offset_patch.specs.Splicing.{part_of, has_block, fronts_of, count_of, aimed, origin_of, part_origins, origins_of};
 
 use crate::block::{Block, BlockInsn};
@@ -120,7 +121,10 @@ pub fn aimed(alloc: Global, fronts: &[u32], insn: &Insn) -> Result<Insn, NoMemor
 pub fn origins_of(alloc: Global, sites: &[Option<Block>]) -> Result<List<Origin>, NoMemory>
     requires few { length sites.now < 2 ^ 32 }
     requires sites { AllByRecursion IsSite sites.now }
-    ensures { IfOk result (λ origins. origins ≡ origins_of sites.now) }
+    ensures is { IfOk result (λ origins. origins ≡ origins_of sites.now) }
+    // As many as there are instructions with the blocks, each of which stands where its origin tells.
+    ensures each { IfOk result (λ origins. length origins ≡ count_of sites.now) }
+    ensures stand { IfOk result (StandAsTold sites.now 0) }
 {
     let mut origins = List::with_room(alloc, count_of(sites))?;
     let mut site: u32 = 0;
