@@ -5,6 +5,7 @@ pub mod Decision
 pub mod RunDecision
 pub mod Told
 pub mod ToldClasses
+mod TypedRuns
 mod Constants
 mod Listed
 mod Counting

@@ -1,5 +1,6 @@
 pub mod Answers
 pub mod Classes
+pub mod Running
 pub mod Check
 pub mod Show
 pub mod Policy

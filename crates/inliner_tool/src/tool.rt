@@ -2,11 +2,13 @@
 
 ghost use Rattle.std.specs.Prelude.{◌≡◌, ◌≤◌};
 ghost use Rattle.command_words.specs.InlineWords.{IsInline, NamedInline};
+ghost use Rattle.command_words.specs.ReplayWords.{IsReplay, NamedReplay};
 ghost use Rattle.command_words.specs.Words.{IsCheck, NamedCheck};
 ghost use Rattle.inliner_tool.specs.Answers.{EndsWell};
 ghost use Rattle.inliner_tool.specs.Inline.{IsInlined, Leaves};
+ghost use Rattle.inliner_tool.specs.Replay.{ReplayedRuns};
 ghost use Rattle.inliner_tool.specs.Status.{code_of};
-ghost use Rattle.inliner_tool.specs.Tool.{Holds, Replies, Says, judged_status, refusal_status, status_of};
+ghost use Rattle.inliner_tool.specs.Tool.{CheckedRuns, Holds, Replies, Says, judged_status, refusal_status, status_of};
 ghost use Rattle.input_files.specs.Forms.{since};
 ghost use Rattle.mon_store.specs.Store.{Rose};
 
@@ -83,6 +85,14 @@ pub fn run_tool<S: Store, K: Sink>(
     ensures headline { (named : NamedCheck) → IsCheck words.now named → result ≡ Status.Done
         → Holds (S.files store.old) (since (S.faults store.old) (S.faults store.new) (S.last store.new)) named }
 
+    // That program, and one whose run is replayed, runs as its types say: after every list of steps no operand is missing and none is
+    // of a wrong kind, a step is made exactly where the rules enable it, and the events are well formed for the policies of its
+    // listing.
+    ensures runs { (named : NamedCheck) → IsCheck words.now named → result ≡ Status.Done
+        → CheckedRuns (S.files store.old) (since (S.faults store.old) (S.faults store.new) (S.last store.new)) named }
+    ensures replay_runs { (named : NamedReplay) → IsReplay words.now named → result ≡ Status.Done
+        → ReplayedRuns (S.files store.old) (since (S.faults store.old) (S.faults store.new) (S.last store.new)) named }
+
     // Where weaving ends well, what is written is the program with its blocks, and is accepted with its certificate.
     ensures inlined { (named : NamedInline) → IsInline words.now named → result ≡ Status.Done
         → IsInlined (S.files store.old) (S.files store.new) (since (S.faults store.old) (S.faults store.new) (S.last store.new)) named }
@@ -119,6 +129,8 @@ fn answer_to<S: Store>(alloc: Global, words: &[Bytes], store: &mut S) -> Answer
         (since (S.faults store.old) (S.faults store.new) (S.last store.new)) words.now result }
     ensures holds { (named : NamedCheck) → IsCheck words.now named → EndsWell result
         → Holds (S.files store.old) (since (S.faults store.old) (S.faults store.new) (S.last store.new)) named }
+    ensures replay_runs { (named : NamedReplay) → IsReplay words.now named → EndsWell result
+        → ReplayedRuns (S.files store.old) (since (S.faults store.old) (S.faults store.new) (S.last store.new)) named }
     ensures inlined { (named : NamedInline) → IsInline words.now named → EndsWell result
         → IsInlined (S.files store.old) (S.files store.new) (since (S.faults store.old) (S.faults store.new) (S.last store.new)) named }
     ensures files { Leaves (S.files store.old) (S.files store.new)

@@ -1,10 +1,16 @@
 use Rattle.std.proofs.Common.{◌∙◌, Err, ap, subst, sym}
 use Rattle.mon_store.specs.Sink.{AppendsFront}
-use Rattle.inliner_tool.proofs.Replying.{ends_well}
+use Rattle.inliner_tool.proofs.Replying.{checked_runs, ends_well}
 use Rattle.inliner_tool.proofs.tool.run_tool.Goals as goal
 
 pub returns-in-Ok-put-clause-headline : goal.returns-in-Ok-put-clause-headline
 returns-in-Ok-put-clause-headline g c = λ named is done. c.answer_to-answer.ensures.holds named is (ends_well c.answer_to-answer.result (sym c.status_of-status.ensures ∙ done))
+
+pub returns-in-Ok-put-clause-runs : goal.returns-in-Ok-put-clause-runs
+returns-in-Ok-put-clause-runs g c = λ named is done. checked_runs _ _ named (c.answer_to-answer.ensures.holds named is (ends_well c.answer_to-answer.result (sym c.status_of-status.ensures ∙ done)))
+
+pub returns-in-Ok-put-clause-replay_runs : goal.returns-in-Ok-put-clause-replay_runs
+returns-in-Ok-put-clause-replay_runs g c = λ named is done. c.answer_to-answer.ensures.replay_runs named is (ends_well c.answer_to-answer.result (sym c.status_of-status.ensures ∙ done))
 
 pub returns-in-Ok-put-clause-inlined : goal.returns-in-Ok-put-clause-inlined
 returns-in-Ok-put-clause-inlined g c = λ named is done. c.answer_to-answer.ensures.inlined named is (ends_well c.answer_to-answer.result (sym c.status_of-status.ensures ∙ done))
