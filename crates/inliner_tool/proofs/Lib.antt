@@ -2,6 +2,7 @@ pub mod NeverUsage
 pub mod Planning
 pub mod Replying
 pub mod Decision
+pub mod Decides
 pub mod RunDecision
 pub mod Told
 pub mod ToldClasses

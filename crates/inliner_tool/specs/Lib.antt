@@ -14,6 +14,7 @@ pub mod Expected
 pub mod Inline
 pub mod Replay
 pub mod Tool
+pub mod Decides
 pub mod Decision
 pub mod ReplayDecision
 pub mod CheckDecision

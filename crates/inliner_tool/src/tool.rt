@@ -1,14 +1,16 @@
 //! The top call: the words of a command, the answer over a store, and the output that a sink takes.
 
-ghost use Rattle.std.specs.Prelude.{◌≡◌, ◌≤◌};
+ghost use Rattle.std.specs.Prelude.{◌≡◌, ◌≢◌, ◌≤◌, Some};
 ghost use Rattle.command_words.specs.InlineWords.{IsInline, NamedInline};
 ghost use Rattle.command_words.specs.ReplayWords.{IsReplay, NamedReplay};
 ghost use Rattle.command_words.specs.Words.{IsCheck, NamedCheck};
 ghost use Rattle.inliner_tool.specs.Answers.{EndsWell};
+ghost use Rattle.inliner_tool.specs.Decides.{Decides};
 ghost use Rattle.inliner_tool.specs.Inline.{IsInlined, Leaves};
 ghost use Rattle.inliner_tool.specs.Replay.{ReplayedRuns};
 ghost use Rattle.inliner_tool.specs.Status.{code_of};
 ghost use Rattle.inliner_tool.specs.Tool.{CheckedRuns, Holds, Replies, Says, judged_status, refusal_status, status_of};
+ghost use Rattle.input_files.specs.Contents.{Contents};
 ghost use Rattle.input_files.specs.Forms.{since};
 ghost use Rattle.mon_store.specs.Store.{Rose};
 
@@ -23,6 +25,7 @@ use crate::replies::answer_spelled;
 use crate::show::answer_show;
 use command_words::{Command, command_of};
 use conspec_automaton::Verdict;
+use input_files::told_files_are_read;
 use mon_base::Bytes;
 use mon_store::{Sink, SinkFault, Store};
 use std::alloc::Global;
@@ -102,12 +105,19 @@ pub fn run_tool<S: Store, K: Sink>(
         (since (S.faults store.old) (S.faults store.new) (S.last store.new)) words.now
         (K.text out.old) (K.text out.new) (Rose (K.faults out.old) (K.faults out.new)) result }
 
+    // Where the store tells its files, and neither it nor the sink has a fault, status and output are those that the command's
+    // definition gives for the files, or that of memory.
+    ensures decides { (contents : Contents) → S.files store.old ≡ Some contents
+        → (Rose (S.faults store.old) (S.faults store.new) → ⊥) → (Rose (K.faults out.old) (K.faults out.new) → ⊥)
+        → result ≢ Status.Memory → Decides contents words.now (K.text out.old) (K.text out.new) result }
+
     // What stands.
     ensures files { Leaves (S.files store.old) (S.files store.new)
         (since (S.faults store.old) (S.faults store.new) (S.last store.new)) words.now }
     ensures faults { S.faults store.old ≤ S.faults store.new }
     ensures sink_faults { K.faults out.old ≤ K.faults out.new }
 {
+    told_files_are_read();
     let answer = answer_to(alloc, words, store);
     let status = status_of(&answer);
     if status == Status::Memory {
