@@ -1,9 +1,13 @@
--- The words of the command inline name one set of files, one folder and one way of weaving.
-use Rattle.std.proofs.Common.{◌≡◌, ℕ, List, ◌∷◌, get_or, refl, sym, ap, ◌∙◌, arith}
+-- Words are those of one command, and name one set of files for it.
+use Rattle.std.proofs.Common.{◌≡◌, ℕ, ◌+◌, ◌*◌, List, [], ◌∷◌, get_or, length, refl, sym, ap, ◌∙◌, arith}
 use Rattle.std.specs.Prelude.{codes}
 use Rattle.command_words.specs.declared.inline_words.Weaving.{Weaving}
 use Rattle.command_words.specs.declared.inline_words.Weaving.TheVariants.{Auto, Hold, Release}
 use Rattle.command_words.specs.InlineWords.{IsInline, NamedInline, weaving_word}
+use Rattle.command_words.specs.ReplayWords.{IsReplay, NamedReplay}
+use Rattle.command_words.specs.Words.{Check, Inline, IsCheck, IsCommand, IsPolicyCommand, IsRace, IsShow, NamedCheck, NamedCommand, NamedPolicy, NamedRace, NamedShow, Policy, Race, Replay, Show, Spells}
+
+-- ---- the command inline
 
 -- the first letter of a word
 abbrev first : List ℕ → ℕ
@@ -36,3 +40,134 @@ same_inline words a b of_a of_b =
     let whole : a ≡ record { policy = b.policy; listing = b.listing; main = b.main; folder = b.folder; weaving = b.weaving; classes = b.classes } =
     rw (← policy, ← listing, ← main, ← folder, ← weaving, ← classes) refl in
     whole
+
+-- ---- the other commands
+
+abbrev words_of_check : NamedCheck → List (List ℕ)
+words_of_check named = codes "check" ∷ named.policy ∷ named.listing ∷ named.certificate ∷ named.main ∷ named.classes
+
+same_check : (words : List (List ℕ)) (a b : NamedCheck) → IsCheck words a → IsCheck words b → a ≡ b
+same_check words a b of_a of_b =
+    let e : words_of_check a ≡ words_of_check b = sym of_a.spelled ∙ of_b.spelled in
+    let policy : a.policy ≡ b.policy = cc in
+    let listing : a.listing ≡ b.listing = cc in
+    let certificate : a.certificate ≡ b.certificate = cc in
+    let main : a.main ≡ b.main = cc in
+    let classes : a.classes ≡ b.classes = cc in
+    let whole : a ≡ record { policy = b.policy; listing = b.listing; certificate = b.certificate; main = b.main; classes = b.classes } = rw (← policy, ← listing, ← certificate, ← main, ← classes) refl in
+    whole
+
+abbrev words_of_show : NamedShow → List (List ℕ)
+words_of_show named = codes "show" ∷ named.listing ∷ named.classes
+
+same_show : (words : List (List ℕ)) (a b : NamedShow) → IsShow words a → IsShow words b → a ≡ b
+same_show words a b of_a of_b =
+    let e : words_of_show a ≡ words_of_show b = sym of_a.spelled ∙ of_b.spelled in
+    let listing : a.listing ≡ b.listing = cc in
+    let classes : a.classes ≡ b.classes = cc in
+    let whole : a ≡ record { listing = b.listing; classes = b.classes } = rw (← listing, ← classes) refl in
+    whole
+
+abbrev words_of_policy : NamedPolicy → List (List ℕ)
+words_of_policy named = codes "policy" ∷ named.policy ∷ named.listing ∷ named.recorded ∷ []
+
+same_policy : (words : List (List ℕ)) (a b : NamedPolicy) → IsPolicyCommand words a → IsPolicyCommand words b → a ≡ b
+same_policy words a b of_a of_b =
+    let e : words_of_policy a ≡ words_of_policy b = sym of_a.spelled ∙ of_b.spelled in
+    let policy : a.policy ≡ b.policy = cc in
+    let listing : a.listing ≡ b.listing = cc in
+    let recorded : a.recorded ≡ b.recorded = cc in
+    let whole : a ≡ record { policy = b.policy; listing = b.listing; recorded = b.recorded } = rw (← policy, ← listing, ← recorded) refl in
+    whole
+
+abbrev words_of_race : NamedRace → List (List ℕ)
+words_of_race named = codes "race" ∷ named.policy ∷ named.listing ∷ []
+
+same_race : (words : List (List ℕ)) (a b : NamedRace) → IsRace words a → IsRace words b → a ≡ b
+same_race words a b of_a of_b =
+    let e : words_of_race a ≡ words_of_race b = sym of_a.spelled ∙ of_b.spelled in
+    let policy : a.policy ≡ b.policy = cc in
+    let listing : a.listing ≡ b.listing = cc in
+    let whole : a ≡ record { policy = b.policy; listing = b.listing } = rw (← policy, ← listing) refl in
+    whole
+
+abbrev words_of_replay : NamedReplay → List (List ℕ)
+words_of_replay named = codes "replay" ∷ named.listing ∷ named.main ∷ named.recorded ∷ named.classes
+
+same_replay : (words : List (List ℕ)) (a b : NamedReplay) → IsReplay words a → IsReplay words b → a ≡ b
+same_replay words a b of_a of_b =
+    let e : words_of_replay a ≡ words_of_replay b = sym of_a.spelled ∙ of_b.spelled in
+    let listing : a.listing ≡ b.listing = cc in
+    let main : a.main ≡ b.main = cc in
+    let recorded : a.recorded ≡ b.recorded = cc in
+    let classes : a.classes ≡ b.classes = cc in
+    let whole : a ≡ record { listing = b.listing; main = b.main; recorded = b.recorded; classes = b.classes } = rw (← listing, ← main, ← recorded, ← classes) refl in
+    whole
+
+-- ---- any command
+
+-- a number by which the words that name commands are told apart
+abbrev mark : List ℕ → ℕ
+mark word = get_or word 0 0 * 10 + length word
+
+abbrev marked : List (List ℕ) → ℕ
+marked [] = 0
+marked (word ∷ words) = mark word
+
+abbrev mark_of : NamedCommand → ℕ
+mark_of (Check named) = 995
+mark_of (Show named) = 1154
+mark_of (Policy named) = 1126
+mark_of (Race named) = 1144
+mark_of (Inline named) = 1056
+mark_of (Replay named) = 1146
+
+marks : (words : List (List ℕ)) (named : NamedCommand) → Spells words named → marked words ≡ mark_of named
+marks words (Check named) spelled = ap marked spelled.spelled
+marks words (Show named) spelled = ap marked spelled.spelled
+marks words (Policy named) spelled = ap marked spelled.spelled
+marks words (Race named) spelled = ap marked spelled.spelled
+marks words (Inline named) spelled = ap marked spelled.spelled
+marks words (Replay named) spelled = ap marked spelled.spelled
+
+same_command : (words : List (List ℕ)) (a b : NamedCommand) → mark_of a ≡ mark_of b → Spells words a → Spells words b → a ≡ b
+same_command words (Check a) (Check b) e of_a of_b = ap Check (same_check words a b of_a of_b)
+same_command words (Check a) (Show b) e of_a of_b = absurd (omega (arith, e))
+same_command words (Check a) (Policy b) e of_a of_b = absurd (omega (arith, e))
+same_command words (Check a) (Race b) e of_a of_b = absurd (omega (arith, e))
+same_command words (Check a) (Inline b) e of_a of_b = absurd (omega (arith, e))
+same_command words (Check a) (Replay b) e of_a of_b = absurd (omega (arith, e))
+same_command words (Show a) (Check b) e of_a of_b = absurd (omega (arith, e))
+same_command words (Show a) (Show b) e of_a of_b = ap Show (same_show words a b of_a of_b)
+same_command words (Show a) (Policy b) e of_a of_b = absurd (omega (arith, e))
+same_command words (Show a) (Race b) e of_a of_b = absurd (omega (arith, e))
+same_command words (Show a) (Inline b) e of_a of_b = absurd (omega (arith, e))
+same_command words (Show a) (Replay b) e of_a of_b = absurd (omega (arith, e))
+same_command words (Policy a) (Check b) e of_a of_b = absurd (omega (arith, e))
+same_command words (Policy a) (Show b) e of_a of_b = absurd (omega (arith, e))
+same_command words (Policy a) (Policy b) e of_a of_b = ap Policy (same_policy words a b of_a of_b)
+same_command words (Policy a) (Race b) e of_a of_b = absurd (omega (arith, e))
+same_command words (Policy a) (Inline b) e of_a of_b = absurd (omega (arith, e))
+same_command words (Policy a) (Replay b) e of_a of_b = absurd (omega (arith, e))
+same_command words (Race a) (Check b) e of_a of_b = absurd (omega (arith, e))
+same_command words (Race a) (Show b) e of_a of_b = absurd (omega (arith, e))
+same_command words (Race a) (Policy b) e of_a of_b = absurd (omega (arith, e))
+same_command words (Race a) (Race b) e of_a of_b = ap Race (same_race words a b of_a of_b)
+same_command words (Race a) (Inline b) e of_a of_b = absurd (omega (arith, e))
+same_command words (Race a) (Replay b) e of_a of_b = absurd (omega (arith, e))
+same_command words (Inline a) (Check b) e of_a of_b = absurd (omega (arith, e))
+same_command words (Inline a) (Show b) e of_a of_b = absurd (omega (arith, e))
+same_command words (Inline a) (Policy b) e of_a of_b = absurd (omega (arith, e))
+same_command words (Inline a) (Race b) e of_a of_b = absurd (omega (arith, e))
+same_command words (Inline a) (Inline b) e of_a of_b = ap Inline (same_inline words a b of_a of_b)
+same_command words (Inline a) (Replay b) e of_a of_b = absurd (omega (arith, e))
+same_command words (Replay a) (Check b) e of_a of_b = absurd (omega (arith, e))
+same_command words (Replay a) (Show b) e of_a of_b = absurd (omega (arith, e))
+same_command words (Replay a) (Policy b) e of_a of_b = absurd (omega (arith, e))
+same_command words (Replay a) (Race b) e of_a of_b = absurd (omega (arith, e))
+same_command words (Replay a) (Inline b) e of_a of_b = absurd (omega (arith, e))
+same_command words (Replay a) (Replay b) e of_a of_b = ap Replay (same_replay words a b of_a of_b)
+
+-- Words are those of one command.
+pub command_once : (words : List (List ℕ)) (a b : NamedCommand) → IsCommand words a → IsCommand words b → a ≡ b
+command_once words a b of_a of_b = same_command words a b (sym (marks words a of_a.spelled) ∙ marks words b of_b.spelled) of_a.spelled of_b.spelled

@@ -2,9 +2,11 @@ pub mod NeverUsage
 pub mod Planning
 pub mod Replying
 pub mod Decision
+pub mod Decides
 pub mod RunDecision
 pub mod Told
 pub mod ToldClasses
+mod TypedRuns
 mod Constants
 mod Listed
 mod Counting

@@ -7,7 +7,10 @@ use Rattle.inliner_tool.specs.declared.refusal.Refusal.{Refusal}
 use Rattle.inliner_tool.specs.declared.refusal.Refusal.TheVariants as refusals
 use Rattle.inliner_tool.specs.declared.tool.Status.TheVariants as statuses
 use Rattle.inliner_tool.specs.Answers.{EndsWell}
-use Rattle.inliner_tool.specs.Tool.{refusal_status, status_of}
+use Rattle.command_words.specs.Words.{NamedCheck}
+use Rattle.input_files.specs.Forms.{Count}
+use Rattle.mon_store.specs.Store.{Files}
+use Rattle.inliner_tool.specs.Tool.{CheckedRuns, Holds, refusal_status, status_of}
 
 refusal_ends : (refusal : Refusal) → refusal_status refusal ≡ statuses.Done → ⊥
 refusal_ends (refusals.TotalLong len) is = absurd cc
@@ -37,3 +40,14 @@ ends_well (answers.Unread name) is = absurd cc
 ends_well (answers.Unwritten name) is = absurd cc
 ends_well answers.Usage is = absurd cc
 ends_well answers.Memory is = absurd cc
+
+-- A program that was checked runs as its certificate types it.
+pub checked_runs : (files : Files) (count : Count) (named : NamedCheck) → Holds files count named → CheckedRuns files count named
+checked_runs files count named h = record {
+  inputs = h.inputs;
+  read = h.read;
+  program = h.checked.program;
+  links = h.checked.links;
+  policy = h.checked.checked.read;
+  runs = h.checked.checked.runs;
+}

@@ -20,10 +20,12 @@ use Rattle.conspec_tree.specs.declared.types.PolicyTree.{PolicyTree}
 use Rattle.inliner_tool.specs.declared.answer.Answer.{Answer}
 use Rattle.inliner_tool.specs.declared.answer.Answer.TheVariants as answers
 use Rattle.input_files.specs.declared.check_inputs.CheckInputs.{CheckInputs}
+use Rattle.input_files.specs.Named.{IsPolicyOf}
 use Rattle.inliner_tool.specs.declared.refusal.Refusal.TheVariants as refusals
 use Rattle.inliner_tool.specs.Answers.{refused}
 use Rattle.inliner_tool.specs.Classes.{label_of}
 use Rattle.inliner_tool.specs.Programs.{Step, program_of}
+use Rattle.inliner_tool.specs.Running.{RunsTyped}
 
 -- the number of the class that a fault is told of, if it is of one
 abbrev pub faulty_class : CheckFault → Option ℕ
@@ -65,12 +67,14 @@ link_inputs main inputs = program_of inputs.listing inputs.classes main Inlined
 abbrev pub check_answer : List ℕ → CheckInputs → Answer
 check_answer main inputs = linked_answer inputs.policy inputs.certificate (link_inputs main inputs)
 
--- The program is accepted with the certificate, and obeys the policy for every list of guest steps, as its mode promises; and
--- an error that a Java machine throws in a block leads out of it.
+-- The program is accepted with the certificate, and obeys the policy for every list of guest steps, as its mode promises; an
+-- error that a Java machine throws in a block leads out of it; and the program runs as the certificate types it.
 pub record ProgramIsChecked (policy : PolicyTree) (certificate : Certificate) (program : Program) : Type 0 where
   pub accepted : IsAccepted program (built policy) certificate
   pub secure : Secure certificate.mode program (built policy)
   pub errors : LeavesBlocks program (built policy) (annotations_of certificate)
+  pub read : IsPolicyOf program.listing policy
+  pub runs : RunsTyped program certificate.typing
 
 -- The inputs link to such a program.
 pub record IsChecked (main : List ℕ) (inputs : CheckInputs) : Type 0 where

@@ -1,5 +1,6 @@
 pub mod Answers
 pub mod Classes
+pub mod Running
 pub mod Check
 pub mod Show
 pub mod Policy
@@ -13,6 +14,7 @@ pub mod Expected
 pub mod Inline
 pub mod Replay
 pub mod Tool
+pub mod Decides
 pub mod Decision
 pub mod ReplayDecision
 pub mod CheckDecision

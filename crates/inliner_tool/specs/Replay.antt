@@ -3,6 +3,7 @@ use Rattle.std.specs.Prelude.{◌≡◌, ◌⊎◌, ℕ, List, length, Option, S
 use Rattle.mon_store.specs.Store.{Files}
 use Rattle.bytecode_model.specs.declared.program.Program.{Program}
 use Rattle.bytecode_model.specs.declared.program.Side.TheVariants.{Inlined}
+use Rattle.cert_format.specs.declared.typing.Typing.{Typing}
 use Rattle.command_words.specs.ReplayWords.{NamedReplay}
 use Rattle.event_record.specs.declared.writing.EndLine.{EndLine}
 use Rattle.event_record.specs.declared.writing.EndLine.TheVariants as lines
@@ -25,6 +26,7 @@ use Rattle.inliner_tool.specs.declared.refusal.Refusal.{Refusal}
 use Rattle.inliner_tool.specs.declared.refusal.Refusal.TheVariants as refusals
 use Rattle.inliner_tool.specs.Answers.{refused, stopped}
 use Rattle.inliner_tool.specs.Programs.{Equals, Step, Types, program_of}
+use Rattle.inliner_tool.specs.Running.{RunsTyped}
 
 -- ---- a run
 
@@ -53,11 +55,14 @@ steps_told program steps = run_told program (length steps) (replayed program ste
 
 -- ---- the answer
 
+abbrev pub link_run : List ℕ → ReplayInputs → Step Program
+link_run main inputs = program_of inputs.listing inputs.classes main Inlined
+
 -- The class files link, as those that were woven, to a program; it is typed; and its run is told. These are all steps, each
 -- after the one above it: the first that fails is the answer.
 abbrev pub Tells : List ℕ → ReplayInputs → Step (List ℕ) → Type 0
 Tells main inputs =
-    Then (Equals (program_of inputs.listing inputs.classes main Inlined)) (λ program.
+    Then (Equals (link_run main inputs)) (λ program.
     Then (Types program) (λ typing.
     Equals (steps_told program inputs.recorded.steps)))
 
@@ -70,3 +75,18 @@ abbrev pub Replays : Files → Count → NamedReplay → Answer → Type 0
 Replays files count named answer =
     ((stop : Stop) × ReadsReplay files count named (Err stop) × (answer ≡ stopped stop))
     ⊎ ((inputs : ReplayInputs) × ReadsReplay files count named (Ok inputs) × (told : Step (List ℕ)) × Tells named.main inputs told × (answer ≡ replay_answer told))
+
+-- ---- the run
+
+-- The inputs link to a program that runs as some types say.
+pub record InputsRun (main : List ℕ) (inputs : ReplayInputs) : Type 0 where
+  pub program : Program
+  pub links : link_run main inputs ≡ Ok program
+  pub typing : Typing
+  pub runs : RunsTyped program typing
+
+-- The named files link to such a program.
+pub record ReplayedRuns (files : Files) (count : Count) (named : NamedReplay) : Type 0 where
+  pub inputs : ReplayInputs
+  pub read : ReadsReplay files count named (Ok inputs)
+  pub run : InputsRun named.main inputs

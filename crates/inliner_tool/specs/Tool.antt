@@ -1,5 +1,6 @@
 -- What the top call answers, and what it prints. (docs/COMMANDS.md)
 use Rattle.std.specs.Prelude.{◌≡◌, ◌⊎◌, ℕ, List, Option, Result, Ok, Err}
+use Rattle.bytecode_model.specs.declared.program.Program.{Program}
 use Rattle.mon_store.specs.Store.{Files}
 use Rattle.mon_store.specs.Sink.{Appends, AppendsFront}
 use Rattle.conspec_automaton.specs.declared.running.Verdict.{Verdict}
@@ -14,14 +15,16 @@ use Rattle.inliner_tool.specs.declared.tool.Status.{Status}
 use Rattle.inliner_tool.specs.declared.tool.Status.TheVariants as statuses
 use Rattle.input_files.specs.Forms.{Count}
 use Rattle.input_files.specs.CheckInputs.{ReadsCheck}
+use Rattle.input_files.specs.Named.{IsPolicyOf}
 use Rattle.input_files.specs.PolicyInputs.{ReadsPolicy}
 use Rattle.input_files.specs.RaceInputs.{ReadsRace}
 use Rattle.input_files.specs.ShowInputs.{ReadsShow}
 use Rattle.inliner_tool.specs.Inline.{Inlines}
-use Rattle.inliner_tool.specs.Check.{IsChecked, check_answer}
+use Rattle.inliner_tool.specs.Check.{IsChecked, check_answer, link_inputs}
 use Rattle.inliner_tool.specs.Policy.{policy_answer}
 use Rattle.inliner_tool.specs.Race.{race_answer}
 use Rattle.inliner_tool.specs.Replay.{Replays}
+use Rattle.inliner_tool.specs.Running.{RunsTyped}
 use Rattle.inliner_tool.specs.Show.{show_answer}
 use Rattle.inliner_tool.specs.Answers.{stopped}
 use Rattle.inliner_tool.specs.Replies.{answer_spelled}
@@ -35,6 +38,15 @@ pub record Holds (files : Files) (count : Count) (named : NamedCheck) : Type 0 w
   pub inputs : CheckInputs
   pub read : ReadsCheck files count named (Ok inputs)
   pub checked : IsChecked named.main inputs
+
+-- The named files link to a program that runs as their certificate types it, and have a policy that was read over its listing.
+pub record CheckedRuns (files : Files) (count : Count) (named : NamedCheck) : Type 0 where
+  pub inputs : CheckInputs
+  pub read : ReadsCheck files count named (Ok inputs)
+  pub program : Program
+  pub links : link_inputs named.main inputs ≡ Ok program
+  pub policy : IsPolicyOf program.listing inputs.policy
+  pub runs : RunsTyped program inputs.certificate.typing
 
 -- ---- the answer
 

@@ -4,7 +4,6 @@ ghost use Rattle.std.specs.Prelude.{◌≡◌, ◌≤◌, IfOk, IsTrue, Ok};
 ghost use Rattle.block_logic.specs.Meaning.{Promised};
 ghost use Rattle.conspec_automaton.specs.Building.{built};
 ghost use Rattle.bytecode_model.specs.declared.program.Program.{Program};
-ghost use Rattle.bytecode_model.specs.Sound.{IsSound};
 ghost use Rattle.command_words.specs.Words.{Check, check_named};
 ghost use Rattle.inliner_tool.specs.Answers.{EndsWell, Is, stopped};
 ghost use Rattle.inliner_tool.specs.Check.{
@@ -21,15 +20,17 @@ ghost use Rattle.inliner_tool.specs.Check.{
 };
 ghost use Rattle.inliner_tool.specs.CheckDecision.{CheckDecides};
 ghost use Rattle.inliner_tool.specs.Programs.{Equals, Step, UnlessMemory};
+ghost use Rattle.inliner_tool.specs.Running.{IsLinkedProgram};
 ghost use Rattle.inliner_tool.specs.Tool.{CarriesOut, Holds, IsAnswer};
 ghost use Rattle.input_files.specs.CheckInputs.{AreSound};
 ghost use Rattle.input_files.specs.Forms.{since};
-ghost use Rattle.input_files.specs.Named.{IsListed, IsPolicyOf};
+ghost use Rattle.input_files.specs.Named.{IsPolicyOf};
 
 use crate::answer::{Answer, refused, stopped};
 use crate::classes::label_of;
 use crate::programs::program_of;
 use crate::refusal::Refusal;
+use crate::running::linked_programs_run_typed;
 use bytecode_model::{Program, Side};
 use cert_checker::{CheckFault, check};
 use cert_format::{Certificate, Mode};
@@ -84,8 +85,7 @@ fn linked_answer(
     policy: &PolicyTree,
     certificate: &Certificate,
 ) -> Answer
-    requires sound { IfOk linked IsSound }
-    requires listed { IfOk linked (λ program. IsListed program.listing) }
+    requires linked { IfOk linked IsLinkedProgram }
     requires policy { IfOk linked (λ program. IsPolicyOf program.listing policy.now) }
     ensures is { (step : Step Program) → UnlessMemory (Equals step) linked
         → Is result (linked_answer policy.now certificate.now step) }
@@ -109,8 +109,7 @@ fn program_answer(
     policy: &PolicyTree,
     certificate: &Certificate,
 ) -> Answer
-    requires sound { IsSound program.now }
-    requires listed { IsListed program.now.listing }
+    requires linked { IsLinkedProgram program.now }
     requires policy { IsPolicyOf program.now.listing policy.now }
     ensures is { Is result (program_answer policy.now certificate.now program.now) }
     ensures checked { EndsWell result → ProgramIsChecked policy.now certificate.now program.now }
@@ -122,6 +121,7 @@ fn program_answer(
         return Answer::Memory;
     };
     kinds_are_told();
+    linked_programs_run_typed();
     match check(program, &policy, certificate) {
         Ok(accepted) => Answer::Accepted(accepted),
         Err(fault) => denied(alloc, program.program(), fault),

@@ -16,6 +16,7 @@ mod race;
 mod refusal;
 mod replay;
 mod replies;
+mod running;
 mod show;
 mod tool;
 

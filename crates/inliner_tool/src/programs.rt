@@ -12,6 +12,7 @@ ghost use Rattle.class_codec.specs.Fits.{CanSpell};
 ghost use Rattle.class_linking.specs.Linking.{linked};
 ghost use Rattle.input_files.specs.Named.{IsListed};
 ghost use Rattle.inliner_tool.specs.Programs.{Equals, Types, UnlessMemory, link_refusal, link_step, program_of};
+ghost use Rattle.inliner_tool.specs.Running.{IsLinkedProgram};
 ghost use Rattle.type_infer.specs.Untyped.{IsLeast};
 
 use crate::classes::{label_of, within_total};
@@ -45,6 +46,7 @@ pub fn program_of(
     ensures sound { IfOk result IsSound }
     ensures order { IfOk result IsInOrder }
     ensures links { IfOk result (IsLinkedOf side listing main.now) }
+    ensures linked { IfOk result IsLinkedProgram }
 {
     within_total(&classes)?;
     linked(alloc, classes.files, listing, main, side)
@@ -68,6 +70,7 @@ fn linked(
     ensures sound { IfOk result IsSound }
     ensures order { IfOk result IsInOrder }
     ensures links { IfOk result (IsLinkedOf side listing main.now) }
+    ensures linked { IfOk result IsLinkedProgram }
 {
     match link(alloc, files, listing, main, side) {
         Ok(program) => Ok(Indexed::new(alloc, program)?),

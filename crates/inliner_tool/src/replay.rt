@@ -1,12 +1,15 @@
 //! The command `replay`: its inputs, and what is told of the run.
 
 ghost use Rattle.std.specs.Prelude.{◌≡◌, ◌≤◌, IfOk};
+ghost use Rattle.cert_format.specs.declared.typing.Typing.{Typing};
 ghost use Rattle.command_words.specs.ReplayWords.{replay_named};
 ghost use Rattle.command_words.specs.Words.{Replay};
 ghost use Rattle.guest_model.specs.Ready.{IsReady};
+ghost use Rattle.inliner_tool.specs.Answers.{EndsWell};
 ghost use Rattle.inliner_tool.specs.Programs.{Equals, Types, UnlessMemory};
-ghost use Rattle.inliner_tool.specs.Replay.{Tells, end_told, run_text, steps_told};
+ghost use Rattle.inliner_tool.specs.Replay.{InputsRun, ReplayedRuns, Tells, end_told, run_text, steps_told};
 ghost use Rattle.inliner_tool.specs.ReplayDecision.{ReplayDecides};
+ghost use Rattle.inliner_tool.specs.Running.{IsLinkedProgram, RunsTyped};
 ghost use Rattle.inliner_tool.specs.Tool.{CarriesOut, IsAnswer};
 ghost use Rattle.input_files.specs.Forms.{Then, since};
 ghost use Rattle.input_files.specs.ReplayInputs.{ReplaySound};
@@ -14,6 +17,7 @@ ghost use Rattle.input_files.specs.ReplayInputs.{ReplaySound};
 use crate::answer::{Answer, refused, stopped};
 use crate::programs::{program_of, types_of};
 use crate::refusal::Refusal;
+use crate::running::linked_programs_run_typed;
 use bytecode_model::Side;
 use command_words::ReplayWords;
 use event_record::{EndLine, events_text};
@@ -30,6 +34,8 @@ use type_lattice::Indexed;
 pub fn answer_replay<S: Store>(alloc: Global, words: &ReplayWords, store: &mut S) -> Answer
     ensures says { IsAnswer (λ answer. CarriesOut (S.files store.old) (S.files store.new)
         (since (S.faults store.old) (S.faults store.new) (S.last store.new)) (Replay (replay_named words.now)) answer) result }
+    ensures runs { EndsWell result
+        → ReplayedRuns (S.files store.old) (since (S.faults store.old) (S.faults store.new) (S.last store.new)) (replay_named words.now) }
     ensures files { S.files store.new ≡ S.files store.old }
     ensures faults { S.faults store.old ≤ S.faults store.new }
 {
@@ -47,7 +53,8 @@ pub fn answer_replay<S: Store>(alloc: Global, words: &ReplayWords, store: &mut S
 /// Links and types the class files, makes the steps of the record, and tells the run.
 fn told(alloc: Global, inputs: ReplayInputs, main: &Bytes) -> Result<Bytes, Refusal>
     requires { ReplaySound inputs }
-    ensures { UnlessMemory (Tells main.now inputs) result }
+    ensures tells { UnlessMemory (Tells main.now inputs) result }
+    ensures runs { IfOk result (λ text. InputsRun main.now inputs) }
 {
     let ReplayInputs {
         listing,
@@ -62,9 +69,12 @@ fn told(alloc: Global, inputs: ReplayInputs, main: &Bytes) -> Result<Bytes, Refu
 
 /// What is told of the run that these steps are, of a program that has types.
 fn typed_told(alloc: Global, program: Indexed, steps: &[Step]) -> Result<Bytes, Refusal>
-    requires { IsReady program }
-    ensures { UnlessMemory (Then (Types program) (λ typing. Equals (steps_told program steps.now))) result }
+    requires ready { IsReady program }
+    requires linked { IsLinkedProgram program }
+    ensures tells { UnlessMemory (Then (Types program) (λ typing. Equals (steps_told program steps.now))) result }
+    ensures runs { IfOk result (λ text. (typing : Typing) × RunsTyped program typing) }
 {
+    linked_programs_run_typed();
     match types_of(alloc, &program) {
         Ok(_) => steps_told(alloc, program, steps),
         Err(refusal) => {

@@ -1,12 +1,16 @@
 //! The top call: the words of a command, the answer over a store, and the output that a sink takes.
 
-ghost use Rattle.std.specs.Prelude.{◌≡◌, ◌≤◌};
+ghost use Rattle.std.specs.Prelude.{◌≡◌, ◌≢◌, ◌≤◌, Some};
 ghost use Rattle.command_words.specs.InlineWords.{IsInline, NamedInline};
+ghost use Rattle.command_words.specs.ReplayWords.{IsReplay, NamedReplay};
 ghost use Rattle.command_words.specs.Words.{IsCheck, NamedCheck};
 ghost use Rattle.inliner_tool.specs.Answers.{EndsWell};
+ghost use Rattle.inliner_tool.specs.Decides.{Decides};
 ghost use Rattle.inliner_tool.specs.Inline.{IsInlined, Leaves};
+ghost use Rattle.inliner_tool.specs.Replay.{ReplayedRuns};
 ghost use Rattle.inliner_tool.specs.Status.{code_of};
-ghost use Rattle.inliner_tool.specs.Tool.{Holds, Replies, Says, judged_status, refusal_status, status_of};
+ghost use Rattle.inliner_tool.specs.Tool.{CheckedRuns, Holds, Replies, Says, judged_status, refusal_status, status_of};
+ghost use Rattle.input_files.specs.Contents.{Contents};
 ghost use Rattle.input_files.specs.Forms.{since};
 ghost use Rattle.mon_store.specs.Store.{Rose};
 
@@ -21,6 +25,7 @@ use crate::replies::answer_spelled;
 use crate::show::answer_show;
 use command_words::{Command, command_of};
 use conspec_automaton::Verdict;
+use input_files::told_files_are_read;
 use mon_base::Bytes;
 use mon_store::{Sink, SinkFault, Store};
 use std::alloc::Global;
@@ -83,6 +88,14 @@ pub fn run_tool<S: Store, K: Sink>(
     ensures headline { (named : NamedCheck) → IsCheck words.now named → result ≡ Status.Done
         → Holds (S.files store.old) (since (S.faults store.old) (S.faults store.new) (S.last store.new)) named }
 
+    // That program, and one whose run is replayed, runs as its types say: after every list of steps no operand is missing and none is
+    // of a wrong kind, a step is made exactly where the rules enable it, and the events are well formed for the policies of its
+    // listing.
+    ensures runs { (named : NamedCheck) → IsCheck words.now named → result ≡ Status.Done
+        → CheckedRuns (S.files store.old) (since (S.faults store.old) (S.faults store.new) (S.last store.new)) named }
+    ensures replay_runs { (named : NamedReplay) → IsReplay words.now named → result ≡ Status.Done
+        → ReplayedRuns (S.files store.old) (since (S.faults store.old) (S.faults store.new) (S.last store.new)) named }
+
     // Where weaving ends well, what is written is the program with its blocks, and is accepted with its certificate.
     ensures inlined { (named : NamedInline) → IsInline words.now named → result ≡ Status.Done
         → IsInlined (S.files store.old) (S.files store.new) (since (S.faults store.old) (S.faults store.new) (S.last store.new)) named }
@@ -92,12 +105,19 @@ pub fn run_tool<S: Store, K: Sink>(
         (since (S.faults store.old) (S.faults store.new) (S.last store.new)) words.now
         (K.text out.old) (K.text out.new) (Rose (K.faults out.old) (K.faults out.new)) result }
 
+    // Where the store tells its files, and neither it nor the sink has a fault, status and output are those that the command's
+    // definition gives for the files, or that of memory.
+    ensures decides { (contents : Contents) → S.files store.old ≡ Some contents
+        → (Rose (S.faults store.old) (S.faults store.new) → ⊥) → (Rose (K.faults out.old) (K.faults out.new) → ⊥)
+        → result ≢ Status.Memory → Decides contents words.now (K.text out.old) (K.text out.new) result }
+
     // What stands.
     ensures files { Leaves (S.files store.old) (S.files store.new)
         (since (S.faults store.old) (S.faults store.new) (S.last store.new)) words.now }
     ensures faults { S.faults store.old ≤ S.faults store.new }
     ensures sink_faults { K.faults out.old ≤ K.faults out.new }
 {
+    told_files_are_read();
     let answer = answer_to(alloc, words, store);
     let status = status_of(&answer);
     if status == Status::Memory {
@@ -119,6 +139,8 @@ fn answer_to<S: Store>(alloc: Global, words: &[Bytes], store: &mut S) -> Answer
         (since (S.faults store.old) (S.faults store.new) (S.last store.new)) words.now result }
     ensures holds { (named : NamedCheck) → IsCheck words.now named → EndsWell result
         → Holds (S.files store.old) (since (S.faults store.old) (S.faults store.new) (S.last store.new)) named }
+    ensures replay_runs { (named : NamedReplay) → IsReplay words.now named → EndsWell result
+        → ReplayedRuns (S.files store.old) (since (S.faults store.old) (S.faults store.new) (S.last store.new)) named }
     ensures inlined { (named : NamedInline) → IsInline words.now named → EndsWell result
         → IsInlined (S.files store.old) (S.files store.new) (since (S.faults store.old) (S.faults store.new) (S.last store.new)) named }
     ensures files { Leaves (S.files store.old) (S.files store.new)

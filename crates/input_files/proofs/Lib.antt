@@ -1,3 +1,4 @@
 pub mod ReadFiles
 pub mod ClassFiles
 pub mod Reading
+pub mod Contents

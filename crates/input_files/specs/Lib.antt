@@ -8,3 +8,5 @@ pub mod PolicyInputs
 pub mod RaceInputs
 pub mod InlineInputs
 pub mod ReplayInputs
+pub mod Contents
+pub mod Told

@@ -21,7 +21,7 @@ check-requires-clause-named c = (c.in-Ok.ensures.sound c.args.program.now.listin
 pub check-requires-clause-listed : goal.check-requires-clause-listed
 check-requires-clause-listed c =
     subst (λ (p : Policy). AllByRecursion (FitsListing c.args.program.now.listing) p.clauses) (sym c.in-Ok.ensures.is)
-    (fits_listing c.kinds_are_told.ensures.arguments c.kinds_are_told.ensures.results c.args.program.now.listing c.args.policy.now c.requires.listed c.requires.policy)
+    (fits_listing c.kinds_are_told.ensures.arguments c.kinds_are_told.ensures.results c.args.program.now.listing c.args.policy.now c.requires.linked.listed c.requires.policy)
 
 pub returns-in-Ok-check-clause-checked : goal.returns-in-Ok-check-clause-checked
 returns-in-Ok-check-clause-checked c =
@@ -34,5 +34,10 @@ returns-in-Ok-check-clause-checked c =
     record {
       accepted = subst (λ (p : Policy). IsAccepted program p certificate) is (c.check.ensures.ok.0 ok);
       secure = subst (Secure certificate.mode program) is (c.check.ensures.secure ok promised);
+      read = c.requires.policy;
+      runs = c.linked_programs_run_typed.ensures program certificate.typing c.requires.linked (c.check.ensures.ok.0 ok).typed;
       errors = subst (λ (p : Policy). LeavesBlocks program p (annotations_of certificate)) is (c.check.ensures.leaves_blocks ok);
     }
+
+pub check-requires-clause-sound : goal.check-requires-clause-sound
+check-requires-clause-sound c = c.requires.linked.sound

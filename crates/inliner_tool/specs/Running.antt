@@ -1,0 +1,40 @@
+-- How a program runs that is accepted or replayed, whatever its steps are. (docs/PROMISES.md)
+use Rattle.std.specs.Prelude.{◌↔◌, ℕ, List, IsSome}
+use Rattle.std.specs.List.{AllByRecursion}
+use Rattle.bytecode_model.specs.declared.program.Program.{Program}
+use Rattle.bytecode_model.specs.declared.program.Side.{Side}
+use Rattle.bytecode_model.specs.Order.{IsInOrder}
+use Rattle.bytecode_model.specs.Sound.{IsSound}
+use Rattle.bytecode_model.specs.Standing.{IsLinkedOf}
+use Rattle.bytecode_model.specs.Typed.{IsTyped}
+use Rattle.cert_format.specs.declared.typing.Typing.{Typing}
+use Rattle.conspec_automaton.specs.Building.{built}
+use Rattle.conspec_automaton.specs.Events.{IsWellFormed}
+use Rattle.conspec_tree.specs.declared.types.PolicyTree.{PolicyTree}
+use Rattle.guest_model.specs.declared.machine.Step.{Step}
+use Rattle.guest_model.specs.Enabled.{IsEnabled}
+use Rattle.guest_model.specs.Runs.{exec, trace}
+use Rattle.guest_model.specs.Stepping.{stepped}
+use Rattle.input_files.specs.Named.{IsListed, IsPolicyOf}
+use Rattle.typed_runs.specs.Machines.{MachineFits}
+
+-- Class files link to the program, over a listing that was read.
+pub record IsLinkedProgram (program : Program) : Type 0 where
+  pub side : Side
+  pub main : List ℕ
+  pub listed : IsListed program.listing
+  pub linked : IsLinkedOf side program.listing main program
+  pub sound : IsSound program
+  pub order : IsInOrder program
+
+-- After every list of steps the machine is as the types say, and a step is made exactly where the rules enable it; and the events
+-- are well formed for each policy that was read over the listing.
+pub record RunsTyped (program : Program) (typing : Typing) : Type 0 where
+  pub typed : IsTyped program typing
+  pub fits : (steps : List Step) → MachineFits program typing (exec program steps)
+  pub moves : (steps : List Step) (step : Step) → IsEnabled program (exec program steps) step ↔ IsSome (stepped program (exec program steps) step)
+  pub formed : (tree : PolicyTree) → IsPolicyOf program.listing tree → (steps : List Step) → AllByRecursion (IsWellFormed (built tree)) (trace program steps)
+
+-- Each linked program with types runs so.
+abbrev pub LinkedRunTyped : Type 0
+LinkedRunTyped = (program : Program) (typing : Typing) → IsLinkedProgram program → IsTyped program typing → RunsTyped program typing

@@ -1,0 +1,20 @@
+//! How programs run that were accepted or are replayed.
+
+ghost use Rattle.std.specs.Prelude.{◌≡◌};
+ghost use Rattle.inliner_tool.specs.Running.{LinkedRunTyped};
+
+use conspec_parse::kinds_are_told;
+use guest_model::steps_are_enabled;
+use typed_runs::{events_are_well_formed, policies_tell_types, typed_programs_run};
+
+/// Whatever the steps of a linked program with types are, the machine is as the types say, a step is made exactly where it is
+/// enabled, and the events are well formed for each policy that was read over the listing.
+pub fn linked_programs_run_typed()
+    ensures { LinkedRunTyped }
+{
+    typed_programs_run();
+    steps_are_enabled();
+    events_are_well_formed();
+    policies_tell_types();
+    kinds_are_told();
+}
