@@ -1,6 +1,6 @@
 -- A policy is decided only where no trial has too many points, and else the first that has is told.
-use Rattle.std.proofs.Common.{◌≡◌, ◌≢◌, ℕ, ◌<◌, ◌≤◌, Bool, true, false, List, [], ◌∷◌, ◌++◌, Result, Ok, Err, refl, sym, ap, arith}
-use Rattle.std.specs.Prelude.{IfErr, IsOk, nat_le}
+use Rattle.std.proofs.Common.{◌≡◌, ℕ, ◌<◌, Bool, true, false, List, [], ◌∷◌, Result, Ok, Err, refl, ap, arith}
+use Rattle.std.specs.Prelude.{IfErr, IsOk}
 use Rattle.std.specs.List.{AllByRecursion}
 use Rattle.std.proofs.lemmas.Bool.{leb-false, leb-true}
 use Rattle.mon_base.specs.Answer.{Answers}
