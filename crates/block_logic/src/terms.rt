@@ -1,7 +1,6 @@
 //! What stands on the stack above the client's operands while a check is made, and what the policy's variables are.
 
 ghost use Rattle.std.specs.Prelude.{◌≡◌, ◌∷◌, ◌++◌, [], length, option_copied, option_map, slice_get, slice_set};
-ghost use Rattle.conspec_tree.specs.Updates.{target};
 ghost use Rattle.block_logic.specs.Lent.{term_lent, terms_lent};
 ghost use Rattle.block_logic.specs.Rows.{last_but_one, last_term, without};
 ghost use Rattle.block_logic.specs.Terms.{after_updates, base_term, same_at, same_term, same_terms, update_of, variable_after, written};
@@ -9,7 +8,7 @@ ghost use Rattle.block_logic.specs.Terms.{after_updates, base_term, same_at, sam
 use crate::lent::{TermsRef, WideTerm};
 use cert_format::Term;
 use conspec_automaton::Policy;
-use conspec_tree::{Base, Update};
+use conspec_tree::{Base, Update, target};
 
 /// The term, with its numbers as they are.
 pub fn widened(term: Term) -> WideTerm
@@ -76,17 +75,9 @@ fn variable_after(updates: &[Update], var: usize) -> WideTerm
 fn update_of(updates: &[Update], var: usize) -> Option<&Update>
     ensures { option_copied result ≡ update_of updates.now var }
 {
-    updates.iter().find(|update| target(**update) == var)
-}
-
-/// The variable that an update is of.
-fn target(update: Update) -> usize
-    ensures { result ≡ target update }
-{
-    match update {
-        Update::Set { var, .. } => var as usize,
-        Update::Add { var, .. } => var as usize,
-    }
+    updates
+        .iter()
+        .find(|update| target(**update) as usize == var)
 }
 
 // ---- lists

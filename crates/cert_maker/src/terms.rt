@@ -10,7 +10,7 @@ ghost use Rattle.cert_maker.specs.Small.{IsSmallBase, IsSmallUpdate};
 
 use cert_format::Term;
 use conspec_automaton::Policy;
-use conspec_tree::{Atom, Base, Update};
+use conspec_tree::{Atom, Base, Update, target};
 use mon_base::{List, NoMemory};
 use std::alloc::Global;
 
@@ -110,16 +110,6 @@ fn variable_after(updates: &[Update], var: u8) -> Term
         left = later;
     }
     Term::Var(var)
-}
-
-/// The variable that an update is of.
-fn target(update: Update) -> u32
-    ensures { result ≡ target update }
-{
-    match update {
-        Update::Set { var, .. } => var,
-        Update::Add { var, .. } => var,
-    }
 }
 
 /// What an update of this variable writes.

@@ -12,7 +12,6 @@ use Rattle.conspec_tree.specs.declared.types.Atom.{Atom}
 use Rattle.conspec_tree.specs.declared.types.Base.{Base}
 use Rattle.conspec_tree.specs.declared.types.Base.TheVariants as bases
 use Rattle.conspec_tree.specs.declared.types.Kind.{Kind}
-use Rattle.conspec_tree.specs.declared.types.Kind.TheVariants as kinds
 use Rattle.conspec_tree.specs.declared.types.Phase.{Phase}
 use Rattle.conspec_tree.specs.declared.types.Phase.TheVariants.{Before, After, Exceptional}
 use Rattle.conspec_tree.specs.declared.types.Update.{Update}
@@ -22,7 +21,7 @@ use Rattle.conspec_tree.specs.Updates.{target}
 use Rattle.conspec_automaton.specs.declared.policy.Branch.{Branch}
 use Rattle.conspec_automaton.specs.declared.policy.Clause.{Clause}
 use Rattle.conspec_automaton.specs.declared.policy.Policy.{Policy}
-use Rattle.conspec_automaton.specs.Events.{least_of, greatest_of}
+use Rattle.conspec_automaton.specs.Events.{number_range, passed_range}
 use Rattle.conspec_automaton.specs.Next.{Values}
 use Rattle.conspec_automaton.specs.Range.{is_between}
 
@@ -117,15 +116,17 @@ abbrev pub points_between : ℤ → ℤ → List ℤ → List ℤ
 points_between low high [] = pos 0 ∷ []
 points_between low high (c ∷ constants) = ascending (low ∷ high ∷ near low high (c ∷ constants))
 
--- what an argument may be, of a number's type
+-- the values that are tried: numbers of the range, or null where there is none
+abbrev pub values_in : Option (ℤ × ℤ) → List ℤ → List ApiValue
+values_in None constants = api.Null ∷ []
+values_in (Some range) constants = map api.Int (points_between range.0 range.1 constants)
+
 abbrev pub arguments_at : Clause → ℕ → Kind → List ApiValue
-arguments_at clause i kinds.Object = api.Null ∷ []
-arguments_at clause i kind = map api.Int (points_between (least_of kinds.Int) (greatest_of kinds.Int) (constants_of (bases.Arg i) (clause ∷ [])))
+arguments_at clause i kind = values_in (passed_range kind) (constants_of (bases.Arg i) (clause ∷ []))
 
 abbrev pub results_of : Clause → Option Kind → List (Option ApiValue)
 results_of clause None = None ∷ []
-results_of clause (Some kinds.Object) = Some api.Null ∷ []
-results_of clause (Some kind) = map (λ n. Some (api.Int n)) (points_between (least_of kind) (greatest_of kind) (constants_of bases.Result (clause ∷ [])))
+results_of clause (Some kind) = map Some (values_in (number_range kind) (constants_of bases.Result (clause ∷ [])))
 
 -- ---- all choices
 

@@ -11,6 +11,7 @@ use Rattle.conspec_automaton.specs.declared.policy.Clause.{Clause}
 use Rattle.conspec_automaton.specs.declared.policy.Policy.{Policy}
 use Rattle.conspec_automaton.specs.Next.{Values, next}
 use Rattle.conspec_automaton.specs.Obeys.{after}
+use Rattle.conspec_automaton.specs.Racing.{Pairs}
 use Rattle.conspec_automaton.specs.Points.{states_of, events_of, states_count, events_count}
 
 -- ---- clauses, in order
@@ -44,16 +45,20 @@ alone condition first = record { condition = condition; first = first; second = 
 abbrev pub both : ℕ → Placed → Placed → Trial
 both condition first second = record { condition = condition; first = first; second = Some second }
 
-abbrev pub pairs : ℕ → List Placed → List Placed → List Trial
-pairs condition firsts seconds = flat_map (λ first. map (both condition first) seconds) firsts
+-- The clauses are of two methods that are tested.
+abbrev pub is_tested : Pairs → Placed → Placed → Bool
+is_tested tested first second = tested first.1.method second.1.method
 
--- Ends are taken; calls turn; ends turn; and ends may come first.
-abbrev pub trials : Policy → List Trial
-trials policy =
+abbrev pub pairs : Pairs → ℕ → List Placed → List Placed → List Trial
+pairs tested condition firsts seconds = flat_map (λ first. map (both condition first) (filter (is_tested tested first) seconds)) firsts
+
+-- Ends are taken; and of the pairs that are tested calls turn; ends turn; and ends may come first.
+abbrev pub trials : Pairs → Policy → List Trial
+trials tested policy =
     map (alone 0) (ends_in policy)
-    ++ pairs 1 (calls_in policy) (calls_in policy)
-    ++ pairs 2 (ends_in policy) (ends_in policy)
-    ++ pairs 3 (calls_in policy) (ends_in policy)
+    ++ pairs tested 1 (calls_in policy) (calls_in policy)
+    ++ pairs tested 2 (ends_in policy) (ends_in policy)
+    ++ pairs tested 3 (calls_in policy) (ends_in policy)
 
 -- ---- points
 

@@ -5,12 +5,13 @@ ghost use Rattle.conspec_tree.specs.Updates.{target, is_updated, range_atoms, al
 
 use crate::types::Update;
 
-fn target(update: &Update) -> u32
-    ensures { result ≡ target update.now }
+/// The variable that an update is of.
+pub fn target(update: Update) -> u32
+    ensures { result ≡ target update }
 {
     match update {
-        Update::Set { var, .. } => *var,
-        Update::Add { var, .. } => *var,
+        Update::Set { var, .. } => var,
+        Update::Add { var, .. } => var,
     }
 }
 
@@ -20,7 +21,7 @@ pub fn is_updated(updates: &[Update], var: u32) -> bool
 {
     let mut left = updates;
     while let [first, others @ ..] = left {
-        if target(first) == var {
+        if target(*first) == var {
             return true;
         }
         left = others;

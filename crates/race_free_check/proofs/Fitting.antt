@@ -1,5 +1,5 @@
 -- What is tried can be: the states are in range, and the events are those of their clause, and well-formed.
-use Rattle.std.proofs.Common.{◌≡◌, ◌≢◌, inl, inr, ℕ, zero, suc, ◌+◌, ℤ, pos, Bool, true, false, not, cond, List, [], ◌∷◌, map, Option, Some, None, refl, sym, ap, subst, ◌∙◌, arith}
+use Rattle.std.proofs.Common.{◌≡◌, inl, inr, ℕ, zero, suc, ◌+◌, ℤ, pos, Bool, true, false, not, cond, List, [], ◌∷◌, map, Option, Some, None, refl, sym, ap, subst, ◌∙◌, arith}
 use Rattle.std.specs.Prelude.{◌≤ℤ◌, ◌==◌, AllPairs, find, if◌then◌else◌, slice_get}
 use Rattle.std.specs.List.{AllByRecursion, enumerate_from}
 use Rattle.std.proofs.lemmas.Bool.{and_parts, eq-eqb, eqb-true}
@@ -16,10 +16,10 @@ use Rattle.conspec_tree.specs.declared.types.Var.{Var}
 use Rattle.conspec_tree.specs.Tree.{IsInRange, greatest}
 use Rattle.conspec_automaton.specs.declared.policy.Clause.{Clause}
 use Rattle.conspec_automaton.specs.declared.policy.Policy.{Policy}
-use Rattle.conspec_automaton.specs.Events.{FitsClause, IsNumberOf, IsWellFormed, greatest_of, least_of}
+use Rattle.conspec_automaton.specs.Events.{FitsClause, IsNumberOf, IsWellFormed, number_range, passed_range}
 use Rattle.conspec_automaton.specs.Next.{Values, clause_of, is_phase_of, method_of, speaks_of}
 use Rattle.conspec_automaton.specs.Obeys.{is_return}
-use Rattle.conspec_automaton.specs.Points.{arguments_at, arguments_of, each_choice, events_in, events_of, is_named, named_points, near, points_between, points_of, results_of, states_of, thresholds}
+use Rattle.conspec_automaton.specs.Points.{arguments_of, each_choice, events_in, events_of, is_named, named_points, near, points_between, points_of, results_of, states_of, thresholds, values_in}
 use Rattle.conspec_automaton.specs.Range.{are_in_range, in_range, is_in_range}
 use Rattle.conspec_automaton.specs.Sound.{Differ, IsPolicy}
 use Rattle.conspec_automaton.specs.Trying.{is_of_calls}
@@ -28,7 +28,7 @@ use Rattle.race_free_check.proofs.Likening.{phase_after, phase_before, phase_exc
 use Rattle.race_free_check.proofs.Members.{Has, map_has, place_of}
 use Rattle.race_free_check.proofs.Nearest.{near_within, of_ascending}
 use Rattle.race_free_check.proofs.Thresholds.{Within, is_within}
-use Rattle.race_free_check.proofs.Passing.{argument_constants, numbers_are, result_constants, results_are, tried_from}
+use Rattle.race_free_check.proofs.Passing.{argument_constants, result_constants, tried_from}
 
 -- ---- numbers
 
@@ -42,55 +42,52 @@ between_within low high x [] l m (inl e) = record { least = omega (arith, ints);
 between_within low high x [] l m (inr h) = absurd h
 between_within low high x (c ∷ cs) l m h = listed_within low high x (c ∷ cs) (omega (arith, ints)) (of_ascending x (low ∷ high ∷ near low high (c ∷ cs)) h)
 
-least_low : (kind : Kind) → least_of kind ≤ℤ pos 0
-least_low kinds.Int = omega (arith, ints)
-least_low kinds.Bool = omega (arith, ints)
-least_low kinds.Byte = omega (arith, ints)
-least_low kinds.Short = omega (arith, ints)
-least_low kinds.Char = omega (arith, ints)
-least_low kinds.Object = omega (arith, ints)
+-- 0 is in the range.
+abbrev HoldsZero : Option (ℤ × ℤ) → Type 0
+HoldsZero None = Unit {0}
+HoldsZero (Some range) = (range.0 ≤ℤ pos 0) × (pos 0 ≤ℤ range.1)
 
-greatest_high : (kind : Kind) → pos 0 ≤ℤ greatest_of kind
-greatest_high kinds.Int = omega (arith, ints)
-greatest_high kinds.Bool = omega (arith, ints)
-greatest_high kinds.Byte = omega (arith, ints)
-greatest_high kinds.Short = omega (arith, ints)
-greatest_high kinds.Char = omega (arith, ints)
-greatest_high kinds.Object = omega (arith, ints)
+given_zero : (kind : Kind) → HoldsZero (number_range kind)
+given_zero kinds.Int = (omega (arith, ints), omega (arith, ints))
+given_zero kinds.Bool = (omega (arith, ints), omega (arith, ints))
+given_zero kinds.Byte = (omega (arith, ints), omega (arith, ints))
+given_zero kinds.Short = (omega (arith, ints), omega (arith, ints))
+given_zero kinds.Char = (omega (arith, ints), omega (arith, ints))
+given_zero kinds.Object = tt
 
-number_of : (kind : Kind) (x : ℤ) (cs : List ℤ) → Has (points_between (least_of kind) (greatest_of kind) cs) x → IsNumberOf kind (Some (api.Int x))
-number_of kind x cs h =
-    let w = between_within (least_of kind) (greatest_of kind) x cs (least_low kind) (greatest_high kind) h in
-    (x, refl, is_within (least_of kind) (greatest_of kind) x w.least w.most)
+passed_zero : (kind : Kind) → HoldsZero (passed_range kind)
+passed_zero kinds.Int = given_zero kinds.Int
+passed_zero kinds.Bool = given_zero kinds.Int
+passed_zero kinds.Byte = given_zero kinds.Int
+passed_zero kinds.Short = given_zero kinds.Int
+passed_zero kinds.Char = given_zero kinds.Int
+passed_zero kinds.Object = tt
+
+value_fits : (range : Option (ℤ × ℤ)) (cs : List ℤ) (value : ApiValue) → HoldsZero range → Has (values_in range cs) value → IsNumberOf range (Some value)
+value_fits None cs value holds h = tt
+value_fits (Some range) cs value holds h =
+    let m = map_has api.Int (points_between range.0 range.1 cs) value h in
+    let w = between_within range.0 range.1 m.item cs holds.0 holds.1 m.there in
+    subst (λ (v : ApiValue). IsNumberOf (Some range) (Some v)) m.so (m.item, refl, is_within range.0 range.1 m.item w.least w.most)
 
 -- ---- what is passed or given
 
 module _ (c : Clause) where
-  passed_number : (i : ℕ) (kind : Kind) (value : ApiValue) → kind ≢ kinds.Object → Has (arguments_at c i kind) value → IsNumberOf kinds.Int (Some value)
-  passed_number i kind value ne h =
-      let there = subst (λ (values : List ApiValue). Has values value) (numbers_are c i kind ne) h in
-      let m = map_has api.Int (points_between (least_of kinds.Int) (greatest_of kinds.Int) (argument_constants c i)) value there in
-      subst (λ (v : ApiValue). IsNumberOf kinds.Int (Some v)) m.so (number_of kinds.Int m.item (argument_constants c i) m.there)
-
-  passed_all : (args : List Kind) (n : ℕ) (values : List ApiValue) → Choice (tried_from c n args) values → (j : ℕ) (kind : Kind) → slice_get args j ≡ Some kind → kind ≢ kinds.Object → IsNumberOf kinds.Int (slice_get values j)
-  passed_all [] n values choice j kind there ne = absurd cc
-  passed_all (first ∷ args) n [] choice j kind there ne = absurd choice
-  passed_all (first ∷ args) n (value ∷ values) choice zero kind there ne =
+  passed_all : (args : List Kind) (n : ℕ) (values : List ApiValue) → Choice (tried_from c n args) values → (j : ℕ) (kind : Kind) → slice_get args j ≡ Some kind → IsNumberOf (passed_range kind) (slice_get values j)
+  passed_all [] n values choice j kind there = absurd cc
+  passed_all (first ∷ args) n [] choice j kind there = absurd choice
+  passed_all (first ∷ args) n (value ∷ values) choice zero kind there =
       let same : first ≡ kind = cc in
-      passed_number n first value (λ e. ne (sym same ∙ e)) choice.0
-  passed_all (first ∷ args) n (value ∷ values) choice (suc j) kind there ne = passed_all args (n + 1) values choice.1 j kind there ne
+      subst (λ (k : Kind). IsNumberOf (passed_range k) (Some value)) same (value_fits (passed_range first) (argument_constants c n) value (passed_zero first) choice.0)
+  passed_all (first ∷ args) n (value ∷ values) choice (suc j) kind there = passed_all args (n + 1) values choice.1 j kind there
 
-  given_number : (kind : Kind) (value : Option ApiValue) → kind ≢ kinds.Object → Has (results_of c (Some kind)) value → IsNumberOf kind value
-  given_number kind value ne h =
-      let there = subst (λ (values : List (Option ApiValue)). Has values value) (results_are c kind ne) h in
-      let m = map_has (λ n. Some (api.Int n)) (points_between (least_of kind) (greatest_of kind) (result_constants c)) value there in
-      subst (λ (v : Option ApiValue). IsNumberOf kind v) m.so (number_of kind m.item (result_constants c) m.there)
-
-  given_result : (asked : Option Kind) (value : Option ApiValue) → Has (results_of c asked) value → (kind : Kind) → asked ≡ Some kind → kind ≢ kinds.Object → IsNumberOf kind value
-  given_result None value h kind e ne = absurd cc
-  given_result (Some first) value h kind e ne =
+  given_result : (asked : Option Kind) (value : Option ApiValue) → Has (results_of c asked) value → (kind : Kind) → asked ≡ Some kind → IsNumberOf (number_range kind) value
+  given_result None value h kind e = absurd cc
+  given_result (Some first) value h kind e =
       let same : first ≡ kind = cc in
-      given_number kind value ne (subst (λ (k : Kind). Has (results_of c (Some k)) value) same h)
+      let m = map_has Some (values_in (number_range first) (result_constants c)) value h in
+      let fits = value_fits (number_range first) (result_constants c) m.item (given_zero first) m.there in
+      subst (λ (k : Kind). IsNumberOf (number_range k) value) same (subst (λ (v : Option ApiValue). IsNumberOf (number_range first) v) m.so fits)
 
 -- ---- events
 
@@ -110,7 +107,7 @@ tried_in c event Before e h =
     let m = map_has (λ arguments. events.Call 0 c.method arguments) (each_choice (arguments_of c)) event h in
     let choice = each_choice_has (arguments_of c) m.item m.there in
     subst (IsTried c) m.so (record {
-      fits = λ i kind there ne. passed_all c c.args 0 m.item choice i kind there ne;
+      fits = passed_all c c.args 0 m.item choice;
       speaks = spoken c (events.Call 0 c.method m.item) Before e refl refl;
       ends = ap (λ (p : Phase). not (is_of_calls p)) (sym e);
     })

@@ -16,13 +16,13 @@ use Rattle.conspec_tree.specs.declared.types.Var.{Var}
 use Rattle.conspec_tree.specs.Tree.{IsBase, IsNumber, asked}
 use Rattle.conspec_automaton.specs.declared.policy.Branch.{Branch}
 use Rattle.conspec_automaton.specs.declared.policy.Clause.{Clause}
-use Rattle.conspec_automaton.specs.Events.{FitsClause, IsNumberOf}
+use Rattle.conspec_automaton.specs.Events.{FitsClause, IsNumberOf, number_range, passed_range}
 use Rattle.conspec_automaton.specs.Next.{is_phase_of, speaks_of}
 use Rattle.conspec_automaton.specs.Points.{arguments_of, atoms_in, constants_of, each_choice, events_in, events_of, is_same, results_of}
 use Rattle.conspec_automaton.specs.Sound.{IsClauseIn}
 use Rattle.race_free_check.proofs.EachChoice.{in_each_choice}
 use Rattle.race_free_check.proofs.Members.{Among, Has, flat_has, in_map, of_all}
-use Rattle.race_free_check.proofs.Passing.{Numbers, Tried, numbers_meet, try_all, try_result}
+use Rattle.race_free_check.proofs.Passing.{NumbersOf, Tried, numbers_given, numbers_meet, numbers_passed, try_all, try_result}
 use Rattle.race_free_check.proofs.Sides.{LikeEvents, PassesAlike, constant_in}
 
 -- ---- phases
@@ -85,21 +85,22 @@ module _ (vars : List Var) (maxint : ℤ) (c : Clause) (sound : IsClauseIn vars 
       by (bases.Var i) is of = tt
       by (bases.Arg i) is of =
           let asked = asks (slice_get c.args i) of in
-          let numbers = t.tries i i asked.kind (omega arith) asked.is asked.number in
+          let numbers = t.tries i i asked.kind (omega arith) asked.is in
           let same : is_same (bases.Arg i) a.base ≡ true = rw is (eq-eqb i i refl) in
-          numbers_meet (constants_of (bases.Arg i) (c ∷ [])) a.value (slice_get given i) (slice_get t.values i) (constant_in (c ∷ []) (bases.Arg i) a h same) numbers
+          numbers_meet (constants_of (bases.Arg i) (c ∷ [])) a.value (slice_get given i) (slice_get t.values i) (constant_in (c ∷ []) (bases.Arg i) a h same)
+          (numbers_passed asked.kind (constants_of (bases.Arg i) (c ∷ [])) (slice_get given i) (slice_get t.values i) asked.number numbers)
       by bases.Result is of = absurd of
 
     try_call : FitsClause c (events.Call thread method given) → Among (events_of c) (LikeEvents c (events.Call thread method given))
     try_call fits =
-        let t = try_all c given c.args 0 (λ j k kind e there ne. let same : j ≡ k = omega arith in subst (λ (i : ℕ). IsNumberOf kinds.Int (slice_get given i)) same (fits j kind there ne)) in
+        let t = try_all c given c.args 0 (λ j k kind e there. let same : j ≡ k = omega arith in subst (λ (i : ℕ). IsNumberOf (passed_range kind) (slice_get given i)) same (fits j kind there)) in
         let there : Has (events_in c Before) (events.Call 0 c.method t.values) = in_map (λ arguments. events.Call 0 c.method arguments) (each_choice (arguments_of c)) t.values (in_each_choice (arguments_of c) t.values t.choice) in
         record { item = events.Call 0 c.method t.values; there = at_phase Before (events.Call 0 c.method t.values) phase there; so = call_like t }
 
   -- ---- returns
 
   module _ (thread method : ℕ) (given : Option ApiValue) (phase : c.phase ≡ After) where
-    return_like : (value : Option ApiValue) → ((kind : Kind) → c.result ≡ Some kind → kind ≢ kinds.Object → Numbers (constants_of bases.Result (c ∷ [])) given value)
+    return_like : (value : Option ApiValue) → ((kind : Kind) → c.result ≡ Some kind → NumbersOf (number_range kind) (constants_of bases.Result (c ∷ [])) given value)
         → LikeEvents c (events.Return thread method given) (events.Return 0 c.method value)
     return_like value tries a h = by a.base refl based where
       based : IsBase (length vars) (asked After c.args c.result) a.base
@@ -111,7 +112,8 @@ module _ (vars : List Var) (maxint : ℤ) (c : Clause) (sound : IsClauseIn vars 
       by bases.Result is of =
           let asked = asks c.result of in
           let same : is_same bases.Result a.base ≡ true = rw is refl in
-          numbers_meet (constants_of bases.Result (c ∷ [])) a.value given value (constant_in (c ∷ []) bases.Result a h same) (tries asked.kind asked.is asked.number)
+          numbers_meet (constants_of bases.Result (c ∷ [])) a.value given value (constant_in (c ∷ []) bases.Result a h same)
+          (numbers_given asked.kind (constants_of bases.Result (c ∷ [])) given value asked.number (tries asked.kind asked.is))
 
     try_return : FitsClause c (events.Return thread method given) → Among (events_of c) (LikeEvents c (events.Return thread method given))
     try_return fits =

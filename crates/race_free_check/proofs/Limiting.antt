@@ -6,11 +6,12 @@ use Rattle.std.proofs.lemmas.Bool.{leb-false, leb-true}
 use Rattle.mon_base.specs.Answer.{Answers}
 use Rattle.mon_base.specs.Reading.{◌>>=◌, need}
 use Rattle.conspec_automaton.specs.declared.policy.Policy.{Policy}
+use Rattle.conspec_automaton.specs.Racing.{Pairs}
 use Rattle.conspec_automaton.specs.Trying.{Trial, is_small, max_points, point_count, trials}
 use Rattle.race_free_check.specs.declared.fault.RaceFault.{RaceFault}
 use Rattle.race_free_check.specs.declared.fault.RaceFault.TheVariants.{CellLimit, Memory}
 use Rattle.race_free_check.specs.declared.verdict.RaceVerdict.{RaceVerdict}
-use Rattle.race_free_check.specs.Deciding.{all_small, decided, judged, second_place, too_many}
+use Rattle.race_free_check.specs.Deciding.{all_small, decided_for, judged, second_place, too_many}
 use Rattle.race_free_check.specs.Limit.{AllHaveFewPoints, HasFewPoints, IsAboveLimit, TellsLimit}
 
 module _ (policy : Policy) where
@@ -61,24 +62,25 @@ module _ (policy : Policy) where
           many = omega (arith, many_points t is, count_is);
         }
 
-  decided_small : (verdict : RaceVerdict) → decided policy ≡ Ok verdict → AllHaveFewPoints policy
-  decided_small verdict e = by (all_small policy (trials policy)) refl e where
-    by : (o : Result (Unit {0}) RaceFault) → all_small policy (trials policy) ≡ o → (o >>= λ small. Ok (judged policy (trials policy))) ≡ Ok verdict → AllHaveFewPoints policy
-    by (Ok small) is e = all_few (trials policy) small is
+module _ (tested : Pairs) (policy : Policy) where
+  decided_small : (verdict : RaceVerdict) → decided_for tested policy ≡ Ok verdict → AllHaveFewPoints tested policy
+  decided_small verdict e = by (all_small policy (trials tested policy)) refl e where
+    by : (o : Result (Unit {0}) RaceFault) → all_small policy (trials tested policy) ≡ o → (o >>= λ small. Ok (judged policy (trials tested policy))) ≡ Ok verdict → AllHaveFewPoints tested policy
+    by (Ok small) is e = all_few policy (trials tested policy) small is
     by (Err fault) is e = absurd cc
 
-  decided_limit : (first second count : ℕ) → decided policy ≡ Err (CellLimit first second count) → IsAboveLimit policy (trials policy) first second count
-  decided_limit first second count e = by (all_small policy (trials policy)) refl e where
-    by : (o : Result (Unit {0}) RaceFault) → all_small policy (trials policy) ≡ o → (o >>= λ small. Ok (judged policy (trials policy))) ≡ Err (CellLimit first second count)
-        → IsAboveLimit policy (trials policy) first second count
+  decided_limit : (first second count : ℕ) → decided_for tested policy ≡ Err (CellLimit first second count) → IsAboveLimit policy (trials tested policy) first second count
+  decided_limit first second count e = by (all_small policy (trials tested policy)) refl e where
+    by : (o : Result (Unit {0}) RaceFault) → all_small policy (trials tested policy) ≡ o → (o >>= λ small. Ok (judged policy (trials tested policy))) ≡ Err (CellLimit first second count)
+        → IsAboveLimit policy (trials tested policy) first second count
     by (Ok small) is e = absurd cc
-    by (Err fault) is e = first_above (trials policy) first second count cc
+    by (Err fault) is e = first_above policy (trials tested policy) first second count cc
 
-  pub small_is : (answer : Result RaceVerdict RaceFault) → Answers Memory answer (decided policy) → IsOk answer → AllHaveFewPoints policy
+  pub small_is : (answer : Result RaceVerdict RaceFault) → Answers Memory answer (decided_for tested policy) → IsOk answer → AllHaveFewPoints tested policy
   small_is (Ok verdict) e ok = decided_small verdict e
   small_is (Err fault) e ok = absurd cc
 
-  pub limit_is : (answer : Result RaceVerdict RaceFault) → Answers Memory answer (decided policy) → IfErr answer (TellsLimit policy)
+  pub limit_is : (answer : Result RaceVerdict RaceFault) → Answers Memory answer (decided_for tested policy) → IfErr answer (TellsLimit tested policy)
   limit_is (Ok verdict) e = tt
   limit_is (Err (CellLimit first second count)) e = decided_limit first second count (e (λ same. absurd cc))
   limit_is (Err Memory) e = tt

@@ -5,14 +5,17 @@ use Rattle.std.specs.List.{enumerate_from}
 use Rattle.std.proofs.lemmas.List.{length-map}
 use Rattle.std.proofs.lemmas.List.Concat.{flat_map_single}
 use Rattle.api_listing.specs.declared.events.ApiValue.{ApiValue}
+use Rattle.api_listing.specs.declared.events.ApiValue.TheVariants as api
 use Rattle.api_listing.specs.declared.events.Event.TheVariants as events
+use Rattle.conspec_tree.specs.declared.types.Base.TheVariants as bases
 use Rattle.conspec_tree.specs.declared.types.Kind.{Kind}
 use Rattle.conspec_tree.specs.declared.types.Kind.TheVariants as kinds
 use Rattle.conspec_tree.specs.declared.types.Phase.{Phase}
 use Rattle.conspec_tree.specs.declared.types.Phase.TheVariants.{Before, After, Exceptional}
 use Rattle.conspec_automaton.specs.declared.policy.Clause.{Clause}
-use Rattle.conspec_automaton.specs.Points.{arguments_at, each_choice, events_count, events_in, events_of, results_of, size_of}
-use Rattle.race_free_check.specs.Choosing.{IsMade, argument_numbers, made, made_in, numbers_in, numbers_of, result_as, result_numbers, value_as, values_as}
+use Rattle.conspec_automaton.specs.Events.{number_range}
+use Rattle.conspec_automaton.specs.Points.{arguments_at, constants_of, each_choice, events_count, events_in, events_of, points_between, results_of, size_of, values_in}
+use Rattle.race_free_check.specs.Choosing.{IsMade, argument_numbers, made, made_in, numbers_between, numbers_in, numbers_of, result_as, result_numbers, value_as, value_in, values_as}
 
 -- ---- lists
 
@@ -71,13 +74,12 @@ module _ (c : Clause) where
 
   -- ---- results
 
+  given_in : (range : Option (ℤ × ℤ)) (cs : List ℤ) → map Some (values_in range cs) ≡ map (λ n. Some (value_in range n)) (numbers_between range cs)
+  given_in None cs = refl
+  given_in (Some range) cs = map_twice Some api.Int (points_between range.0 range.1 cs)
+
   given_is : (kind : Kind) → results_of c (Some kind) ≡ map (λ n. Some (value_as kind n)) (result_numbers c kind)
-  given_is kinds.Int = refl
-  given_is kinds.Bool = refl
-  given_is kinds.Byte = refl
-  given_is kinds.Short = refl
-  given_is kinds.Char = refl
-  given_is kinds.Object = refl
+  given_is kind = given_in (number_range kind) (constants_of bases.Result (c ∷ []))
 
   alone_are : (ns : List ℤ) → each_choice (ns ∷ []) ≡ map (λ n. n ∷ []) ns
   alone_are ns = flat_map_single (λ n. n ∷ []) ns

@@ -1,5 +1,5 @@
 -- For each event that fits a clause, one of those that are tried passes or gives alike numbers.
-use Rattle.std.proofs.Common.{◌≡◌, ◌≢◌, inl, ℕ, zero, suc, ◌+◌, ℤ, List, [], ◌∷◌, map, Option, Some, None, refl, subst, ◌∙◌, arith}
+use Rattle.std.proofs.Common.{◌≡◌, ◌≢◌, inl, ℕ, zero, suc, ◌+◌, ℤ, List, [], ◌∷◌, map, Option, Some, None, refl, subst, arith}
 use Rattle.std.specs.Prelude.{option_and_then, slice_get}
 use Rattle.std.specs.List.{enumerate_from}
 use Rattle.api_listing.specs.declared.events.ApiValue.{ApiValue}
@@ -7,11 +7,10 @@ use Rattle.api_listing.specs.declared.events.ApiValue.TheVariants as api
 use Rattle.conspec_tree.specs.declared.types.Base.TheVariants as bases
 use Rattle.conspec_tree.specs.declared.types.Kind.{Kind}
 use Rattle.conspec_tree.specs.declared.types.Kind.TheVariants as kinds
-use Rattle.conspec_tree.specs.Tree.{asked}
 use Rattle.conspec_automaton.specs.declared.policy.Clause.{Clause}
-use Rattle.conspec_automaton.specs.Events.{IsNumberOf, greatest_of, least_of}
+use Rattle.conspec_automaton.specs.Events.{IsNumberOf, number_range, passed_range}
 use Rattle.conspec_automaton.specs.Next.{number_in}
-use Rattle.conspec_automaton.specs.Points.{arguments_at, constants_of, points_between, results_of}
+use Rattle.conspec_automaton.specs.Points.{arguments_at, constants_of, points_between, results_of, values_in}
 use Rattle.race_free_check.proofs.EachChoice.{Choice}
 use Rattle.race_free_check.proofs.Members.{Among, Has, in_map}
 use Rattle.race_free_check.proofs.Nearest.{point_between}
@@ -31,47 +30,49 @@ pub record Numbers (ts : List ℤ) (given tried : Option ApiValue) : Type 0 wher
 pub numbers_meet : (ts : List ℤ) (k : ℤ) (given tried : Option ApiValue) → Has ts k → Numbers ts given tried → Meets (Side k) (option_and_then number_in given) (option_and_then number_in tried)
 numbers_meet ts k given tried h n = rw (n.is, n.tried_is) (n.alike k h)
 
+-- Where there is a range, the value is a number, and the one that is tried is alike.
+abbrev pub NumbersOf : Option (ℤ × ℤ) → List ℤ → Option ApiValue → Option ApiValue → Type 0
+NumbersOf None ts given tried = Unit {0}
+NumbersOf (Some range) ts given tried = Numbers ts given tried
+
+try_value : (given : Option ApiValue) (range : Option (ℤ × ℤ)) (ts : List ℤ) → IsNumberOf range given → Among (values_in range ts) (λ (tried : ApiValue). NumbersOf range ts given (Some tried))
+try_value given None ts number = record { item = api.Null; there = inl refl; so = tt }
+try_value given (Some range) ts number =
+    let w = within range.0 range.1 number.0 number.2 in
+    let found = point_between range.0 range.1 number.0 ts w.least w.most in
+    record {
+      item = api.Int found.point;
+      there = in_map api.Int (points_between range.0 range.1 ts) found.point found.there;
+      so = record { number = number.0; other = found.point; is = number.1; tried_is = refl; alike = found.alike };
+    }
+
+-- ---- types of numbers
+
+record HasRange (kind : Kind) : Type 0 where
+  pub range : ℤ × ℤ
+  pub is : number_range kind ≡ Some range
+
+has_range : (kind : Kind) → kind ≢ kinds.Object → HasRange kind
+has_range kinds.Int ne = record { range = _; is = refl }
+has_range kinds.Bool ne = record { range = _; is = refl }
+has_range kinds.Byte ne = record { range = _; is = refl }
+has_range kinds.Short ne = record { range = _; is = refl }
+has_range kinds.Char ne = record { range = _; is = refl }
+has_range kinds.Object ne = absurd (ne refl)
+
+pub numbers_given : (kind : Kind) (ts : List ℤ) (given tried : Option ApiValue) → kind ≢ kinds.Object → NumbersOf (number_range kind) ts given tried → Numbers ts given tried
+numbers_given kind ts given tried ne n = let r = has_range kind ne in subst (λ (o : Option (ℤ × ℤ)). NumbersOf o ts given tried) r.is n
+
+pub numbers_passed : (kind : Kind) (ts : List ℤ) (given tried : Option ApiValue) → kind ≢ kinds.Object → NumbersOf (passed_range kind) ts given tried → Numbers ts given tried
+numbers_passed kind ts given tried ne n =
+    let r = has_range kind ne in
+    subst (λ (o : Option (ℤ × ℤ)). NumbersOf (option_and_then (λ own. number_range kinds.Int) o) ts given tried) r.is n
+
 -- ---- arguments
 
 module _ (clause : Clause) where
   abbrev pub argument_constants : ℕ → List ℤ
   argument_constants i = constants_of (bases.Arg i) (clause ∷ [])
-
-  abbrev pub numbers_at : ℕ → List ApiValue
-  numbers_at i = map api.Int (points_between (least_of kinds.Int) (greatest_of kinds.Int) (argument_constants i))
-
-  pub numbers_are : (i : ℕ) (kind : Kind) → kind ≢ kinds.Object → arguments_at clause i kind ≡ numbers_at i
-  numbers_are i kinds.Int ne = refl
-  numbers_are i kinds.Bool ne = refl
-  numbers_are i kinds.Byte ne = refl
-  numbers_are i kinds.Short ne = refl
-  numbers_are i kinds.Char ne = refl
-  numbers_are i kinds.Object ne = absurd (ne refl)
-
-  -- The argument at k, where it is a number, is tried as one that is alike.
-  abbrev TriesArgument : Option ApiValue → ℕ → Kind → ApiValue → Type 0
-  TriesArgument given k kind tried = kind ≢ kinds.Object → Numbers (argument_constants k) given (Some tried)
-
-  try_number : (given : Option ApiValue) (k : ℕ) (kind : Kind) → kind ≢ kinds.Object → IsNumberOf kinds.Int given → Among (arguments_at clause k kind) (TriesArgument given k kind)
-  try_number given k kind ne number =
-      let w = within (least_of kinds.Int) (greatest_of kinds.Int) number.0 number.2 in
-      let found = point_between (least_of kinds.Int) (greatest_of kinds.Int) number.0 (argument_constants k) w.least w.most in
-      let there : Has (numbers_at k) (api.Int found.point) = in_map api.Int (points_between (least_of kinds.Int) (greatest_of kinds.Int) (argument_constants k)) found.point found.there in
-      record {
-        item = api.Int found.point;
-        there = rw (numbers_are k kind ne) there;
-        so = λ ne. record { number = number.0; other = found.point; is = number.1; tried_is = refl; alike = found.alike };
-      }
-
-  try_argument : (given : Option ApiValue) (k : ℕ) (kind : Kind) → (kind ≢ kinds.Object → IsNumberOf kinds.Int given) → Among (arguments_at clause k kind) (TriesArgument given k kind)
-  try_argument given k kinds.Object fits = record { item = api.Null; there = inl refl; so = λ ne. absurd (ne refl) }
-  try_argument given k kinds.Int fits = try_number given k kinds.Int (λ e. absurd cc) (fits (λ e. absurd cc))
-  try_argument given k kinds.Bool fits = try_number given k kinds.Bool (λ e. absurd cc) (fits (λ e. absurd cc))
-  try_argument given k kinds.Byte fits = try_number given k kinds.Byte (λ e. absurd cc) (fits (λ e. absurd cc))
-  try_argument given k kinds.Short fits = try_number given k kinds.Short (λ e. absurd cc) (fits (λ e. absurd cc))
-  try_argument given k kinds.Char fits = try_number given k kinds.Char (λ e. absurd cc) (fits (λ e. absurd cc))
-
-  -- ---- all arguments
 
   abbrev pub tried_from : ℕ → List Kind → List (List ApiValue)
   tried_from n args = map (λ (a : ℕ × Kind). arguments_at clause a.0 a.1) (enumerate_from n args)
@@ -79,26 +80,32 @@ module _ (clause : Clause) where
   module _ (given : List ApiValue) where
     -- Where a number is asked, one is given; the first of the kinds has the number n.
     abbrev GivesFrom : ℕ → List Kind → Type 0
-    GivesFrom n args = (j k : ℕ) (kind : Kind) → k ≡ n + j → slice_get args j ≡ Some kind → kind ≢ kinds.Object → IsNumberOf kinds.Int (slice_get given k)
+    GivesFrom n args = (j k : ℕ) (kind : Kind) → k ≡ n + j → slice_get args j ≡ Some kind → IsNumberOf (passed_range kind) (slice_get given k)
 
     pub record Tried (n : ℕ) (args : List Kind) : Type 0 where
       pub values : List ApiValue
       pub choice : Choice (tried_from n args) values
-      pub tries : (j k : ℕ) (kind : Kind) → k ≡ n + j → slice_get args j ≡ Some kind → kind ≢ kinds.Object → Numbers (argument_constants k) (slice_get given k) (slice_get values j)
+      pub tries : (j k : ℕ) (kind : Kind) → k ≡ n + j → slice_get args j ≡ Some kind → NumbersOf (passed_range kind) (argument_constants k) (slice_get given k) (slice_get values j)
+
+    -- The argument at n is tried as one that is alike.
+    abbrev TriesArgument : ℕ → Kind → ApiValue → Type 0
+    TriesArgument n kind tried = NumbersOf (passed_range kind) (argument_constants n) (slice_get given n) (Some tried)
 
     pub try_all : (args : List Kind) (n : ℕ) → GivesFrom n args → Tried n args
     try_all [] n gives = record { values = []; choice = tt; tries = λ j k kind e there. absurd cc }
-    try_all (kind ∷ args) n gives = by (try_argument (slice_get given n) n kind (gives 0 n kind (omega arith) refl)) (try_all args (n + 1) (λ j k kind e there ne. gives (suc j) k kind (omega arith) there ne)) where
-      tries : (here : Among (arguments_at clause n kind) (TriesArgument (slice_get given n) n kind)) (rest : Tried (n + 1) args) (j k : ℕ) (asked : Kind) → k ≡ n + j → slice_get (kind ∷ args) j ≡ Some asked → asked ≢ kinds.Object
-          → Numbers (argument_constants k) (slice_get given k) (slice_get (here.item ∷ rest.values) j)
-      tries here rest zero k asked e there ne =
-          let same : n ≡ k = omega arith in
-          let kind_is : asked ≡ kind = cc in
-          subst (λ (i : ℕ). Numbers (argument_constants i) (slice_get given i) (Some here.item)) same (here.so (λ object. ne (kind_is ∙ object)))
-      tries here rest (suc j) k asked e there ne = rest.tries j k asked (omega arith) there ne
+    try_all (kind ∷ args) n gives =
+        by (try_value (slice_get given n) (passed_range kind) (argument_constants n) (gives 0 n kind (omega arith) refl)) (try_all args (n + 1) (λ j k kind e there. gives (suc j) k kind (omega arith) there)) where
+          tries : (here : Among (arguments_at clause n kind) (TriesArgument n kind)) (rest : Tried (n + 1) args) (j k : ℕ) (asked : Kind) → k ≡ n + j → slice_get (kind ∷ args) j ≡ Some asked
+              → NumbersOf (passed_range asked) (argument_constants k) (slice_get given k) (slice_get (here.item ∷ rest.values) j)
+          tries here rest zero k asked e there =
+              let same : n ≡ k = omega arith in
+              let kind_is : kind ≡ asked = cc in
+              subst (λ (i : ℕ). NumbersOf (passed_range asked) (argument_constants i) (slice_get given i) (Some here.item)) same
+              (subst (λ (q : Kind). TriesArgument n q here.item) kind_is here.so)
+          tries here rest (suc j) k asked e there = rest.tries j k asked (omega arith) there
 
-      by : Among (arguments_at clause n kind) (TriesArgument (slice_get given n) n kind) → Tried (n + 1) args → Tried n (kind ∷ args)
-      by here rest = record { values = here.item ∷ rest.values; choice = (here.there, rest.choice); tries = tries here rest }
+          by : Among (arguments_at clause n kind) (TriesArgument n kind) → Tried (n + 1) args → Tried n (kind ∷ args)
+          by here rest = record { values = here.item ∷ rest.values; choice = (here.there, rest.choice); tries = tries here rest }
 
 -- ---- results
 
@@ -106,37 +113,16 @@ module _ (clause : Clause) where
   abbrev pub result_constants : List ℤ
   result_constants = constants_of bases.Result (clause ∷ [])
 
-  abbrev pub results_at : Kind → List (Option ApiValue)
-  results_at kind = map (λ n. Some (api.Int n)) (points_between (least_of kind) (greatest_of kind) result_constants)
-
-  pub results_are : (kind : Kind) → kind ≢ kinds.Object → results_of clause (Some kind) ≡ results_at kind
-  results_are kinds.Int ne = refl
-  results_are kinds.Bool ne = refl
-  results_are kinds.Byte ne = refl
-  results_are kinds.Short ne = refl
-  results_are kinds.Char ne = refl
-  results_are kinds.Object ne = absurd (ne refl)
-
   -- The result, where it is a number, is tried as one that is alike.
   abbrev TriesResult : Option ApiValue → Option Kind → Option ApiValue → Type 0
-  TriesResult given asked tried = (kind : Kind) → asked ≡ Some kind → kind ≢ kinds.Object → Numbers result_constants given tried
+  TriesResult given asked tried = (kind : Kind) → asked ≡ Some kind → NumbersOf (number_range kind) result_constants given tried
 
-  try_given : (given : Option ApiValue) (kind : Kind) → kind ≢ kinds.Object → IsNumberOf kind given → Among (results_of clause (Some kind)) (TriesResult given (Some kind))
-  try_given given kind ne number =
-      let w = within (least_of kind) (greatest_of kind) number.0 number.2 in
-      let found = point_between (least_of kind) (greatest_of kind) number.0 result_constants w.least w.most in
-      let there : Has (results_at kind) (Some (api.Int found.point)) = in_map (λ n. Some (api.Int n)) (points_between (least_of kind) (greatest_of kind) result_constants) found.point found.there in
-      record {
-        item = Some (api.Int found.point);
-        there = rw (results_are kind ne) there;
-        so = λ asked e ne. record { number = number.0; other = found.point; is = number.1; tried_is = refl; alike = found.alike };
-      }
-
-  pub try_result : (given : Option ApiValue) (asked : Option Kind) → ((kind : Kind) → asked ≡ Some kind → kind ≢ kinds.Object → IsNumberOf kind given) → Among (results_of clause asked) (TriesResult given asked)
+  pub try_result : (given : Option ApiValue) (asked : Option Kind) → ((kind : Kind) → asked ≡ Some kind → IsNumberOf (number_range kind) given) → Among (results_of clause asked) (TriesResult given asked)
   try_result given None fits = record { item = None; there = inl refl; so = λ kind e. absurd cc }
-  try_result given (Some kinds.Object) fits = record { item = Some api.Null; there = inl refl; so = λ kind e ne. let same : kind ≡ kinds.Object = cc in absurd (ne same) }
-  try_result given (Some kinds.Int) fits = try_given given kinds.Int (λ e. absurd cc) (fits kinds.Int refl (λ e. absurd cc))
-  try_result given (Some kinds.Bool) fits = try_given given kinds.Bool (λ e. absurd cc) (fits kinds.Bool refl (λ e. absurd cc))
-  try_result given (Some kinds.Byte) fits = try_given given kinds.Byte (λ e. absurd cc) (fits kinds.Byte refl (λ e. absurd cc))
-  try_result given (Some kinds.Short) fits = try_given given kinds.Short (λ e. absurd cc) (fits kinds.Short refl (λ e. absurd cc))
-  try_result given (Some kinds.Char) fits = try_given given kinds.Char (λ e. absurd cc) (fits kinds.Char refl (λ e. absurd cc))
+  try_result given (Some first) fits =
+      let t = try_value given (number_range first) result_constants (fits first refl) in
+      record {
+        item = Some t.item;
+        there = in_map Some (values_in (number_range first) result_constants) t.item t.there;
+        so = λ kind e. let same : first ≡ kind = cc in subst (λ (q : Kind). NumbersOf (number_range q) result_constants given (Some t.item)) same t.so;
+      }

@@ -7,17 +7,16 @@ use Rattle.std.proofs.Math.Nat.{mul-le-mul_left, mul_comm}
 use Rattle.std.proofs.lemmas.Bool.{leb-true}
 use Rattle.conspec_tree.specs.declared.types.Base.TheVariants as bases
 use Rattle.conspec_tree.specs.declared.types.Kind.{Kind}
-use Rattle.conspec_tree.specs.declared.types.Kind.TheVariants as kinds
 use Rattle.conspec_tree.specs.declared.types.Phase.{Phase}
 use Rattle.conspec_tree.specs.declared.types.Phase.TheVariants.{Before, After, Exceptional}
 use Rattle.conspec_tree.specs.declared.types.Var.{Var}
 use Rattle.conspec_automaton.specs.declared.policy.Clause.{Clause}
 use Rattle.conspec_automaton.specs.declared.policy.Policy.{Policy}
-use Rattle.conspec_automaton.specs.Events.{greatest_of, least_of}
+use Rattle.conspec_automaton.specs.Events.{number_range, passed_range}
 use Rattle.conspec_automaton.specs.Points.{choices_of, constants_of, events_count, points_of, size_of, states_count}
 use Rattle.conspec_automaton.specs.Sound.{IsPolicy}
 use Rattle.conspec_automaton.specs.Trying.{Placed, Trial, capped, clauses_of, is_small, most}
-use Rattle.race_free_check.specs.Choosing.{argument_numbers, numbers_in, numbers_of, result_numbers}
+use Rattle.race_free_check.specs.Choosing.{argument_numbers, numbers_between, numbers_in, numbers_of, result_numbers}
 use Rattle.race_free_check.proofs.Making.{events_counted}
 use Rattle.race_free_check.proofs.Sizes.{some_between, some_points}
 
@@ -44,21 +43,15 @@ few_choices policy cs sound = let e = length_points policy.maxint cs policy.vars
 -- ---- counts
 
 module _ (c : Clause) where
+  some_numbers : (range : Option (ℤ × ℤ)) (cs : List ℤ) → 0 < length (numbers_between range cs)
+  some_numbers None cs = omega arith
+  some_numbers (Some range) cs = some_between range.0 range.1 cs
+
   some_argument : (i : ℕ) (kind : Kind) → 0 < length (argument_numbers c i kind)
-  some_argument i kinds.Int = some_between (least_of kinds.Int) (greatest_of kinds.Int) (constants_of (bases.Arg i) (c ∷ []))
-  some_argument i kinds.Bool = some_between (least_of kinds.Int) (greatest_of kinds.Int) (constants_of (bases.Arg i) (c ∷ []))
-  some_argument i kinds.Byte = some_between (least_of kinds.Int) (greatest_of kinds.Int) (constants_of (bases.Arg i) (c ∷ []))
-  some_argument i kinds.Short = some_between (least_of kinds.Int) (greatest_of kinds.Int) (constants_of (bases.Arg i) (c ∷ []))
-  some_argument i kinds.Char = some_between (least_of kinds.Int) (greatest_of kinds.Int) (constants_of (bases.Arg i) (c ∷ []))
-  some_argument i kinds.Object = omega arith
+  some_argument i kind = some_numbers (passed_range kind) (constants_of (bases.Arg i) (c ∷ []))
 
   some_result : (kind : Kind) → 0 < length (result_numbers c kind)
-  some_result kinds.Int = some_between (least_of kinds.Int) (greatest_of kinds.Int) (constants_of bases.Result (c ∷ []))
-  some_result kinds.Bool = some_between (least_of kinds.Bool) (greatest_of kinds.Bool) (constants_of bases.Result (c ∷ []))
-  some_result kinds.Byte = some_between (least_of kinds.Byte) (greatest_of kinds.Byte) (constants_of bases.Result (c ∷ []))
-  some_result kinds.Short = some_between (least_of kinds.Short) (greatest_of kinds.Short) (constants_of bases.Result (c ∷ []))
-  some_result kinds.Char = some_between (least_of kinds.Char) (greatest_of kinds.Char) (constants_of bases.Result (c ∷ []))
-  some_result kinds.Object = omega arith
+  some_result kind = some_numbers (number_range kind) (constants_of bases.Result (c ∷ []))
 
   some_arguments : (args : List Kind) (i : ℕ) → 0 < size_of (map (λ (a : ℕ × Kind). argument_numbers c a.0 a.1) (enumerate_from i args))
   some_arguments [] i = omega arith

@@ -8,11 +8,10 @@ use Rattle.api_listing.specs.declared.events.Event.{Event}
 use Rattle.api_listing.specs.declared.events.Event.TheVariants as events
 use Rattle.conspec_tree.specs.declared.types.Base.TheVariants as bases
 use Rattle.conspec_tree.specs.declared.types.Kind.{Kind}
-use Rattle.conspec_tree.specs.declared.types.Kind.TheVariants as kinds
 use Rattle.conspec_tree.specs.declared.types.Phase.{Phase}
 use Rattle.conspec_tree.specs.declared.types.Phase.TheVariants.{Before, After, Exceptional}
 use Rattle.conspec_automaton.specs.declared.policy.Clause.{Clause}
-use Rattle.conspec_automaton.specs.Events.{least_of, greatest_of}
+use Rattle.conspec_automaton.specs.Events.{number_range, passed_range}
 use Rattle.conspec_automaton.specs.Points.{constants_of, points_between, size_of}
 
 -- ---- choices, by their numbers
@@ -28,14 +27,16 @@ chosen (xs ∷ others) n = number_at xs (n / size_of others) ∷ chosen others (
 
 -- ---- the numbers of an event
 
--- An object counts as 0.
+-- the numbers of the range that are tried; an object counts as 0
+abbrev pub numbers_between : Option (ℤ × ℤ) → List ℤ → List ℤ
+numbers_between None constants = pos 0 ∷ []
+numbers_between (Some range) constants = points_between range.0 range.1 constants
+
 abbrev pub argument_numbers : Clause → ℕ → Kind → List ℤ
-argument_numbers clause i kinds.Object = pos 0 ∷ []
-argument_numbers clause i kind = points_between (least_of kinds.Int) (greatest_of kinds.Int) (constants_of (bases.Arg i) (clause ∷ []))
+argument_numbers clause i kind = numbers_between (passed_range kind) (constants_of (bases.Arg i) (clause ∷ []))
 
 abbrev pub result_numbers : Clause → Kind → List ℤ
-result_numbers clause kinds.Object = pos 0 ∷ []
-result_numbers clause kind = points_between (least_of kind) (greatest_of kind) (constants_of bases.Result (clause ∷ []))
+result_numbers clause kind = numbers_between (number_range kind) (constants_of bases.Result (clause ∷ []))
 
 abbrev pub numbers_in : Clause → Phase → List (List ℤ)
 numbers_in clause Before = map (λ (a : ℕ × Kind). argument_numbers clause a.0 a.1) (enumerate_from 0 clause.args)
@@ -46,10 +47,13 @@ numbers_in clause Exceptional = []
 abbrev pub numbers_of : Clause → List (List ℤ)
 numbers_of clause = numbers_in clause clause.phase
 
--- what a number is as a value of the type
+-- what a number is as a value of a type with this range, or of one of objects
+abbrev pub value_in : Option (ℤ × ℤ) → ℤ → ApiValue
+value_in None n = api.Null
+value_in (Some range) n = api.Int n
+
 abbrev pub value_as : Kind → ℤ → ApiValue
-value_as kinds.Object n = api.Null
-value_as kind n = api.Int n
+value_as kind n = value_in (number_range kind) n
 
 abbrev pub values_as : List Kind → List ℤ → List ApiValue
 values_as [] numbers = []

@@ -5,6 +5,7 @@ use Rattle.std.specs.Option.{option_map_or}
 use Rattle.conspec_tree.specs.declared.types.Phase.{Phase}
 use Rattle.conspec_automaton.specs.declared.policy.Policy.{Policy}
 use Rattle.mon_base.specs.Reading.{◌>>=◌, need}
+use Rattle.conspec_automaton.specs.Racing.{Pairs, all_pairs}
 use Rattle.conspec_automaton.specs.Sound.{IsClauseIn}
 use Rattle.conspec_automaton.specs.Trying.{Placed, Point, Trial, breaks, is_of_calls, is_small, point_count, points, trials}
 use Rattle.race_free_check.specs.declared.fault.RaceFault.{RaceFault}
@@ -44,9 +45,16 @@ abbrev pub all_small : Policy → List Trial → Result (Unit {0}) RaceFault
 all_small policy [] = Ok tt
 all_small policy (trial ∷ others) = small_or_told policy trial >>= λ small. all_small policy others
 
--- Too many points of any trial are told before anything is tried.
+-- what is decided over some trials: too many points of any are told before anything is tried
+abbrev pub decided_by : Policy → List Trial → Result RaceVerdict RaceFault
+decided_by policy all = all_small policy all >>= λ small. Ok (judged policy all)
+
+-- what is decided of the pairs of methods that are tested
+abbrev pub decided_for : Pairs → Policy → Result RaceVerdict RaceFault
+decided_for tested policy = decided_by policy (trials tested policy)
+
 abbrev pub decided : Policy → Result RaceVerdict RaceFault
-decided policy = all_small policy (trials policy) >>= λ small. Ok (judged policy (trials policy))
+decided policy = decided_for all_pairs policy
 
 -- The clauses of the trial are those of the policy, at their places.
 pub record AreClausesOf (policy : Policy) (trial : Trial) : Type 0 where

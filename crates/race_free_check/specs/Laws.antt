@@ -1,7 +1,7 @@
 -- That the points are enough, and that what breaks a condition at a point breaks it. (docs/RACES.md)
 use Rattle.std.specs.Prelude.{◌≡◌, ℕ, true, Some, None, slice_get}
 use Rattle.conspec_automaton.specs.declared.policy.Policy.{Policy}
-use Rattle.conspec_automaton.specs.Racing.{IsRaceFree}
+use Rattle.conspec_automaton.specs.Racing.{IsRaceFreeFor, Pairs}
 use Rattle.conspec_automaton.specs.Sound.{IsPolicy}
 use Rattle.conspec_automaton.specs.Trying.{Point, Trial, breaks, points, trials}
 use Rattle.race_free_check.specs.Deciding.{broken_in}
@@ -10,20 +10,20 @@ use Rattle.race_free_check.specs.Shown.{IsShown}
 -- A policy whose conditions no point breaks is race-free.
 abbrev pub PointsAreEnough : Type 0
 PointsAreEnough =
-    (policy : Policy) → IsPolicy policy
-    → ((i : ℕ) (trial : Trial) → slice_get (trials policy) i ≡ Some trial → broken_in policy trial ≡ None)
-    → IsRaceFree policy
+    (tested : Pairs) (policy : Policy) → IsPolicy policy
+    → ((i : ℕ) (trial : Trial) → slice_get (trials tested policy) i ≡ Some trial → broken_in policy trial ≡ None)
+    → IsRaceFreeFor tested policy
 
 -- A point that breaks a condition is of a state in range and of events that can be, and they break the condition of its trial.
 abbrev pub BrokenPointsShow : Type 0
 BrokenPointsShow =
-    (policy : Policy) → IsPolicy policy
-    → (i j : ℕ) (trial : Trial) (point : Point) → slice_get (trials policy) i ≡ Some trial → slice_get (points policy trial) j ≡ Some point
-    → breaks policy point ≡ true → IsShown policy trial.condition point.state point.first point.second
+    (tested : Pairs) (policy : Policy) → IsPolicy policy
+    → (i j : ℕ) (trial : Trial) (point : Point) → slice_get (trials tested policy) i ≡ Some trial → slice_get (points policy trial) j ≡ Some point
+    → breaks policy point ≡ true → IsShown tested policy trial.condition point.state point.first point.second
 
 -- A policy of which a point breaks a condition is not race-free.
 abbrev pub BrokenPointsRace : Type 0
 BrokenPointsRace =
-    (policy : Policy) → IsPolicy policy
-    → (i j : ℕ) (trial : Trial) (point : Point) → slice_get (trials policy) i ≡ Some trial → slice_get (points policy trial) j ≡ Some point
-    → breaks policy point ≡ true → IsRaceFree policy → ⊥
+    (tested : Pairs) (policy : Policy) → IsPolicy policy
+    → (i j : ℕ) (trial : Trial) (point : Point) → slice_get (trials tested policy) i ≡ Some trial → slice_get (points policy trial) j ≡ Some point
+    → breaks policy point ≡ true → IsRaceFreeFor tested policy → ⊥

@@ -2,6 +2,7 @@
 use Rattle.std.specs.Prelude.{◌≡◌, ℕ, ◌<◌, ◌≤◌, List, ◌∷◌, ◌++◌}
 use Rattle.std.specs.List.{AllByRecursion}
 use Rattle.conspec_automaton.specs.declared.policy.Policy.{Policy}
+use Rattle.conspec_automaton.specs.Racing.{Pairs}
 use Rattle.conspec_automaton.specs.Trying.{Trial, max_points, point_count, trials}
 use Rattle.race_free_check.specs.Deciding.{second_place}
 use Rattle.race_free_check.specs.declared.fault.RaceFault.{RaceFault}
@@ -11,8 +12,8 @@ abbrev pub HasFewPoints : Policy → Trial → Type 0
 HasFewPoints policy trial = point_count policy trial ≤ max_points
 
 -- No trial has more points than the limit.
-abbrev pub AllHaveFewPoints : Policy → Type 0
-AllHaveFewPoints policy = AllByRecursion (HasFewPoints policy) (trials policy)
+abbrev pub AllHaveFewPoints : Pairs → Policy → Type 0
+AllHaveFewPoints tested policy = AllByRecursion (HasFewPoints policy) (trials tested policy)
 
 -- Of the trials this is the first that has more points than the limit: it is of these clauses, and has so many.
 pub record IsAboveLimit (policy : Policy) (all : List Trial) (first second count : ℕ) : Type 0 where
@@ -27,6 +28,6 @@ pub record IsAboveLimit (policy : Policy) (all : List Trial) (first second count
   pub many : max_points < count
 
 -- A number of points that is told is that of the first trial that has too many.
-abbrev pub TellsLimit : Policy → RaceFault → Type 0
-TellsLimit policy (CellLimit first second count) = IsAboveLimit policy (trials policy) first second count
-TellsLimit policy Memory = Unit {0}
+abbrev pub TellsLimit : Pairs → Policy → RaceFault → Type 0
+TellsLimit tested policy (CellLimit first second count) = IsAboveLimit policy (trials tested policy) first second count
+TellsLimit tested policy Memory = Unit {0}

@@ -3,10 +3,10 @@
 ghost use Rattle.std.specs.Prelude.{◌≡◌, ◌≢◌, true, Ok, IfErr, IfOk, IsOk};
 ghost use Rattle.std.specs.List.{AllByRecursion};
 ghost use Rattle.mon_base.specs.Answer.{Answers};
-ghost use Rattle.conspec_automaton.specs.Racing.{IsRaceFree};
+ghost use Rattle.conspec_automaton.specs.Racing.{IsRaceFree, IsRaceFreeFor, all_pairs};
 ghost use Rattle.conspec_automaton.specs.Sound.{IsPolicy};
 ghost use Rattle.conspec_automaton.specs.Trying.{is_small, point_count};
-ghost use Rattle.race_free_check.specs.Deciding.{AreClausesOf, broken_in, all_small, decided, judged, second_place, small_or_told};
+ghost use Rattle.race_free_check.specs.Deciding.{AreClausesOf, broken_in, all_small, decided, decided_for, judged, second_place, small_or_told};
 ghost use Rattle.race_free_check.specs.Limit.{AllHaveFewPoints, TellsLimit};
 ghost use Rattle.race_free_check.specs.Shown.{ShowsRace};
 
@@ -14,6 +14,7 @@ use crate::apart::is_apart;
 use crate::events::events_count;
 use crate::fault::RaceFault;
 use crate::laws::{broken_points_show, points_are_enough};
+use crate::pairs::{AllPairs, PairTest};
 use crate::searching::{Point, broken_in};
 use crate::states::states_count;
 use crate::trial::{TrialRef, trials};
@@ -34,21 +35,38 @@ pub fn decide(alloc: Global, policy: &Policy) -> Result<RaceVerdict, RaceFault>
     ensures free { IfOk result (λ verdict. verdict ≡ RaceVerdict.Free → IsRaceFree policy.now) }
     ensures racy { IfOk result (λ verdict. verdict ≢ RaceVerdict.Free → IsRaceFree policy.now → ⊥) }
     // The state that is shown is in range, a program can make the events, and they break the condition of the number.
-    ensures shown { IfOk result (ShowsRace policy.now) }
+    ensures shown { IfOk result (ShowsRace all_pairs policy.now) }
     // It is decided only where no trial has too many points, and else the first that has too many is told.
-    ensures small { IsOk result → AllHaveFewPoints policy.now }
-    ensures limit { IfErr result (TellsLimit policy.now) }
+    ensures small { IsOk result → AllHaveFewPoints all_pairs policy.now }
+    ensures limit { IfErr result (TellsLimit all_pairs policy.now) }
+{
+    decide_pairs(alloc, policy, &AllPairs)
+}
+
+/// The same of the pairs of methods that are tested: whether the policy is race-free but for the others.
+pub fn decide_pairs<P: PairTest>(
+    alloc: Global,
+    policy: &Policy,
+    test: &P,
+) -> Result<RaceVerdict, RaceFault>
+    requires { IsPolicy policy.now }
+    ensures exact { Answers RaceFault.Memory result (decided_for (P.pairs test.now) policy.now) }
+    ensures free { IfOk result (λ verdict. verdict ≡ RaceVerdict.Free → IsRaceFreeFor (P.pairs test.now) policy.now) }
+    ensures racy { IfOk result (λ verdict. verdict ≢ RaceVerdict.Free → IsRaceFreeFor (P.pairs test.now) policy.now → ⊥) }
+    ensures shown { IfOk result (ShowsRace (P.pairs test.now) policy.now) }
+    ensures small { IsOk result → AllHaveFewPoints (P.pairs test.now) policy.now }
+    ensures limit { IfErr result (TellsLimit (P.pairs test.now) policy.now) }
 {
     points_are_enough();
     broken_points_show();
-    decided(alloc, policy)
+    decided(alloc, policy, test)
 }
 
-fn decided(alloc: Global, policy: &Policy) -> Result<RaceVerdict, RaceFault>
+fn decided<P: PairTest>(alloc: Global, policy: &Policy, test: &P) -> Result<RaceVerdict, RaceFault>
     requires { IsPolicy policy.now }
-    ensures { Answers RaceFault.Memory result (decided policy.now) }
+    ensures { Answers RaceFault.Memory result (decided_for (P.pairs test.now) policy.now) }
 {
-    let trials = trials(alloc, policy)?;
+    let trials = trials(alloc, policy, test)?;
     all_small(alloc, policy, trials.as_slice())?;
     judged(alloc, policy, trials.as_slice())
 }

@@ -8,7 +8,7 @@ ghost use Rattle.conspec_automaton.specs.Trying.{capped};
 ghost use Rattle.race_free_check.specs.Choosing.{IsMade, made, numbers_in, numbers_of, result_as, value_as, values_as};
 
 use crate::choices::Choosing;
-use crate::points::{argument_points, result_points};
+use crate::points::{argument_points, number_range, result_points};
 use api_listing::{ApiValue, Event};
 use conspec_automaton::Clause;
 use conspec_tree::{Kind, Phase};
@@ -138,9 +138,9 @@ fn result_of(kind: Option<Kind>, number: i32) -> Option<ApiValue>
 fn value_of(kind: Kind, number: i32) -> ApiValue
     ensures { result ≡ value_as kind number }
 {
-    match kind {
-        Kind::Object => ApiValue::Null,
-        _ => ApiValue::Int(number),
+    match number_range(kind) {
+        Some(_) => ApiValue::Int(number),
+        None => ApiValue::Null,
     }
 }
 

@@ -21,7 +21,7 @@ ghost use Rattle.race_free_check.specs.Small.{AreSmall};
 
 use crate::trial::TrialRef;
 use conspec_automaton::Clause;
-use conspec_tree::{Atom, Base, Update};
+use conspec_tree::{Atom, Base, Update, target};
 use mon_base::NoMemory;
 
 /// Whether an atom or an update of the clauses names the variable.
@@ -86,15 +86,6 @@ fn is_same(base: Base, other: Base) -> bool
         (Base::Arg(i), Base::Arg(j)) => i == j,
         (Base::Result, Base::Result) => true,
         _ => false,
-    }
-}
-
-fn target(update: Update) -> u32
-    ensures { result ≡ target update }
-{
-    match update {
-        Update::Set { var, .. } => var,
-        Update::Add { var, .. } => var,
     }
 }
 

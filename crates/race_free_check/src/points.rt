@@ -1,11 +1,11 @@
 //! The points of variables, arguments and results: the numbers at which it is tried whether events race.
 
-ghost use Rattle.std.specs.Prelude.{◌≡◌, ◌^◌, FitsSigned, IfOk};
+ghost use Rattle.std.specs.Prelude.{◌≡◌, ◌^◌, FitsSigned, IfOk, IfSome};
 ghost use Rattle.std.specs.Int.{w32};
-ghost use Rattle.conspec_automaton.specs.Events.{greatest_of, least_of};
+ghost use Rattle.conspec_automaton.specs.Events.{number_range, passed_range};
 ghost use Rattle.conspec_automaton.specs.Points.{marks, points_between, points_of, shifts, thresholds};
 ghost use Rattle.conspec_automaton.specs.Trying.{clauses_of};
-ghost use Rattle.race_free_check.specs.Choosing.{argument_numbers, result_numbers};
+ghost use Rattle.race_free_check.specs.Choosing.{argument_numbers, numbers_between, result_numbers};
 ghost use Rattle.race_free_check.specs.Small.{AreSmall, HasSame};
 
 use crate::naming::{
@@ -101,29 +101,34 @@ pub fn argument_points(
 ) -> Result<List<i32>, NoMemory>
     ensures { IfOk result (λ points. points ≡ argument_numbers clause.now place kind) }
 {
-    if kind == Kind::Object {
-        return numbers_of(alloc, &[0]);
-    }
     let mut constants = Vec::new(alloc);
     add_constants(&mut constants, clause, Base::Arg(place))?;
-    points_between(
-        alloc,
-        least_of(Kind::Int),
-        greatest_of(Kind::Int),
-        constants,
-    )
+    numbers_between(alloc, passed_range(kind), constants)
 }
 
 /// The numbers that the result of a clause for returns may be; 0 where it is an object.
 pub fn result_points(alloc: Global, clause: &Clause, kind: Kind) -> Result<List<i32>, NoMemory>
     ensures { IfOk result (λ points. points ≡ result_numbers clause.now kind) }
 {
-    if kind == Kind::Object {
-        return numbers_of(alloc, &[0]);
-    }
     let mut constants = Vec::new(alloc);
     add_constants(&mut constants, clause, Base::Result)?;
-    points_between(alloc, least_of(kind), greatest_of(kind), constants)
+    numbers_between(alloc, number_range(kind), constants)
+}
+
+/// The points of the range; 0 where there is none.
+fn numbers_between(
+    alloc: Global,
+    range: Option<(i64, i64)>,
+    constants: Vec<i64>,
+) -> Result<List<i32>, NoMemory>
+    requires small { AreSmall (2 ^ 31) constants.items }
+    requires fits { IfSome range (λ ends. FitsSigned w32 ends.0 × FitsSigned w32 ends.1) }
+    ensures { IfOk result (λ points. points ≡ numbers_between range constants.items) }
+{
+    match range {
+        Some((low, high)) => points_between(alloc, low, high, constants),
+        None => numbers_of(alloc, &[0]),
+    }
 }
 
 /// The ends of the range, and the constants with those beside them; 0 where there are none.
@@ -149,32 +154,28 @@ fn points_between(
     narrowed(alloc, points.as_slice())
 }
 
-/// The least number of the type.
-fn least_of(kind: Kind) -> i64
-    ensures is { result ≡ least_of kind }
-    ensures fits { FitsSigned w32 result }
+/// The range of what is passed: any number of 32 bits, for a narrow type too.
+fn passed_range(kind: Kind) -> Option<(i64, i64)>
+    ensures is { result ≡ passed_range kind }
+    ensures fits { IfSome result (λ ends. FitsSigned w32 ends.0 × FitsSigned w32 ends.1) }
 {
-    match kind {
-        Kind::Int => -2_147_483_648,
-        Kind::Bool => 0,
-        Kind::Byte => -128,
-        Kind::Short => -32_768,
-        Kind::Char => 0,
-        Kind::Object => 0,
+    match number_range(kind) {
+        Some(_) => number_range(Kind::Int),
+        None => None,
     }
 }
 
-/// The greatest number of the type.
-fn greatest_of(kind: Kind) -> i64
-    ensures is { result ≡ greatest_of kind }
-    ensures fits { FitsSigned w32 result }
+/// The least and the greatest number of the type; an object is no number.
+pub fn number_range(kind: Kind) -> Option<(i64, i64)>
+    ensures is { result ≡ number_range kind }
+    ensures fits { IfSome result (λ ends. FitsSigned w32 ends.0 × FitsSigned w32 ends.1) }
 {
     match kind {
-        Kind::Int => 2_147_483_647,
-        Kind::Bool => 1,
-        Kind::Byte => 127,
-        Kind::Short => 32_767,
-        Kind::Char => 65_535,
-        Kind::Object => 0,
+        Kind::Int => Some((-2_147_483_648, 2_147_483_647)),
+        Kind::Bool => Some((0, 1)),
+        Kind::Byte => Some((-128, 127)),
+        Kind::Short => Some((-32_768, 32_767)),
+        Kind::Char => Some((0, 65_535)),
+        Kind::Object => None,
     }
 }

@@ -2,9 +2,10 @@
 
 ghost use Rattle.std.specs.Prelude.{◌≡◌, ◌≤◌, ◌++◌, length, map, filter, IfOk, OnOk};
 ghost use Rattle.std.specs.List.{enumerate_from};
-ghost use Rattle.conspec_automaton.specs.Trying.{Placed, alone, both, is_of_calls, pairs, trials};
+ghost use Rattle.conspec_automaton.specs.Trying.{Placed, alone, both, is_of_calls, is_tested, pairs, trials};
 ghost use Rattle.race_free_check.specs.Deciding.{is_wanted};
 
+use crate::pairs::PairTest;
 use conspec_automaton::{Clause, Policy};
 use conspec_tree::Phase;
 use mon_base::NoMemory;
@@ -71,31 +72,38 @@ impl<'a> TrialRef<'a> {
     }
 }
 
-/// What is tried of the policy: that ends of calls are taken, that calls turn, that ends turn, and that ends may come first.
-pub fn trials<'a>(alloc: Global, policy: &'a Policy) -> Result<Vec<TrialRef<'a>>, NoMemory>
+/// What is tried of the policy: that ends of calls are taken, and of the pairs that are tested that calls turn, that ends
+/// turn, and that ends may come first.
+pub fn trials<'a, P: PairTest>(
+    alloc: Global,
+    policy: &'a Policy,
+    test: &P,
+) -> Result<Vec<TrialRef<'a>>, NoMemory>
     requires { length policy.now.clauses ≤ 64 }
-    ensures { IfOk result (λ found. found.items ≡ trials policy.now) }
+    ensures { IfOk result (λ found. found.items ≡ trials (P.pairs test.now) policy.now) }
 {
     let calls = clauses_where(alloc, policy, true)?;
     let ends = clauses_where(alloc, policy, false)?;
     let mut trials = Vec::new(alloc);
-    add_trials(&mut trials, calls.as_slice(), ends.as_slice())?;
+    add_trials(&mut trials, test, calls.as_slice(), ends.as_slice())?;
     Ok(trials)
 }
 
 /// Adds what is tried of the clauses for calls and of those for ends of calls, in the order of the conditions.
-fn add_trials<'a>(
+fn add_trials<'a, P: PairTest>(
     trials: &mut Vec<TrialRef<'a>>,
+    test: &P,
     calls: &[PlacedClause<'a>],
     ends: &[PlacedClause<'a>],
 ) -> Result<(), NoMemory>
     ensures { OnOk result (trials.new.items ≡ (((trials.old.items ++ map (alone 0) ends.now)
-        ++ pairs 1 calls.now calls.now) ++ pairs 2 ends.now ends.now) ++ pairs 3 calls.now ends.now) }
+        ++ pairs (P.pairs test.now) 1 calls.now calls.now) ++ pairs (P.pairs test.now) 2 ends.now ends.now)
+        ++ pairs (P.pairs test.now) 3 calls.now ends.now) }
 {
     add_alone(trials, 0, ends)?;
-    add_pairs(trials, 1, calls, calls)?;
-    add_pairs(trials, 2, ends, ends)?;
-    add_pairs(trials, 3, calls, ends)
+    add_pairs(trials, test, 1, calls, calls)?;
+    add_pairs(trials, test, 2, ends, ends)?;
+    add_pairs(trials, test, 3, calls, ends)
 }
 
 /// The clauses for calls, or those for ends of calls.
@@ -158,36 +166,41 @@ fn add_alone<'a>(
     Ok(())
 }
 
-fn add_pairs<'a>(
+fn add_pairs<'a, P: PairTest>(
     trials: &mut Vec<TrialRef<'a>>,
+    test: &P,
     condition: u8,
     firsts: &[PlacedClause<'a>],
     seconds: &[PlacedClause<'a>],
 ) -> Result<(), NoMemory>
-    ensures { OnOk result (trials.new.items ≡ trials.old.items ++ pairs condition firsts.now seconds.now) }
+    ensures { OnOk result (trials.new.items ≡ trials.old.items ++ pairs (P.pairs test.now) condition firsts.now seconds.now) }
 {
     for first in firsts {
-        add_pairs_with(trials, condition, first, seconds)?;
+        add_pairs_with(trials, test, condition, first, seconds)?;
     }
     Ok(())
 }
 
-fn add_pairs_with<'a>(
+fn add_pairs_with<'a, P: PairTest>(
     trials: &mut Vec<TrialRef<'a>>,
+    test: &P,
     condition: u8,
     first: &PlacedClause<'a>,
     seconds: &[PlacedClause<'a>],
 ) -> Result<(), NoMemory>
-    ensures { OnOk result (trials.new.items ≡ trials.old.items ++ map (both condition first.now) seconds.now) }
+    ensures { OnOk result (trials.new.items
+        ≡ trials.old.items ++ map (both condition first.now) (filter (is_tested (P.pairs test.now) first.now) seconds.now)) }
 {
-    for second in seconds {
-        let first = first.again();
-        let second = second.again();
-        trials.push(TrialRef {
-            condition,
-            first,
-            second: Some(second),
-        })?;
+    let mut left = seconds;
+    while let [second, rest @ ..] = left {
+        if test.is_tested(first.clause.method, second.clause.method) {
+            trials.push(TrialRef {
+                condition,
+                first: first.again(),
+                second: Some(second.again()),
+            })?;
+        }
+        left = rest;
     }
     Ok(())
 }

@@ -1,6 +1,6 @@
 -- The events of a typed program are well formed for a policy that tells the types of its methods.
 use Rattle.std.proofs.Common.{◌≡◌, ℕ, ℤ, zero, suc, ◌<◌, true, ◌&&◌, List, [], ◌∷◌, map, Option, Some, None, refl, sym, ap, subst, ◌∙◌, arith}
-use Rattle.std.specs.Prelude.{◌≢◌, pos, negsuc, ◌==◌, int_le, slice_get, option_map, FitsSigned}
+use Rattle.std.specs.Prelude.{◌≢◌, pos, negsuc, ◌-ℤ◌, ◌==◌, int_le, slice_get, option_map, FitsSigned, IfSome}
 use Rattle.std.specs.Int.{w32}
 use Rattle.std.specs.List.{AllByRecursion}
 use Rattle.std.proofs.lemmas.Bool.{and_parts, and_from, eqb-true, le-leb}
@@ -23,7 +23,7 @@ use Rattle.conspec_tree.specs.declared.types.Kind.TheVariants as kinds
 use Rattle.conspec_tree.specs.Kinds.{kind_of, array_kind, element_kind}
 use Rattle.conspec_automaton.specs.declared.policy.Clause.{Clause}
 use Rattle.conspec_automaton.specs.declared.policy.Policy.{Policy}
-use Rattle.conspec_automaton.specs.Events.{IsNumberOf, IsWellFormed, least_of, greatest_of}
+use Rattle.conspec_automaton.specs.Events.{IsNumberOf, IsWellFormed, number_range, passed_range}
 use Rattle.conspec_automaton.specs.Next.{clause_of, method_of, speaks_of}
 use Rattle.conspec_automaton.specs.Range.{is_between}
 use Rattle.guest_model.specs.Answers.{is_number_of, fits_number}
@@ -40,28 +40,28 @@ use Rattle.typed_runs.proofs.Within.{among}
 
 -- ---- numbers
 
-word_between : (n : ℤ) → FitsSigned w32 n → is_between (least_of kinds.Int) (greatest_of kinds.Int) n ≡ true
+word_between : (n : ℤ) → FitsSigned w32 n → is_between (pos 0 -ℤ pos 2147483648) (pos 2147483647) n ≡ true
 word_between (pos m) fits = let lt : m < 2147483648 = fits.sfits in le-leb m 2147483647 (omega arith)
 word_between (negsuc m) fits =
-    let lt : m < 2147483648 = fits.sfits in and_from (int_le (least_of kinds.Int) (negsuc m)) (int_le (negsuc m) (greatest_of kinds.Int))
+    let lt : m < 2147483648 = fits.sfits in and_from (int_le (pos 0 -ℤ pos 2147483648) (negsuc m)) (int_le (negsuc m) (pos 2147483647))
     (le-leb m 2147483647 (omega arith)) refl
 
 -- the numbers of an element are those of its kind
 number_between : (t : Element) (n : ℤ) → is_number_of t n ≡ true
-    → is_between (least_of (element_kind t)) (greatest_of (element_kind t)) n ≡ true
+    → IfSome (number_range (element_kind t)) (λ (range : ℤ × ℤ). is_between range.0 range.1 n ≡ true)
 number_between elements.Boolean n h = h
 number_between elements.Byte n h = h
 number_between elements.Char n h = h
 number_between elements.Short n h = h
 number_between elements.Int n h = h
-number_between (elements.Class name) n h = absurd cc
+number_between (elements.Class name) n h = tt
 
 answer_between : (t : FieldType) (n : ℤ) → fits_number (Some t) n ≡ true
-    → is_between (least_of (kind_of t)) (greatest_of (kind_of t)) n ≡ true
+    → IfSome (number_range (kind_of t)) (λ (range : ℤ × ℤ). is_between range.0 range.1 n ≡ true)
 answer_between t n h =
     let a = and_parts (t.dimensions == 0) (is_number_of t.element n) h in
     let none : t.dimensions ≡ 0 = eqb-true t.dimensions 0 a.0 in
-    subst (λ (k : Kind). is_between (least_of k) (greatest_of k) n ≡ true) (ap (λ (d : ℕ). array_kind d t.element) (sym none))
+    subst (λ (k : Kind). IfSome (number_range k) (λ (range : ℤ × ℤ). is_between range.0 range.1 n ≡ true)) (ap (λ (d : ℕ). array_kind d t.element) (sym none))
     (number_between t.element n a.1)
 
 -- a type of no object is one of numbers
@@ -78,24 +78,44 @@ kind_of_numbers (suc n) element some = absurd (some refl)
 of_numbers : (t : FieldType) (kind : Kind) → kind_of t ≡ kind → kind ≢ kinds.Object → is_of_numbers t ≡ true
 of_numbers t kind is some = kind_of_numbers t.dimensions t.element (λ object. some (sym is ∙ object))
 
+-- Where the type is one of numbers, it is a number of 32 bits that is passed.
+passed_number : (kind : Kind) (value : Option ApiValue) → (kind ≢ kinds.Object → IsNumberOf (number_range kinds.Int) value) → IsNumberOf (passed_range kind) value
+passed_number kinds.Int value each = each (λ e. absurd cc)
+passed_number kinds.Bool value each = each (λ e. absurd cc)
+passed_number kinds.Byte value each = each (λ e. absurd cc)
+passed_number kinds.Short value each = each (λ e. absurd cc)
+passed_number kinds.Char value each = each (λ e. absurd cc)
+passed_number kinds.Object value each = tt
+
+-- A number that is given, and in the range of its type.
+abbrev GivenNumber : Kind → Option ApiValue → Type 0
+GivenNumber kind value = (n : ℤ) × (value ≡ Some (api.Int n)) × IfSome (number_range kind) (λ (range : ℤ × ℤ). is_between range.0 range.1 n ≡ true)
+
+given_number : (kind : Kind) (value : Option ApiValue) → (kind ≢ kinds.Object → GivenNumber kind value) → IsNumberOf (number_range kind) value
+given_number kinds.Int value each = each (λ e. absurd cc)
+given_number kinds.Bool value each = each (λ e. absurd cc)
+given_number kinds.Byte value each = each (λ e. absurd cc)
+given_number kinds.Short value each = each (λ e. absurd cc)
+given_number kinds.Char value each = each (λ e. absurd cc)
+given_number kinds.Object value each = tt
+
 -- ---- what is passed, and what is given
 
 passed : (types : List FieldType) (args : List Kind) (arguments : List ApiValue) → args ≡ map kind_of types
     → AllByRecursion IsWordSeen arguments → ArePassedNumbers types arguments
-    → (i : ℕ) (kind : Kind) → slice_get args i ≡ Some kind → kind ≢ kinds.Object → IsNumberOf kinds.Int (slice_get arguments i)
-passed types args arguments told words numbers i kind e some =
+    → (i : ℕ) (kind : Kind) → slice_get args i ≡ Some kind → IsNumberOf (passed_range kind) (slice_get arguments i)
+passed types args arguments told words numbers i kind e = passed_number kind (slice_get arguments i) (λ some.
     let m = map_of kind_of (slice_get types i) kind (sym (slice_get-map kind_of types i) ∙ ap (λ (ks : List Kind). slice_get ks i) (sym told) ∙ e) in
     let n = numbers i m.0 m.1 (of_numbers m.0 kind m.2 some) in
-    (n.0, n.1, word_between n.0 (all_get IsWordSeen arguments i (api.Int n.0) words n.1))
+    (n.0, n.1, word_between n.0 (all_get IsWordSeen arguments i (api.Int n.0) words n.1)))
 
 given : (type : Option FieldType) (result : Option Kind) (value : Option ApiValue) → result ≡ option_map kind_of type
     → IsReturned type value
-    → (kind : Kind) → result ≡ Some kind → kind ≢ kinds.Object → IsNumberOf kind value
-given None result value told returned kind e some = absurd cc
-given (Some t) result value told returned kind e some =
+    → (kind : Kind) → result ≡ Some kind → IsNumberOf (number_range kind) value
+given None result value told returned kind e = absurd cc
+given (Some t) result value told returned kind e =
     let same : kind_of t ≡ kind = cc in
-    let n = returned (of_numbers t kind same some) in
-    subst (λ (k : Kind). IsNumberOf k value) same (n.0, n.1, answer_between t n.0 n.2)
+    subst (λ (k : Kind). IsNumberOf (number_range k) value) same (given_number (kind_of t) value (λ some. let n = returned (of_numbers t (kind_of t) refl some) in (n.0, n.1, answer_between t n.0 n.2)))
 
 -- ---- events
 

@@ -1,6 +1,6 @@
 -- Events that are not well formed for a policy that tells the types of its methods.
 use Rattle.std.proofs.Common.{◌≡◌, ℕ, ℤ, ◌≤◌, true, List, map, Option, Some, None, refl, sym, ap, subst, ◌∙◌, arith}
-use Rattle.std.specs.Prelude.{◌≢◌, pos, int_le, is_some, slice_get, option_map}
+use Rattle.std.specs.Prelude.{pos, ◌-ℤ◌, int_le, is_some, slice_get, option_map}
 use Rattle.std.proofs.lemmas.Bool.{and_parts, leb-true}
 use Rattle.std.proofs.lemmas.Option.{slice_get-map}
 use Rattle.api_listing.specs.declared.descriptor.MethodType.{MethodType}
@@ -14,7 +14,7 @@ use Rattle.conspec_tree.specs.declared.types.Kind.TheVariants as kinds
 use Rattle.conspec_tree.specs.Kinds.{kind_of}
 use Rattle.conspec_automaton.specs.declared.policy.Clause.{Clause}
 use Rattle.conspec_automaton.specs.declared.policy.Policy.{Policy}
-use Rattle.conspec_automaton.specs.Events.{IsNumberOf, least_of, greatest_of}
+use Rattle.conspec_automaton.specs.Events.{IsNumberOf, number_range}
 use Rattle.conspec_automaton.specs.Next.{clause_of}
 use Rattle.conspec_automaton.specs.Range.{is_between}
 use Rattle.typed_runs.specs.IllFormed.{IsAskedOf, NullIsNoArgument, NullIsNoResult, WideIsNoResult}
@@ -45,18 +45,15 @@ asks listing policy types event a = by (clause_of policy event) refl a.asked whe
 
 -- ---- values that are no int
 
-int_some : kinds.Int ≢ kinds.Object
-int_some e = absurd cc
-
-null_is_none : (value : Option ApiValue) → value ≡ Some api.Null → IsNumberOf kinds.Int value → ⊥
+null_is_none : (value : Option ApiValue) → value ≡ Some api.Null → IsNumberOf (number_range kinds.Int) value → ⊥
 null_is_none value is number = let same : Some api.Null ≡ Some (api.Int number.0) = sym is ∙ number.1 in absurd cc
 
-wide_is_none : (n : ℕ) → 2147483648 ≤ n → IsNumberOf kinds.Int (Some (api.Int (pos n))) → ⊥
+wide_is_none : (n : ℕ) → 2147483648 ≤ n → IsNumberOf (number_range kinds.Int) (Some (api.Int (pos n))) → ⊥
 wide_is_none n wide number =
     let given : Some (api.Int (pos n)) ≡ Some (api.Int number.0) = number.1 in
     let same : number.0 ≡ pos n = cc in
-    let within = subst (λ (m : ℤ). is_between (least_of kinds.Int) (greatest_of kinds.Int) m ≡ true) same number.2 in
-    let below : n ≤ 2147483647 = leb-true n 2147483647 (and_parts (int_le (least_of kinds.Int) (pos n)) (int_le (pos n) (greatest_of kinds.Int)) within).1 in
+    let within = subst (λ (m : ℤ). is_between (pos 0 -ℤ pos 2147483648) (pos 2147483647) m ≡ true) same number.2 in
+    let below : n ≤ 2147483647 = leb-true n 2147483647 (and_parts (int_le (pos 0 -ℤ pos 2147483648) (pos n)) (int_le (pos n) (pos 2147483647)) within).1 in
     absurd (omega arith)
 
 -- ---- the events
@@ -64,16 +61,16 @@ wide_is_none n wide number =
 pub null_is_no_result : NullIsNoResult
 null_is_no_result listing policy types thread method a int formed =
     let c = asks listing policy types (events.Return thread method (Some api.Null)) a in
-    null_is_none (Some api.Null) refl (formed c.clause c.of kinds.Int (c.result ∙ ap (option_map kind_of) int) int_some)
+    null_is_none (Some api.Null) refl (formed c.clause c.of kinds.Int (c.result ∙ ap (option_map kind_of) int))
 
 pub wide_is_no_result : WideIsNoResult
 wide_is_no_result n wide listing policy types thread method a int formed =
     let c = asks listing policy types (events.Return thread method (Some (api.Int (pos n)))) a in
-    wide_is_none n wide (formed c.clause c.of kinds.Int (c.result ∙ ap (option_map kind_of) int) int_some)
+    wide_is_none n wide (formed c.clause c.of kinds.Int (c.result ∙ ap (option_map kind_of) int))
 
 pub null_is_no_argument : NullIsNoArgument
 null_is_no_argument listing policy types thread method i arguments a int null formed =
     let c = asks listing policy types (events.Call thread method arguments) a in
     let kind : slice_get c.clause.args i ≡ Some kinds.Int =
     ap (λ (ks : List Kind). slice_get ks i) c.args ∙ slice_get-map kind_of types.arguments i ∙ ap (option_map kind_of) int in
-    null_is_none (slice_get arguments i) null (formed c.clause c.of i kinds.Int kind int_some)
+    null_is_none (slice_get arguments i) null (formed c.clause c.of i kinds.Int kind)

@@ -3,4 +3,4 @@ use Rattle.conspec_automaton.specs.Trying.{pairs}
 use Rattle.race_free_check.proofs.trial.add_pairs.Given as goal
 
 abbrev pub invariant-loop-first : goal.invariant-loop-first
-invariant-loop-first l = l.trials.items ≡ l.fn.trials.items ++ pairs l.condition (take l.first-index l.firsts) l.seconds
+invariant-loop-first g l = l.trials.items ≡ l.fn.trials.items ++ pairs (g.P.PairTest.pairs l.test) l.condition (take l.first-index l.firsts) l.seconds

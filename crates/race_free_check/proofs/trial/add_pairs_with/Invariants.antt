@@ -1,6 +1,11 @@
-use Rattle.std.proofs.Common.{◌≡◌, ◌++◌, take, map}
-use Rattle.conspec_automaton.specs.Trying.{both}
+use Rattle.std.proofs.Common.{◌≡◌, ◌++◌, length, map, filter}
+use Rattle.conspec_automaton.specs.Trying.{both, is_tested}
 use Rattle.race_free_check.proofs.trial.add_pairs_with.Given as goal
 
-abbrev pub invariant-loop-second : goal.invariant-loop-second
-invariant-loop-second l = l.trials.items ≡ l.fn.trials.items ++ map (both l.condition l.first) (take l.second-index l.seconds)
+abbrev pub invariant-loop-left : goal.invariant-loop-left
+invariant-loop-left g l =
+    l.trials.items ++ map (both l.condition l.first) (filter (is_tested (g.P.PairTest.pairs l.test) l.first) l.left)
+    ≡ l.fn.trials.items ++ map (both l.condition l.first) (filter (is_tested (g.P.PairTest.pairs l.test) l.first) l.seconds)
+
+abbrev pub decreases-loop-left : goal.decreases-loop-left
+decreases-loop-left g l = length l.left
