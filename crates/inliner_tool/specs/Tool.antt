@@ -1,5 +1,5 @@
 -- What the top call answers, and what it prints. (docs/COMMANDS.md)
-use Rattle.std.specs.Prelude.{◌≡◌, ◌⊎◌, ℕ, List, Option, Result, Ok, Err}
+use Rattle.std.specs.Prelude.{◌≡◌, ◌≢◌, ◌⊎◌, ℕ, List, Option, Result, Ok, Err}
 use Rattle.bytecode_model.specs.declared.program.Program.{Program}
 use Rattle.mon_store.specs.Store.{Files}
 use Rattle.mon_store.specs.Sink.{Appends, AppendsFront}
@@ -110,9 +110,10 @@ status_of (answers.Unwritten name) = statuses.StoreFault
 status_of answers.Usage = statuses.Usage
 status_of answers.Memory = statuses.Memory
 
--- There is an answer whose case holds, and of which this is so.
+-- There is an answer whose case holds, other than that memory ran out, and of which this is so.
 pub record Answered (old new : Files) (count : Count) (words : List (List ℕ)) (P : Answer → Type 0) : Type 0 where
   pub answer : Answer
+  pub made : answer ≢ answers.Memory
   pub says : Says old new count words answer
   pub so : P answer
 
