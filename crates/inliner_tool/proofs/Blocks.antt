@@ -41,15 +41,15 @@ linked_by (Ok other) program e =
     ap (λ (p : Program). Ok p) same
 linked_by (Err fault) program e = absurd cc
 
-original_by : (long : Bool) (total : ℕ) (r : Linked Program) (program : Program) → cond long (Err (refusals.TotalLong total)) (link_step r) ≡ Ok program → r ≡ Ok program
-original_by true total r program e = absurd cc
-original_by false total r program e = linked_by r program e
+pub limit_by : (long : Bool) (total : ℕ) (r : Linked Program) (program : Program) → cond long (Err (refusals.TotalLong total)) (link_step r) ≡ Ok program → r ≡ Ok program
+limit_by true total r program e = absurd cc
+limit_by false total r program e = linked_by r program e
 
 -- The files of an input link to the program.
 pub inputs_link : (named : NamedInline) (inputs : InlineInputs) (client : Program) → original inputs.listing inputs.classes named.main ≡ Ok client
     → linked inputs.classes.files inputs.listing named.main Original ≡ Ok client
 inputs_link named inputs client links =
-    original_by (nat_lt 16777216 inputs.classes.total) inputs.classes.total (linked inputs.classes.files inputs.listing named.main Original) client links
+    limit_by (nat_lt 16777216 inputs.classes.total) inputs.classes.total (linked inputs.classes.files inputs.listing named.main Original) client links
 
 -- A program that files link to is the one that they link to.
 pub same_program : (r : Linked Program) (a b : Program) → r ≡ Ok a → r ≡ Ok b → a ≡ b

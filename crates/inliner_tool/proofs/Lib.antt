@@ -7,6 +7,7 @@ pub mod RunDecision
 pub mod Told
 pub mod ToldClasses
 mod TypedRuns
+mod Headlines
 mod Constants
 mod Listed
 mod Counting

@@ -5,11 +5,16 @@ use Rattle.mon_store.specs.Store.{Files}
 use Rattle.inliner_tool.specs.declared.tool.Status.TheVariants as statuses
 use Rattle.inliner_tool.specs.Tool.{Says, status_of}
 use Rattle.inliner_tool.proofs.Decides.{meant}
+use Rattle.inliner_tool.proofs.Headlines.{obeyed}
 use Rattle.inliner_tool.proofs.Replying.{checked_runs, ends_well, replied}
 use Rattle.inliner_tool.proofs.tool.run_tool.Goals as goal
 
 pub returns-in-Ok-put-clause-headline : goal.returns-in-Ok-put-clause-headline
-returns-in-Ok-put-clause-headline g c = λ named is done. c.answer_to-answer.ensures.holds named is (ends_well c.answer_to-answer.result (sym c.status_of-status.ensures ∙ done))
+returns-in-Ok-put-clause-headline g c = λ named is done.
+    obeyed _ _ named (c.answer_to-answer.ensures.holds named is (ends_well c.answer_to-answer.result (sym c.status_of-status.ensures ∙ done)))
+
+pub returns-in-Ok-put-clause-accepted : goal.returns-in-Ok-put-clause-accepted
+returns-in-Ok-put-clause-accepted g c = λ named is done. c.answer_to-answer.ensures.holds named is (ends_well c.answer_to-answer.result (sym c.status_of-status.ensures ∙ done))
 
 pub returns-in-Ok-put-clause-runs : goal.returns-in-Ok-put-clause-runs
 returns-in-Ok-put-clause-runs g c = λ named is done. checked_runs _ _ named (c.answer_to-answer.ensures.holds named is (ends_well c.answer_to-answer.result (sym c.status_of-status.ensures ∙ done)))
