@@ -8,6 +8,7 @@ pub mod Told
 pub mod ToldClasses
 mod TypedRuns
 mod Headlines
+mod Once
 mod Constants
 mod Listed
 mod Counting

@@ -5,7 +5,7 @@ ghost use Rattle.command_words.specs.InlineWords.{IsInline, NamedInline};
 ghost use Rattle.command_words.specs.ReplayWords.{IsReplay, NamedReplay};
 ghost use Rattle.command_words.specs.Words.{IsCheck, NamedCheck};
 ghost use Rattle.inliner_tool.specs.Answers.{EndsWell};
-ghost use Rattle.inliner_tool.specs.Decides.{Decides};
+ghost use Rattle.inliner_tool.specs.Decides.{Decides, GivesOnce};
 ghost use Rattle.inliner_tool.specs.Headline.{Obeyed};
 ghost use Rattle.inliner_tool.specs.Inline.{IsInlined, Leaves};
 ghost use Rattle.inliner_tool.specs.Replay.{ReplayedRuns};
@@ -136,6 +136,11 @@ pub fn run_tool<S: Store, K: Sink>(
         Err(SinkFault::Memory) => Status::Memory,
     }
 }
+
+/// A command has one answer to the same files; but of `inline` it is left open which of the least typings a certificate tells.
+pub fn answers_are_one()
+    ensures { GivesOnce }
+{}
 
 /// The answer to the words, over the store's files.
 fn answer_to<S: Store>(alloc: Global, words: &[Bytes], store: &mut S) -> Answer
