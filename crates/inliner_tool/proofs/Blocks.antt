@@ -6,7 +6,6 @@ use Rattle.bytecode_model.specs.declared.program.Program.{Program}
 use Rattle.bytecode_model.specs.declared.program.Side.TheVariants.{Original}
 use Rattle.bytecode_model.specs.Files.{unlinked}
 use Rattle.bytecode_model.specs.Sound.{IsSound}
-use Rattle.bytecode_model.specs.Typed.{IsTyped}
 use Rattle.block_logic.specs.Accepted.{IsAccepted}
 use Rattle.block_template.specs.Blocks.{plan_of}
 use Rattle.block_template.specs.Good.{HasNumbers, PlansAreGood}
@@ -30,7 +29,7 @@ use Rattle.woven_linking.specs.Program.{IsWovenOf}
 use Rattle.inliner_tool.specs.declared.refusal.Refusal.TheVariants as refusals
 use Rattle.inliner_tool.specs.declared.inline.Given.{Given}
 use Rattle.inliner_tool.specs.declared.inline.Ready.{Ready}
-use Rattle.inliner_tool.specs.Programs.{Equals, Step, UnlessMemory, link_step, woven_links}
+use Rattle.inliner_tool.specs.Programs.{AreTypes, Equals, Step, UnlessMemory, link_step, woven_links}
 use Rattle.inliner_tool.specs.Weaving.{Accepts, IsPlanned, IsRewoven, Remakes, Told, certificate_for, mode_for, original, outputs_step}
 use Rattle.inliner_tool.proofs.Constants.{has_numbers}
 use Rattle.inliner_tool.proofs.Counting.{assembled_of, files_counted}
@@ -42,15 +41,15 @@ linked_by (Ok other) program e =
     ap (λ (p : Program). Ok p) same
 linked_by (Err fault) program e = absurd cc
 
-original_by : (long : Bool) (total : ℕ) (r : Linked Program) (program : Program) → cond long (Err (refusals.TotalLong total)) (link_step r) ≡ Ok program → r ≡ Ok program
-original_by true total r program e = absurd cc
-original_by false total r program e = linked_by r program e
+pub limit_by : (long : Bool) (total : ℕ) (r : Linked Program) (program : Program) → cond long (Err (refusals.TotalLong total)) (link_step r) ≡ Ok program → r ≡ Ok program
+limit_by true total r program e = absurd cc
+limit_by false total r program e = linked_by r program e
 
 -- The files of an input link to the program.
 pub inputs_link : (named : NamedInline) (inputs : InlineInputs) (client : Program) → original inputs.listing inputs.classes named.main ≡ Ok client
     → linked inputs.classes.files inputs.listing named.main Original ≡ Ok client
 inputs_link named inputs client links =
-    original_by (nat_lt 16777216 inputs.classes.total) inputs.classes.total (linked inputs.classes.files inputs.listing named.main Original) client links
+    limit_by (nat_lt 16777216 inputs.classes.total) inputs.classes.total (linked inputs.classes.files inputs.listing named.main Original) client links
 
 -- A program that files link to is the one that they link to.
 pub same_program : (r : Linked Program) (a b : Program) → r ≡ Ok a → r ≡ Ok b → a ≡ b
@@ -87,7 +86,7 @@ module _ (links : WovenLinks) (good : PlansAreGood) (inputs : InlineInputs) (kno
       (assembled_of inputs.classes.files inputs.listing main Original given.client client_links) sound (good given.policy given.mode is_policy numbers) is_policy.few_vars weaves
 
 module _ (named : NamedInline) (inputs : InlineInputs) (given : Given) (made : Woven) (links : original inputs.listing inputs.classes named.main ≡ Ok given.client)
-    (typed : IsTyped given.client given.typing) (is : given.policy ≡ built inputs.policy) (chosen : mode_for named.weaving inputs.policy ≡ Ok given.mode) (listing : given.client.listing ≡ inputs.listing)
+    (typed : AreTypes given.client given.typing) (is : given.policy ≡ built inputs.policy) (chosen : mode_for named.weaving inputs.policy ≡ Ok given.mode) (listing : given.client.listing ≡ inputs.listing)
     (weaves : woven given.client (plan_of given.policy given.mode) given.policy.vars ≡ Ok made)
     (remade : (new : Program) × ((woven_links made.files inputs.listing named.main ≡ Ok new) × IsWoven given.client (plan_of given.policy given.mode) given.policy.vars new)) where
   whole : (ready : Ready) → IsRewoven named given made.files ready → IsPlanned named inputs ready

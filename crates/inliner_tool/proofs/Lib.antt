@@ -7,6 +7,8 @@ pub mod RunDecision
 pub mod Told
 pub mod ToldClasses
 mod TypedRuns
+mod Headlines
+mod Once
 mod Constants
 mod Listed
 mod Counting

@@ -6,7 +6,6 @@ use Rattle.bytecode_model.specs.declared.program.Side.TheVariants.{Original}
 use Rattle.bytecode_model.specs.Layout.{IsLaidOut}
 use Rattle.bytecode_model.specs.Sound.{IsSound}
 use Rattle.bytecode_model.specs.Standing.{IsLinkedOf}
-use Rattle.bytecode_model.specs.Typed.{IsTyped}
 use Rattle.class_weaving.specs.declared.woven.Woven.{Woven}
 use Rattle.class_weaving.specs.Woven.{woven}
 use Rattle.command_words.specs.InlineWords.{NamedInline}
@@ -16,6 +15,7 @@ use Rattle.input_files.specs.declared.inline_inputs.InlineInputs.{InlineInputs}
 use Rattle.input_files.specs.InlineInputs.{InlineSound}
 use Rattle.inliner_tool.specs.declared.inline.Given.{Given}
 use Rattle.inliner_tool.specs.Expected.{IsMadeOf}
+use Rattle.inliner_tool.specs.Programs.{AreTypes}
 use Rattle.inliner_tool.specs.Weaving.{IsGathered, original}
 use Rattle.inliner_tool.proofs.Blocks.{few_woven, inputs_link}
 use Rattle.inliner_tool.proofs.Planned.{sound_for}
@@ -27,8 +27,8 @@ module _ (inputs : InlineInputs) (client : Program) (given : Given) (gathered : 
   pub client_links : (named : NamedInline) → original inputs.listing inputs.classes named.main ≡ Ok client → original inputs.listing inputs.classes named.main ≡ Ok given.client
   client_links named links = links ∙ ap (λ (p : Program). Ok p) (sym gathered.client)
 
-  pub client_typed : IsTyped client given.typing → IsTyped given.client given.typing
-  client_typed typed = subst (λ (p : Program). IsTyped p given.typing) (sym gathered.client) typed
+  pub client_typed : AreTypes client given.typing → AreTypes given.client given.typing
+  client_typed typed = subst (λ (p : Program). AreTypes p given.typing) (sym gathered.client) typed
 
   pub client_laid_out : IsLaidOut given.client given.typing.frames
   client_laid_out = subst (λ (p : Program). IsLaidOut p given.typing.frames) (sym gathered.client) gathered.laid_out

@@ -6,7 +6,6 @@ use Rattle.api_listing.specs.declared.types.Listing.{Listing}
 use Rattle.block_logic.specs.Obeying.{FitsListing}
 use Rattle.block_template.specs.Blocks.{plan_of}
 use Rattle.bytecode_model.specs.declared.program.Program.{Program}
-use Rattle.bytecode_model.specs.Typed.{IsTyped}
 use Rattle.class_weaving.specs.declared.woven.Woven.{Woven}
 use Rattle.class_weaving.specs.Woven.{woven}
 use Rattle.command_words.specs.InlineWords.{NamedInline}
@@ -20,7 +19,7 @@ use Rattle.inliner_tool.specs.declared.refusal.Refusal.{Refusal}
 use Rattle.inliner_tool.specs.declared.inline.Given.{Given}
 use Rattle.inliner_tool.specs.declared.inline.Ready.{Ready}
 use Rattle.inliner_tool.specs.Policy.{IsSoundFor}
-use Rattle.inliner_tool.specs.Programs.{Equals, Step, Types, UnlessMemory}
+use Rattle.inliner_tool.specs.Programs.{AreTypes, Equals, Step, Types, UnlessMemory}
 use Rattle.inliner_tool.specs.Weaving.{Chosen, Fits, Gathers, Plans, Remakes, Typed, mode_for, original, weave_step}
 use Rattle.inliner_tool.proofs.Listed.{fits_listing}
 use Rattle.inliner_tool.proofs.Planning.{first_fails, later}
@@ -67,10 +66,10 @@ module _ (named : NamedInline) (inputs : InlineInputs) (client : Program) (links
         fits_so result (later (Equals (weave_step (woven given.client (plan_of given.policy given.mode) given.policy.vars))) (Remakes named.main named.folder given) made weaves result told)
 
     -- the types that were found, and the mode that was chosen
-    pub typed_so : IsTyped client given.typing × (mode_for named.weaving inputs.policy ≡ Ok given.mode)
+    pub typed_so : AreTypes client given.typing × (mode_for named.weaving inputs.policy ≡ Ok given.mode)
     typed_so = by gathers
       where
-        by : Gathers named.weaving inputs.policy client (Ok given) → IsTyped client given.typing × (mode_for named.weaving inputs.policy ≡ Ok given.mode)
+        by : Gathers named.weaving inputs.policy client (Ok given) → AreTypes client given.typing × (mode_for named.weaving inputs.policy ≡ Ok given.mode)
         by (typing, typed, (mode, chosen, same)) =
             let is : given ≡ record { client = client; typing = typing; policy = built inputs.policy; mode = mode } = ok_is Refusal given _ same in
-            (subst (λ (g : Given). IsTyped client g.typing) (sym is) typed, subst (λ (g : Given). mode_for named.weaving inputs.policy ≡ Ok g.mode) (sym is) (sym chosen))
+            (subst (λ (g : Given). AreTypes client g.typing) (sym is) typed, subst (λ (g : Given). mode_for named.weaving inputs.policy ≡ Ok g.mode) (sym is) (sym chosen))

@@ -1,7 +1,8 @@
 -- What `inline` wrote is read again, links, and is accepted.
-use Rattle.std.proofs.Common.{◌≡◌, ◌⊎◌, inl, inr, ℕ, zero, suc, ◌≤◌, Bool, true, false, cond, List, [], ◌∷◌, ◌++◌, length, map, Some, Result, Ok, Err, refl, sym, ap, subst, ◌∙◌, arith}
+use Rattle.std.proofs.Common.{◌≡◌, ◌⊎◌, inl, inr, ℕ, zero, suc, ◌+◌, ◌-◌, ◌^◌, ◌≤◌, Bool, true, false, cond, List, [], ◌∷◌, ◌++◌, length, map, Some, Result, Ok, Err, refl, sym, ap, subst, ◌∙◌, arith}
 use Rattle.std.specs.Prelude.{IsSome, nat_le, nat_lt, slice_get}
 use Rattle.std.specs.List.{AllByRecursion}
+use Rattle.std.proofs.Math.Nat.{min-eq_left}
 use Rattle.std.proofs.lemmas.Bool.{and_parts, le-ltb, leb-true}
 use Rattle.bytecode_model.specs.declared.program.LinkedClass.{LinkedClass}
 use Rattle.bytecode_model.specs.declared.program.Program.{Program}
@@ -121,9 +122,11 @@ module _ (files : Files) (folder : List ℕ) where
     fits : CanSpellClass c.file
     short : size_of c ≤ 1048576
 
-  all_there : (list : List LinkedClass) → AllByRecursion IsThere list → MayClasses files (map (class_name folder) list) (map (λ (c : LinkedClass). c.file) list) (sizes_of list)
-  all_there [] all = refl
-  all_there (c ∷ list) all = (size_of c, sizes_of list, refl, class_may files (class_name folder c) c.file all.0.has all.0.fits all.0.short, all_there list all.1)
+  all_there : (list : List LinkedClass) → sizes_of list ≤ 16777216 → AllByRecursion IsThere list → MayClasses files (map (class_name folder) list) (map (λ (c : LinkedClass). c.file) list) (sizes_of list)
+  all_there [] few all = refl
+  all_there (c ∷ list) few all =
+      let told : size_of c + sizes_of list ≤ 2 ^ 64 - 1 = omega (arith, few) in
+      (size_of c, sizes_of list, sym (min-eq_left told), class_may files (class_name folder c) c.file all.0.has all.0.fits all.0.short, all_there list (omega (arith, few)) all.1)
 
 all_by : {A : Type 0} (P : A → Type 0) (list : List A) → ((i : ℕ) (x : A) → slice_get list i ≡ Some x → P x) → AllByRecursion P list
 all_by P [] each = tt
@@ -189,7 +192,7 @@ module _ (law : LinkedAreNamed) (old new : Files) (count : Count) (named : Named
   classes_there : MayClasses new check.classes (unlinked program) (sizes_of program.classes)
   classes_there =
       subst (λ (ns : List (List ℕ)). MayClasses new ns (unlinked program) (sizes_of program.classes)) (sym names.classes)
-      (all_there new named.folder program.classes (all_by (IsThere new named.folder) program.classes (λ i c there. record {
+      (all_there new named.folder program.classes names.total (all_by (IsThere new named.folder) program.classes (λ i c there. record {
         has = class_there i c there;
         fits = (all_get IsSoundClass program.classes i c inlined.planned.rewoven.sound.classes there).fits;
         short = all_get (λ (x : LinkedClass). size_of x ≤ 1048576) program.classes i c names.short there;

@@ -1,5 +1,5 @@
 -- What the status of a call says of the answer.
-use Rattle.std.proofs.Common.{◌≡◌, refl}
+use Rattle.std.proofs.Common.{◌≡◌, ◌∙◌, ℕ, List, Option, ap, refl, sym}
 use Rattle.conspec_automaton.specs.declared.running.Verdict.TheVariants as verdicts
 use Rattle.inliner_tool.specs.declared.answer.Answer.{Answer}
 use Rattle.inliner_tool.specs.declared.answer.Answer.TheVariants as answers
@@ -9,8 +9,11 @@ use Rattle.inliner_tool.specs.declared.tool.Status.TheVariants as statuses
 use Rattle.inliner_tool.specs.Answers.{EndsWell}
 use Rattle.command_words.specs.Words.{NamedCheck}
 use Rattle.input_files.specs.Forms.{Count}
+use Rattle.mon_store.specs.Sink.{Appends}
 use Rattle.mon_store.specs.Store.{Files}
-use Rattle.inliner_tool.specs.Tool.{CheckedRuns, Holds, refusal_status, status_of}
+use Rattle.inliner_tool.specs.declared.tool.Status.{Status}
+use Rattle.inliner_tool.specs.Replies.{answer_spelled}
+use Rattle.inliner_tool.specs.Tool.{Answered, CheckedRuns, Holds, Replies, Says, refusal_status, status_of}
 
 refusal_ends : (refusal : Refusal) → refusal_status refusal ≡ statuses.Done → ⊥
 refusal_ends (refusals.TotalLong len) is = absurd cc
@@ -51,3 +54,51 @@ checked_runs files count named h = record {
   policy = h.checked.checked.read;
   runs = h.checked.checked.runs;
 }
+
+-- ---- the reply
+
+no_sink_fault : (refusal : Refusal) → refusal_status refusal ≡ statuses.SinkFault → ⊥
+no_sink_fault (refusals.TotalLong len) is = absurd cc
+no_sink_fault (refusals.Link fault) is = absurd cc
+no_sink_fault (refusals.Untyped class method at) is = absurd cc
+no_sink_fault refusals.NotBuilt is = absurd cc
+no_sink_fault (refusals.Overflow class method what value) is = absurd cc
+no_sink_fault (refusals.LongCertificate value) is = absurd cc
+no_sink_fault (refusals.NotEnabled index) is = absurd cc
+no_sink_fault refusals.Memory is = absurd cc
+
+-- no answer has the status of a fault of the sink
+never_sink_fault : (answer : Answer) → status_of answer ≡ statuses.SinkFault → ⊥
+never_sink_fault (answers.Accepted accepted) is = absurd cc
+never_sink_fault (answers.Denied fault label) is = absurd cc
+never_sink_fault (answers.Shown text) is = absurd cc
+never_sink_fault answers.RaceFree is = absurd cc
+never_sink_fault (answers.Racy condition example) is = absurd cc
+never_sink_fault (answers.CellLimit first second count) is = absurd cc
+never_sink_fault (answers.Inlined accepted classes) is = absurd cc
+never_sink_fault (answers.Replayed text) is = absurd cc
+never_sink_fault (answers.Judged verdicts.Accepted) is = absurd cc
+never_sink_fault (answers.Judged (verdicts.StoppedAt index)) is = absurd cc
+never_sink_fault (answers.Judged (verdicts.Refused index)) is = absurd cc
+never_sink_fault (answers.Input name fault) is = absurd cc
+never_sink_fault (answers.Refused refusal) is = absurd (no_sink_fault refusal is)
+never_sink_fault (answers.Unread name) is = absurd cc
+never_sink_fault (answers.Unwritten name) is = absurd cc
+never_sink_fault answers.Usage is = absurd cc
+never_sink_fault answers.Memory is = absurd cc
+
+module _ (old new : Files) (count : Count) (words : List (List ℕ)) (text after : Option (List ℕ)) (rose : Type 0) (answer : Answer) (says : Says old new count words answer)
+    (printed : Appends text after (answer_spelled answer)) where
+  answered : (status : Status) → status ≡ status_of answer → (status ≡ statuses.Memory → ⊥) → Answered old new count words (λ answer. (status ≡ status_of answer) × Appends text after (answer_spelled answer))
+  answered status same other = record { answer = answer; made = λ is. other (same ∙ ap status_of is); says = says; so = (same, printed) }
+
+  -- What is replied where the text of an answer that is not of memory was put into the sink.
+  pub replied : (status : Status) → status ≡ status_of answer → (status ≡ statuses.Memory → ⊥) → Replies old new count words text after rose status
+  replied statuses.Done same other = answered statuses.Done same other
+  replied statuses.Denied same other = answered statuses.Denied same other
+  replied statuses.Usage same other = answered statuses.Usage same other
+  replied statuses.Input same other = answered statuses.Input same other
+  replied statuses.Overflow same other = answered statuses.Overflow same other
+  replied statuses.StoreFault same other = answered statuses.StoreFault same other
+  replied statuses.SinkFault same other = absurd (never_sink_fault answer (sym same))
+  replied statuses.Memory same other = absurd (other refl)

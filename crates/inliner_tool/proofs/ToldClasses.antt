@@ -1,5 +1,5 @@
 -- What is read of class files that the store tells, without a fault.
-use Rattle.std.proofs.Common.{◌≡◌, ℕ, ◌+◌, List, [], ◌∷◌, ◌++◌, Ok, Err, refl, sym, ap, subst, ◌∙◌}
+use Rattle.std.proofs.Common.{◌≡◌, ℕ, List, [], ◌∷◌, ◌++◌, Ok, Err, refl, sym, ap, subst, ◌∙◌}
 use Rattle.std.specs.Prelude.{IsSome}
 use Rattle.class_codec.specs.declared.tree.ClassFile.{ClassFile}
 use Rattle.mon_store.specs.Store.{Files, Rose}
@@ -9,7 +9,7 @@ use Rattle.input_files.specs.declared.forms.ReadClass.{ReadClass}
 use Rattle.input_files.specs.declared.named.ReadClasses.{ReadClasses as Classes}
 use Rattle.input_files.specs.Forms.{Count}
 use Rattle.input_files.specs.Kinds.{class_form}
-use Rattle.input_files.specs.Named.{AreClasses, ReadsClasses, StopsAmong}
+use Rattle.input_files.specs.Named.{AreClasses, ReadsClasses, StopsAmong, told_sum}
 use Rattle.inliner_tool.proofs.Told.{MayRead, may_read, stops_once, tree_once}
 
 -- The files of these names are these class files, with so many bytes in all, or for want of memory none.
@@ -18,7 +18,7 @@ MayClasses files [] [] total = total ≡ 0
 MayClasses files [] (class ∷ classes) total = ⊥
 MayClasses files (name ∷ names) [] total = ⊥
 MayClasses files (name ∷ names) (class ∷ classes) total =
-    (len : ℕ) × (rest : ℕ) × (total ≡ len + rest) × MayRead files name class_form (record { file = class; len = len }) × MayClasses files names classes rest
+    (len : ℕ) × (rest : ℕ) × (total ≡ told_sum len rest) × MayRead files name class_form (record { file = class; len = len }) × MayClasses files names classes rest
 
 pub may_classes : (files : Files) (names : List (List ℕ)) (classes : List ClassFile) (total : ℕ) → AreClasses files names classes total → MayClasses files names classes total
 may_classes files [] [] total are = are
@@ -53,7 +53,7 @@ module _ (files : Files) (count : Count) (told : IsSome files) (quiet : Rose cou
       let file : x ≡ y = ap (λ (c : ReadClass). c.file) same in
       let len : a.0 ≡ b.0 = ap (λ (c : ReadClass). c.len) same in
       let others = classes_once names cs ds a.1 b.1 a.4 b.4 in
-      let sum : a.0 + a.1 ≡ b.0 + b.1 = rw (len, others.1) refl in
+      let sum : told_sum a.0 a.1 ≡ told_sum b.0 b.1 = rw (len, others.1) refl in
       (rw (file, others.0) refl, a.2 ∙ sum ∙ sym b.2)
 
   -- the class files that are read are these

@@ -56,3 +56,17 @@ pub record Decides (contents : Contents) (words : List (List ℕ)) (text after :
   pub meant : IsMeant contents words answer
   pub status_is : status ≡ status_of answer
   pub printed : Appends text after (answer_spelled answer)
+
+-- ---- one answer
+
+abbrev pub IsNoInline : NamedCommand → Type 0
+IsNoInline (Check named) = Unit {0}
+IsNoInline (Show named) = Unit {0}
+IsNoInline (Policy named) = Unit {0}
+IsNoInline (Race named) = Unit {0}
+IsNoInline (Inline named) = ⊥
+IsNoInline (Replay named) = Unit {0}
+
+-- A command gives one answer to the same files; but of `inline` it is left open which of the least typings a certificate tells.
+abbrev pub GivesOnce : Type 0
+GivesOnce = (contents : Contents) (named : NamedCommand) (a b : Answer) → IsNoInline named → Gives contents named a → Gives contents named b → a ≡ b

@@ -13,6 +13,7 @@ pub mod Weaving
 pub mod Expected
 pub mod Inline
 pub mod Replay
+pub mod Headline
 pub mod Tool
 pub mod Decides
 pub mod Decision

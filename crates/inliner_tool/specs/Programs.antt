@@ -15,7 +15,7 @@ use Rattle.input_files.specs.declared.named.ReadClasses.{ReadClasses as Classes}
 use Rattle.inliner_tool.specs.declared.refusal.Refusal.{Refusal}
 use Rattle.inliner_tool.specs.declared.refusal.Refusal.TheVariants as refusals
 use Rattle.inliner_tool.specs.Classes.{label_of}
-use Rattle.type_infer.specs.Untyped.{IsUntypedAt}
+use Rattle.type_infer.specs.Untyped.{IsLeast, IsUntypedAt}
 
 -- ---- steps
 
@@ -54,8 +54,14 @@ program_of listing classes main side = within_total classes (link_step (linked c
 abbrev pub woven_links : List ClassFile → Listing → List ℕ → Linked Program
 woven_links files listing main = assembled files listing main Inlined
 
--- Types fit; or none do, and the first instruction is told up to which none fit, of the first method without types.
+-- The types fit, and they are the least that do.
+pub record AreTypes (program : Program) (typing : Typing) : Type 0 where
+  pub typed : IsTyped program typing
+  pub least : IsLeast program typing
+
+-- Types fit, and the least are given; or none do, and the first instruction is told up to which none fit, of the first method
+-- without types.
 abbrev pub Types : Program → Step Typing → Type 0
-Types program (Ok typing) = IsTyped program typing
+Types program (Ok typing) = AreTypes program typing
 Types program (Err (refusals.Untyped label method at)) = (class : ℕ) × (label ≡ label_of program class) × IsUntypedAt program class method at
 Types program (Err other) = ⊥

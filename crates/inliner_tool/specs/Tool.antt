@@ -1,5 +1,5 @@
 -- What the top call answers, and what it prints. (docs/COMMANDS.md)
-use Rattle.std.specs.Prelude.{◌≡◌, ◌⊎◌, ℕ, List, Option, Result, Ok, Err}
+use Rattle.std.specs.Prelude.{◌≡◌, ◌≢◌, ◌⊎◌, ℕ, List, Option, Result, Ok, Err}
 use Rattle.bytecode_model.specs.declared.program.Program.{Program}
 use Rattle.mon_store.specs.Store.{Files}
 use Rattle.mon_store.specs.Sink.{Appends, AppendsFront}
@@ -16,6 +16,7 @@ use Rattle.inliner_tool.specs.declared.tool.Status.TheVariants as statuses
 use Rattle.input_files.specs.Forms.{Count}
 use Rattle.input_files.specs.CheckInputs.{ReadsCheck}
 use Rattle.input_files.specs.Named.{IsPolicyOf}
+use Rattle.input_files.specs.Spelled.{CheckSpelled}
 use Rattle.input_files.specs.PolicyInputs.{ReadsPolicy}
 use Rattle.input_files.specs.RaceInputs.{ReadsRace}
 use Rattle.input_files.specs.ShowInputs.{ReadsShow}
@@ -30,13 +31,14 @@ use Rattle.inliner_tool.specs.Answers.{stopped}
 use Rattle.inliner_tool.specs.Replies.{answer_spelled}
 use Rattle.command_words.specs.Words.{NamedCheck, NamedCommand, Check, Show, Policy, Race, Inline, Replay, IsCommand}
 
--- ---- the headline
+-- ---- what is accepted
 
--- The words name files that are texts of a listing, a policy, a certificate and class files; these link to a program that
--- is accepted, and obeys the policy for every list of guest steps.
+-- The words name files that are texts of a listing, a policy, a certificate and class files, and spell them; these link to a program
+-- that is accepted, and obeys the policy for every list of guest steps.
 pub record Holds (files : Files) (count : Count) (named : NamedCheck) : Type 0 where
   pub inputs : CheckInputs
   pub read : ReadsCheck files count named (Ok inputs)
+  pub spells : CheckSpelled files named inputs
   pub checked : IsChecked named.main inputs
 
 -- The named files link to a program that runs as their certificate types it, and have a policy that was read over its listing.
@@ -110,9 +112,10 @@ status_of (answers.Unwritten name) = statuses.StoreFault
 status_of answers.Usage = statuses.Usage
 status_of answers.Memory = statuses.Memory
 
--- There is an answer whose case holds, and of which this is so.
+-- There is an answer whose case holds, other than that memory ran out, and of which this is so.
 pub record Answered (old new : Files) (count : Count) (words : List (List ℕ)) (P : Answer → Type 0) : Type 0 where
   pub answer : Answer
+  pub made : answer ≢ answers.Memory
   pub says : Says old new count words answer
   pub so : P answer
 

@@ -44,7 +44,7 @@ use Rattle.inliner_tool.specs.declared.refusal.Refusal.{Refusal}
 use Rattle.inliner_tool.specs.declared.refusal.Refusal.TheVariants as refusals
 use Rattle.inliner_tool.specs.declared.inline.Given.{Given}
 use Rattle.inliner_tool.specs.declared.inline.Ready.{Ready}
-use Rattle.inliner_tool.specs.Programs.{Equals, Step, Types, UnlessMemory, program_of, woven_links}
+use Rattle.inliner_tool.specs.Programs.{AreTypes, Equals, Step, Types, UnlessMemory, program_of, woven_links}
 
 -- ---- the steps
 
@@ -171,7 +171,7 @@ pub record IsPlanned (named : NamedInline) (inputs : InlineInputs) (ready : Read
   pub given : Given
   pub links : original inputs.listing inputs.classes named.main ≡ Ok given.client
   pub listing : given.client.listing ≡ inputs.listing
-  pub typed : IsTyped given.client given.typing
+  pub typed : AreTypes given.client given.typing
   pub policy : given.policy ≡ built inputs.policy
   pub chosen : mode_for named.weaving inputs.policy ≡ Ok given.mode
   pub made : Woven

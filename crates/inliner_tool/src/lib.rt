@@ -26,4 +26,4 @@ pub use inline::{inline_decides, written_is_accepted};
 pub use race::race_decides;
 pub use refusal::Refusal;
 pub use replay::replay_decides;
-pub use tool::{Status, run_tool};
+pub use tool::{Status, answers_are_one, run_tool};

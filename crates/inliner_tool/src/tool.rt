@@ -5,7 +5,8 @@ ghost use Rattle.command_words.specs.InlineWords.{IsInline, NamedInline};
 ghost use Rattle.command_words.specs.ReplayWords.{IsReplay, NamedReplay};
 ghost use Rattle.command_words.specs.Words.{IsCheck, NamedCheck};
 ghost use Rattle.inliner_tool.specs.Answers.{EndsWell};
-ghost use Rattle.inliner_tool.specs.Decides.{Decides};
+ghost use Rattle.inliner_tool.specs.Decides.{Decides, GivesOnce};
+ghost use Rattle.inliner_tool.specs.Headline.{Obeyed};
 ghost use Rattle.inliner_tool.specs.Inline.{IsInlined, Leaves};
 ghost use Rattle.inliner_tool.specs.Replay.{ReplayedRuns};
 ghost use Rattle.inliner_tool.specs.Status.{code_of};
@@ -85,7 +86,10 @@ pub fn run_tool<S: Store, K: Sink>(
 ) -> Status
     // Whoever made the files: where the check ends well, the program that they link to obeys the policy for every list
     // of guest steps.
-    ensures headline { (named : NamedCheck) → IsCheck words.now named → result ≡ Status.Done
+    ensures headline { (named : NamedCheck) → IsCheck words.now named → result ≡ Status.Done → Obeyed (S.files store.old) named }
+
+    // It is accepted with the certificate.
+    ensures accepted { (named : NamedCheck) → IsCheck words.now named → result ≡ Status.Done
         → Holds (S.files store.old) (since (S.faults store.old) (S.faults store.new) (S.last store.new)) named }
 
     // That program, and one whose run is replayed, runs as its types say: after every list of steps no operand is missing and none is
@@ -132,6 +136,11 @@ pub fn run_tool<S: Store, K: Sink>(
         Err(SinkFault::Memory) => Status::Memory,
     }
 }
+
+/// A command has one answer to the same files; but of `inline` it is left open which of the least typings a certificate tells.
+pub fn answers_are_one()
+    ensures { GivesOnce }
+{}
 
 /// The answer to the words, over the store's files.
 fn answer_to<S: Store>(alloc: Global, words: &[Bytes], store: &mut S) -> Answer

@@ -1,5 +1,5 @@
 -- What is read of told files, without a fault of the store, is what they are.
-use Rattle.std.proofs.Common.{◌≡◌, ◌⊎◌, inl, inr, ℕ, ◌+◌, ◌<◌, ◌≤◌, nat_lt, Bool, true, false, cond, List, [], ◌∷◌, ◌++◌, length, Option, Some, None, Result, Ok, Err, refl, sym, ap, subst, ◌∙◌, arith}
+use Rattle.std.proofs.Common.{◌≡◌, ◌⊎◌, inl, inr, ℕ, ◌<◌, ◌≤◌, nat_lt, Bool, true, false, cond, List, [], ◌∷◌, ◌++◌, length, Option, Some, None, Result, Ok, Err, refl, sym, ap, subst, ◌∙◌, arith}
 use Rattle.std.proofs.lemmas.Bool.Decides.{nat_tests}
 use Rattle.std.specs.Prelude.{IsSomeAnd}
 use Rattle.class_codec.specs.declared.tree.ClassFile.{ClassFile}
@@ -14,7 +14,7 @@ use Rattle.input_files.specs.declared.named.ReadClasses.{ReadClasses as Classes}
 use Rattle.input_files.specs.Contents.{Contents, bytes_read, classes_read, file_read, named, stop_at}
 use Rattle.input_files.specs.Forms.{Count, Form, IsNoMemory, IsRead, IsRefused, IsTooLong, ReadsForm, Then, Yields}
 use Rattle.input_files.specs.Kinds.{class_form}
-use Rattle.input_files.specs.Named.{AreClasses, ReadsClasses, StopsAmong}
+use Rattle.input_files.specs.Named.{AreClasses, ReadsClasses, StopsAmong, told_sum}
 use Rattle.input_files.specs.Told.{IsSo, ToldAreRead}
 
 -- ---- one thing after the other
@@ -89,7 +89,7 @@ module _ (contents : Contents) (count : Count) (quiet : Rose count.before count.
   read_once name class len read = file_so name class_form contents count quiet (Ok (record { file = class; len = len })) read
 
   abbrev one_more : List ℕ → List (List ℕ) → ReadClass → Result Classes Stop
-  one_more name names class = classes_read contents names >>= (λ others. Ok (record { files = class.file ∷ others.files; total = class.len + others.total }))
+  one_more name names class = classes_read contents names >>= (λ others. Ok (record { files = class.file ∷ others.files; total = told_sum class.len others.total }))
 
   all_so : (names : List (List ℕ)) (files : List ClassFile) (total : ℕ) → AreClasses (Some contents) names files total → classes_read contents names ≡ Ok (record { files = files; total = total })
   all_so [] [] total are = ap (λ (n : ℕ). Ok (record { files = []; total = n })) (sym are)
@@ -97,7 +97,7 @@ module _ (contents : Contents) (count : Count) (quiet : Rose count.before count.
   all_so (name ∷ names) [] total are = absurd are
   all_so (name ∷ names) (class ∷ files) total (len, rest, sum, read, others) =
       ap (λ (x : Result ReadClass Stop). x >>= one_more name names) (read_once name class len read)
-      ∙ ap (λ (x : Result Classes Stop). x >>= (λ others. Ok (record { files = class ∷ others.files; total = len + others.total }))) (all_so names files rest others)
+      ∙ ap (λ (x : Result Classes Stop). x >>= (λ others. Ok (record { files = class ∷ others.files; total = told_sum len others.total }))) (all_so names files rest others)
       ∙ ap (λ (n : ℕ). Ok (record { files = class ∷ files; total = n })) (sym sum)
 
   among_so : (before : List (List ℕ)) (name : List ℕ) (later : List (List ℕ)) (files : List ClassFile) (total : ℕ) (stop : Stop) → AreClasses (Some contents) before files total
@@ -106,7 +106,7 @@ module _ (contents : Contents) (count : Count) (quiet : Rose count.before count.
   among_so (first ∷ before) name later [] total stop are fails = absurd are
   among_so (first ∷ before) name later (class ∷ files) total stop (len, rest, sum, read, others) fails =
       ap (λ (x : Result ReadClass Stop). x >>= one_more first (before ++ name ∷ later)) (read_once first class len read)
-      ∙ ap (λ (x : Result Classes Stop). x >>= (λ others. Ok (record { files = class ∷ others.files; total = len + others.total }))) (among_so before name later files rest stop others fails)
+      ∙ ap (λ (x : Result Classes Stop). x >>= (λ others. Ok (record { files = class ∷ others.files; total = told_sum len others.total }))) (among_so before name later files rest stop others fails)
 
   stopped_so : (names : List (List ℕ)) (stop : Stop) → (among : StopsAmong (Some contents) count names stop) → file_read contents among.name class_form ≡ Err stop → classes_read contents names ≡ Err stop
   stopped_so names stop among fails = ap (classes_read contents) among.whole ∙ among_so among.before among.name among.later among.classes among.total stop among.read fails

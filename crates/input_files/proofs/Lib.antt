@@ -2,3 +2,4 @@ pub mod ReadFiles
 pub mod ClassFiles
 pub mod Reading
 pub mod Contents
+mod ToldTexts

@@ -1,6 +1,6 @@
 -- What the named files are, where the store tells its files: a function of these, or the first file that is wrong or missing.
 -- (docs/COMMANDS.md)
-use Rattle.std.specs.Prelude.{ℕ, nat_lt, if◌then◌else◌, List, [], ◌∷◌, ◌+◌, length, Option, Some, None, Result, Ok, Err}
+use Rattle.std.specs.Prelude.{ℕ, nat_lt, if◌then◌else◌, List, [], ◌∷◌, length, Option, Some, None, Result, Ok, Err}
 use Rattle.command_words.specs.InlineWords.{NamedInline}
 use Rattle.command_words.specs.ReplayWords.{NamedReplay}
 use Rattle.command_words.specs.Words.{NamedCheck, NamedPolicy, NamedRace, NamedShow}
@@ -17,6 +17,7 @@ use Rattle.input_files.specs.declared.race_inputs.RaceInputs.{RaceInputs}
 use Rattle.input_files.specs.declared.replay_inputs.ReplayInputs.{ReplayInputs}
 use Rattle.input_files.specs.declared.show_inputs.ShowInputs.{ShowInputs}
 use Rattle.input_files.specs.Forms.{Form}
+use Rattle.input_files.specs.Named.{told_sum}
 use Rattle.input_files.specs.Kinds.{certificate_form, class_form, listing_form, policy_form, record_form}
 
 -- the bytes of the file of each name, None where there is no such file
@@ -49,7 +50,7 @@ classes_read contents [] = Ok (record { files = []; total = 0 })
 classes_read contents (name ∷ names) = do
   class ← file_read contents name class_form
   others ← classes_read contents names
-  Ok (record { files = class.file ∷ others.files; total = class.len + others.total })
+  Ok (record { files = class.file ∷ others.files; total = told_sum class.len others.total })
 
 -- ---- the files of each command, in the order in which they are read
 

@@ -8,5 +8,6 @@ pub mod PolicyInputs
 pub mod RaceInputs
 pub mod InlineInputs
 pub mod ReplayInputs
+pub mod Spelled
 pub mod Contents
 pub mod Told

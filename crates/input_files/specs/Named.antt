@@ -1,5 +1,5 @@
 -- What the files of names are, and the first of them that is wrong. (docs/COMMANDS.md)
-use Rattle.std.specs.Prelude.{◌≡◌, ℕ, ◌+◌, List, [], ◌∷◌, ◌++◌, Result, Ok, Err}
+use Rattle.std.specs.Prelude.{◌≡◌, ℕ, ◌+◌, ◌-◌, ◌^◌, min, List, [], ◌∷◌, ◌++◌, Result, Ok, Err}
 use Rattle.mon_store.specs.Store.{Files}
 use Rattle.api_listing.specs.declared.types.Listing.{Listing}
 use Rattle.api_listing.specs.Listing.{SpellsListing}
@@ -16,13 +16,17 @@ use Rattle.input_files.specs.Kinds.{class_form}
 
 -- ---- class files
 
+-- a sum, as far as 64 bits tell it
+abbrev pub told_sum : ℕ → ℕ → ℕ
+told_sum a b = min (a + b) (2 ^ 64 - 1)
+
 -- The files of these names are these class files, with so many bytes in all.
 abbrev pub AreClasses : Files → List (List ℕ) → List ClassFile → ℕ → Type 0
 AreClasses files [] [] total = total ≡ 0
 AreClasses files [] (class ∷ classes) total = ⊥
 AreClasses files (name ∷ names) [] total = ⊥
 AreClasses files (name ∷ names) (class ∷ classes) total =
-    (len : ℕ) × (rest : ℕ) × (total ≡ len + rest) × IsRead files name class_form (Ok (record { file = class; len = len })) × AreClasses files names classes rest
+    (len : ℕ) × (rest : ℕ) × (total ≡ told_sum len rest) × IsRead files name class_form (Ok (record { file = class; len = len })) × AreClasses files names classes rest
 
 -- The first file at which the reading of class files stops: those before it are class files.
 pub record StopsAmong (files : Files) (count : Count) (names : List (List ℕ)) (stop : Stop) : Type 0 where

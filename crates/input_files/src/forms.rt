@@ -3,7 +3,8 @@
 ghost use Rattle.std.specs.Prelude.{◌≡◌, ◌<◌, ◌≤◌, ◌^◌, length, IfOk};
 ghost use Rattle.std.specs.List.{AllByRecursion};
 ghost use Rattle.api_listing.specs.Listing.{IsFew, SpellsListing};
-ghost use Rattle.class_codec.specs.Fits.{CanSpell};
+ghost use Rattle.cert_format.specs.Fits.{SpellsCertificate};
+ghost use Rattle.class_codec.specs.Fits.{CanSpell, SpellsClass};
 ghost use Rattle.conspec_parse.specs.Meaning.{SpellsPolicy};
 ghost use Rattle.conspec_tree.specs.Tree.{IsPolicyTree};
 ghost use Rattle.input_files.specs.Kinds.{certificate_form, class_form, listing_form, policy_form, record_form};
@@ -72,6 +73,7 @@ pub fn policy_read(alloc: Global, text: &[u8], listing: &Listing) -> Result<Poli
 /// The certificate that a text spells for a policy of so many variables.
 pub fn certificate_read(alloc: Global, text: &[u8], vars: u32) -> Result<Certificate, InputFault>
     ensures read { Answers InputFault.Memory result ((certificate_form vars).reads text.now) }
+    ensures spells { IfOk result (λ certificate. SpellsCertificate text.now vars certificate) }
 {
     match cert_format::decode(alloc, text, vars) {
         Ok(certificate) => Ok(certificate),
@@ -83,6 +85,7 @@ pub fn certificate_read(alloc: Global, text: &[u8], vars: u32) -> Result<Certifi
 pub fn class_read(alloc: Global, text: &[u8]) -> Result<ReadClass, InputFault>
     ensures read { Answers InputFault.Memory result (class_form.reads text.now) }
     ensures fits { IfOk result (λ class. CanSpell class.file) }
+    ensures spells { IfOk result (λ class. SpellsClass text.now class.file) }
 {
     match class_codec::decode(alloc, text) {
         Ok(file) => {

@@ -2,11 +2,15 @@
 
 ghost use Rattle.std.specs.Prelude.{◌≡◌, ◌≤◌, length, IfOk};
 ghost use Rattle.std.specs.List.{AllByRecursion};
-ghost use Rattle.api_listing.specs.Listing.{IsFew};
-ghost use Rattle.class_codec.specs.Fits.{CanSpell};
+ghost use Rattle.api_listing.specs.Listing.{IsFew, SpellsListing};
+ghost use Rattle.cert_format.specs.Fits.{SpellsCertificate};
+ghost use Rattle.class_codec.specs.Fits.{CanSpell, SpellsClass};
+ghost use Rattle.conspec_parse.specs.Meaning.{SpellsPolicy};
 ghost use Rattle.conspec_tree.specs.Tree.{IsPolicyTree};
 ghost use Rattle.input_files.specs.Forms.{ReadsForm, since};
 ghost use Rattle.input_files.specs.Kinds.{certificate_form, class_form, listing_form, policy_form, record_form};
+ghost use Rattle.input_files.specs.Spelled.{AreSpelled};
+ghost use Rattle.mon_store.specs.Store.{HasFile};
 ghost use Rattle.input_files.specs.Named.{IsListed, IsOfName, IsPolicyOf, ReadsClasses as ReadsFiles};
 
 use crate::fault::InputFault;
@@ -24,7 +28,7 @@ use mon_base::{Bytes, List};
 use mon_store::Store;
 use std::alloc::Global;
 
-/// Class files, and how many bytes their texts have in all.
+/// Class files, and how many bytes their texts have in all, as far as 64 bits tell.
 #[derive(Drop)]
 pub struct ReadClasses {
     pub files: List<ClassFile>,
@@ -48,6 +52,7 @@ pub fn listing_of<S: Store>(alloc: Global, store: &mut S, name: &Bytes) -> Resul
         name.now listing_form result }
     ensures few { IfOk result IsFew }
     ensures listed { IfOk result IsListed }
+    ensures spells { IfOk result (λ listing. HasFile (S.files store.old) name.now (λ text. SpellsListing text listing)) }
     ensures files { S.files store.new ≡ S.files store.old }
     ensures faults { S.faults store.old ≤ S.faults store.new }
 {
@@ -68,6 +73,7 @@ pub fn policy_of<S: Store>(
     ensures few { IfOk result (λ tree. length tree.vars ≤ 16) }
     ensures sound { IfOk result (λ tree. IsPolicyTree listing.now tree) }
     ensures spelled { IfOk result (λ tree. IsPolicyOf listing.now tree) }
+    ensures spells { IfOk result (λ tree. HasFile (S.files store.old) name.now (λ text. SpellsPolicy text listing.now tree)) }
     ensures files { S.files store.new ≡ S.files store.old }
     ensures faults { S.faults store.old ≤ S.faults store.new }
 {
@@ -84,6 +90,7 @@ pub fn certificate_of<S: Store>(
 ) -> Result<Certificate, Stop>
     ensures form { ReadsForm (S.files store.old) (since (S.faults store.old) (S.faults store.new) (S.last store.new))
         name.now (certificate_form vars) result }
+    ensures spells { IfOk result (λ certificate. HasFile (S.files store.old) name.now (λ bytes. SpellsCertificate bytes vars certificate)) }
     ensures files { S.files store.new ≡ S.files store.old }
     ensures faults { S.faults store.old ≤ S.faults store.new }
 {
@@ -113,6 +120,7 @@ fn class_of<S: Store>(alloc: Global, store: &mut S, name: &Bytes) -> Result<Read
     ensures form { ReadsForm (S.files store.old) (since (S.faults store.old) (S.faults store.new) (S.last store.new))
         name.now class_form result }
     ensures fits { IfOk result (λ class. CanSpell class.file) }
+    ensures spells { IfOk result (λ class. HasFile (S.files store.old) name.now (λ bytes. SpellsClass bytes class.file)) }
     ensures files { S.files store.new ≡ S.files store.old }
     ensures faults { S.faults store.old ≤ S.faults store.new }
 {
@@ -129,6 +137,7 @@ pub fn classes_of<S: Store>(
     ensures read { ReadsFiles (S.files store.old) (since (S.faults store.old) (S.faults store.new) (S.last store.new))
         names.now result }
     ensures fits { IfOk result (λ classes. AllByRecursion CanSpell classes.files) }
+    ensures spells { IfOk result (λ classes. AreSpelled (S.files store.old) names.now classes.files) }
     ensures files { S.files store.new ≡ S.files store.old }
     ensures faults { S.faults store.old ≤ S.faults store.new }
 {
@@ -137,10 +146,7 @@ pub fn classes_of<S: Store>(
     let mut rest = names;
     while let [name, later @ ..] = rest {
         let class = class_of(alloc, store, name)?;
-        if class.len > u64::MAX - total {
-            return Err(Stop::Memory);
-        }
-        total += class.len;
+        total = total.saturating_add(class.len);
         files.push(class.file)?;
         rest = later;
     }

@@ -33,7 +33,7 @@ rewoven-requires-clause-expected c =
     let typed = client_typed c.args.inputs c.in_ok-client.client c.in_ok-given.given c.in_ok-given.ensures.gathered
     (typed_so (inline_named c.args.words.now) c.args.inputs c.in_ok-client.client c.in_ok-client.ensures.is c.in_ok-given.given c.in_ok-given.ensures.gathers).0 in
     let laid_out = client_laid_out c.args.inputs c.in_ok-client.client c.in_ok-given.given c.in_ok-given.ensures.gathered in
-    c.woven_is_expected.ensures.expected c.args.inputs (inline_named c.args.words.now).main c.in_ok-given.given c.in-Ok.made of typed laid_out c.in-Ok.ensures.fits
+    c.woven_is_expected.ensures.expected c.args.inputs (inline_named c.args.words.now).main c.in_ok-given.given c.in-Ok.made of typed.typed laid_out c.in-Ok.ensures.fits
     (few_made c.args.inputs c.in_ok-client.client c.in_ok-given.given c.in_ok-given.ensures.gathered c.in_ok-client.ensures.few c.in-Ok.made c.in-Ok.ensures.exact)
 
 pub rewoven-requires-clause-count : goal.rewoven-requires-clause-count

@@ -1,14 +1,20 @@
-use Rattle.std.proofs.Common.{◌∙◌, Err, ap, subst, sym}
+use Rattle.std.proofs.Common.{◌≡◌, ◌∙◌, true, false, Err, ap, subst, sym}
 use Rattle.input_files.specs.Forms.{Count, since}
 use Rattle.mon_store.specs.Sink.{Appends, AppendsFront}
 use Rattle.mon_store.specs.Store.{Files}
+use Rattle.inliner_tool.specs.declared.tool.Status.TheVariants as statuses
 use Rattle.inliner_tool.specs.Tool.{Says, status_of}
 use Rattle.inliner_tool.proofs.Decides.{meant}
-use Rattle.inliner_tool.proofs.Replying.{checked_runs, ends_well}
+use Rattle.inliner_tool.proofs.Headlines.{obeyed}
+use Rattle.inliner_tool.proofs.Replying.{checked_runs, ends_well, replied}
 use Rattle.inliner_tool.proofs.tool.run_tool.Goals as goal
 
 pub returns-in-Ok-put-clause-headline : goal.returns-in-Ok-put-clause-headline
-returns-in-Ok-put-clause-headline g c = λ named is done. c.answer_to-answer.ensures.holds named is (ends_well c.answer_to-answer.result (sym c.status_of-status.ensures ∙ done))
+returns-in-Ok-put-clause-headline g c = λ named is done.
+    obeyed _ _ named (c.answer_to-answer.ensures.holds named is (ends_well c.answer_to-answer.result (sym c.status_of-status.ensures ∙ done)))
+
+pub returns-in-Ok-put-clause-accepted : goal.returns-in-Ok-put-clause-accepted
+returns-in-Ok-put-clause-accepted g c = λ named is done. c.answer_to-answer.ensures.holds named is (ends_well c.answer_to-answer.result (sym c.status_of-status.ensures ∙ done))
 
 pub returns-in-Ok-put-clause-runs : goal.returns-in-Ok-put-clause-runs
 returns-in-Ok-put-clause-runs g c = λ named is done. checked_runs _ _ named (c.answer_to-answer.ensures.holds named is (ends_well c.answer_to-answer.result (sym c.status_of-status.ensures ∙ done)))
@@ -26,6 +32,10 @@ returns-in-Err-Failed-clause-answer g c =
       c.in-Err-Failed.ensures.failed failed,
       record {
         answer = c.answer_to-answer.result;
+        made = λ is.
+            let memory : c.status_of-status.result ≡ statuses.Memory = c.status_of-status.ensures ∙ ap status_of is in
+            let wrong : true ≡ false = rw memory at c.if-status-eq7.false in
+            absurd cc;
         says = c.answer_to-answer.ensures.says;
         so = subst (AppendsFront (g.K.Sink.text c.args.out.now) (g.K.Sink.text c.put.new.self)) (c.as_slice.ensures ∙ c.in-Ok.ensures) torn;
       },
@@ -42,3 +52,14 @@ returns-in-Ok-put-clause-decides g c = λ contents told quiet sink other.
       status_is = c.status_of-status.ensures;
       printed = subst (Appends (g.K.Sink.text c.args.out.now) (g.K.Sink.text c.put.new.self)) (c.as_slice.ensures ∙ c.in-Ok.ensures) c.in-Ok-put.ensures.ok;
     }
+
+pub returns-in-Ok-put-clause-answer : goal.returns-in-Ok-put-clause-answer
+returns-in-Ok-put-clause-answer g c =
+    let new : Files = g.S.Store.files c.answer_to-answer.new.store in
+    let count : Count = since (g.S.Store.faults c.args.store.now) (g.S.Store.faults c.answer_to-answer.new.store) (g.S.Store.last c.answer_to-answer.new.store) in
+    replied (g.S.Store.files c.args.store.now) new count c.args.words.now (g.K.Sink.text c.args.out.now) (g.K.Sink.text c.put.new.self) _ c.answer_to-answer.result c.answer_to-answer.ensures.says
+    (subst (Appends (g.K.Sink.text c.args.out.now) (g.K.Sink.text c.put.new.self)) (c.as_slice.ensures ∙ c.in-Ok.ensures) c.in-Ok-put.ensures.ok)
+    c.status_of-status.result c.status_of-status.ensures
+    (λ memory.
+    let wrong : true ≡ false = rw memory at c.if-status-eq7.false in
+    absurd cc)

@@ -1,0 +1,54 @@
+-- Of a program that was checked, what the headline says.
+use Rattle.std.proofs.Common.{◌≡◌, ◌∙◌, ℕ, nat_lt, List, ◌++◌, Option, Some, None, ap, refl}
+use Rattle.std.specs.Prelude.{IsSomeAnd, slice_get}
+use Rattle.bytecode_model.specs.declared.program.Side.TheVariants.{Inlined}
+use Rattle.cert_format.specs.declared.certificate.Certificate.{Certificate}
+use Rattle.cert_format.specs.declared.certificate.Mode.{Mode}
+use Rattle.cert_format.specs.declared.certificate.Mode.TheVariants.{Hold, Release}
+use Rattle.cert_format.specs.Fits.{SpellsCertificate}
+use Rattle.cert_format.specs.Spelling.{spell_head}
+use Rattle.class_linking.specs.Linking.{linked}
+use Rattle.command_words.specs.Words.{NamedCheck}
+use Rattle.input_files.specs.Forms.{Count}
+use Rattle.mon_store.specs.Store.{Files, HasFile}
+use Rattle.inliner_tool.specs.Headline.{Obeyed, mode_byte}
+use Rattle.inliner_tool.specs.Tool.{Holds}
+use Rattle.inliner_tool.proofs.Blocks.{limit_by}
+
+-- ---- the mode
+
+head_tells : (mode : Mode) (rest : List ℕ) → slice_get (spell_head mode ++ rest) 6 ≡ Some (mode_byte mode)
+head_tells Hold rest = refl
+head_tells Release rest = refl
+
+mode_tells : (bytes : List ℕ) (vars : ℕ) (certificate : Certificate) → SpellsCertificate bytes vars certificate → slice_get bytes 6 ≡ Some (mode_byte certificate.mode)
+mode_tells bytes vars certificate spells = ap (λ (b : List ℕ). slice_get b 6) spells.is ∙ head_tells certificate.mode _
+
+-- ---- files
+
+some_too : (P Q : List ℕ → Type 0) → ((bytes : List ℕ) → P bytes → Q bytes) → (o : Option (List ℕ)) → IsSomeAnd o P → IsSomeAnd o Q
+some_too P Q so None is = is
+some_too P Q so (Some bytes) is = so bytes is
+
+file_too : (P Q : List ℕ → Type 0) → ((bytes : List ℕ) → P bytes → Q bytes) → (files : Files) (name : List ℕ) → HasFile files name P → HasFile files name Q
+file_too P Q so None name is = tt
+file_too P Q so (Some known) name is = some_too P Q so (known name) is
+
+-- ---- the headline
+
+pub obeyed : (files : Files) (count : Count) (named : NamedCheck) → Holds files count named → Obeyed files named
+obeyed files count named holds =
+    let inputs = holds.inputs in
+    record {
+      listing = inputs.listing;
+      listing_is = holds.spells.listing;
+      policy = inputs.policy;
+      policy_is = holds.spells.policy;
+      mode = inputs.certificate.mode;
+      mode_is = file_too _ _ (λ bytes spells. mode_tells bytes _ inputs.certificate spells) files named.certificate holds.spells.certificate;
+      classes = inputs.classes.files;
+      classes_are = holds.spells.classes;
+      program = holds.checked.program;
+      links = limit_by (nat_lt 16777216 inputs.classes.total) inputs.classes.total (linked inputs.classes.files inputs.listing named.main Inlined) holds.checked.program holds.checked.links;
+      obeys = holds.checked.checked.secure;
+    }
