@@ -15,6 +15,7 @@ mod table;
 mod terms;
 
 pub use checks::{failing, holding_on};
+pub use clauses::{clause_of, needs};
 pub use held_calls::HeldCalls;
 pub use laws::{accepted_obeys, errors_leave_blocks, free_lock_is_taken};
 pub use lent::{
@@ -25,5 +26,5 @@ pub use operands::{
     writes_static,
 };
 pub use rules::{Here, Rules};
-pub use standing::{is_exceptional, is_open, may_stand, takes_for_call};
+pub use standing::{asks_kept, is_exceptional, is_open, may_stand, takes_for_call};
 pub use table::{is_duty, is_ready, row, thrown};

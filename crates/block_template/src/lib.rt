@@ -16,7 +16,7 @@ mod plan;
 mod pushing;
 
 pub use blocks::{block, items, locals_used};
-pub use clauses::{MethodClauses, clause_at, clauses_of};
+pub use clauses::{MethodClauses, clauses_of};
 pub use item::{Item, Role};
 pub use laws::{
     blocks_are_reached, blocks_are_typed, blocks_flow, blocks_go_forward, calls_are_typed,

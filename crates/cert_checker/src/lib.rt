@@ -17,4 +17,5 @@ pub use checking::{Accepted, check};
 pub use fault::CheckFault;
 pub use laws::denied_call_disobeys;
 pub use note_rules::note_fault;
+pub use notes::check_note;
 pub use state::{state_at, state_fault};

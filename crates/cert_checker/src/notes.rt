@@ -3,7 +3,7 @@
 ghost use Rattle.std.specs.Prelude.{◌≡◌, is_some};
 ghost use Rattle.bytecode_model.specs.Sound.{IsSound, IsSoundClass, IsSoundMethod};
 ghost use Rattle.bytecode_model.specs.Rules.{frame_of};
-ghost use Rattle.block_logic.specs.Accepted.{reached_fault, rules_of};
+ghost use Rattle.block_logic.specs.Accepted.{note_fault_at, reached_fault, rules_of};
 ghost use Rattle.block_logic.specs.Annotations.{annotations_of};
 ghost use Rattle.cert_checker.specs.Acceptance.{in_classes, in_method, in_methods, notes_fault};
 
@@ -12,6 +12,7 @@ use crate::state::state_at;
 use block_logic::{HeldCalls, Rules};
 use bytecode_model::{LinkedClass, Method, Program, behind_first, list_at};
 use cert_format::{Certificate, FrameType, Note};
+use code_typing::count_coded;
 use conspec_automaton::Policy;
 use mon_base::List;
 
@@ -26,6 +27,35 @@ pub fn notes_fault(
 {
     let rules = rules_of(program, policy, certificate);
     in_classes(&rules, program, certificate)
+}
+
+/// The first rule of the notes that fails at an instruction, by the place of its method among all methods of the class; none
+/// where there is no such instruction, and where none is reached. It takes no memory.
+pub fn check_note(
+    program: &Program,
+    policy: &Policy,
+    certificate: &Certificate,
+    class: u32,
+    method: u32,
+    at: u32,
+) -> Option<u8>
+    requires { IsSound program.now }
+    ensures { result ≡ note_fault_at program.now policy.now (annotations_of certificate.now) class method at }
+{
+    let rules = rules_of(program, policy, certificate);
+    let given = program.classes.as_slice().get(class as usize)?;
+    let methods = given.methods.as_slice();
+    let found = methods.get(method as usize)?;
+    let index = count_coded(methods, method);
+    let frames = list_at(certificate.typing.frames.as_slice(), class as usize);
+    let notes = list_at(certificate.notes.as_slice(), class as usize);
+    reached_fault(
+        &rules,
+        list_at(frames, index),
+        list_at(notes, index),
+        found,
+        at,
+    )
 }
 
 /// What the rules are told. Where the program has no class of the policy's variables, the number behind its classes

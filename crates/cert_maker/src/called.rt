@@ -34,17 +34,6 @@ fn phase_of(phase: Phase) -> Phase8
     }
 }
 
-/// The phase that is told so.
-pub fn phase_in(told: Phase8) -> Phase
-    ensures { phase_of result ≡ told }
-{
-    match told {
-        Phase8::Before => Phase::Before,
-        Phase8::After => Phase::After,
-        Phase8::Exceptional => Phase::Exceptional,
-    }
-}
-
 /// The number, or the greatest that a byte tells.
 pub fn byte(n: u32) -> u8
     ensures { result ≡ byte n }

@@ -5,7 +5,7 @@ ghost use Rattle.cert_format.specs.declared.note.Note.TheVariants.{Owed};
 ghost use Rattle.cert_maker.specs.Noting.{left_note, lock_note, unlock_note};
 
 use crate::called::{Called, site_of};
-use crate::clauses::asks_kept;
+use block_logic::asks_kept;
 use cert_format::{Note, Site};
 use conspec_automaton::Policy;
 use conspec_tree::Phase;

@@ -10,9 +10,10 @@ ghost use Rattle.cert_maker.specs.Noting.{branch_at};
 ghost use Rattle.cert_maker.specs.Small.{IsSmall};
 
 use crate::called::{Called, byte, site_of};
-use crate::clauses::{branch_at, needs};
+use crate::clauses::branch_at;
 use crate::locks::{lock_note, unlock_note};
 use crate::terms::{after_updates, asked_terms, first_updates, update_terms};
+use block_logic::needs;
 use block_template::Role;
 use cert_format::{Note, Site, Term};
 use conspec_automaton::{Branch, Policy};
@@ -74,7 +75,7 @@ fn called_note(policy: &Policy, call: Called, locked: bool) -> Note
     ensures { result ≡ note_of policy.now call (roles.Call locked) }
 {
     let site = site_of(call, Phase::Before);
-    let loaded = needs(policy, site.method).min(255) as u8;
+    let loaded = needs(policy, u32::from(site.method)).min(255) as u8;
     granted(call, locked, loaded)
 }
 

@@ -30,4 +30,4 @@ pub use handlers::catches_well;
 pub use laws::{descriptors_agree, rows_follow_the_order, typed_effect, typed_is_closed};
 pub use place::PlaceRef;
 pub use row::is_alone_met;
-pub use typing::{check_row, check_typing, row_in};
+pub use typing::{check_row, check_typing, count_coded, row_in};

@@ -54,7 +54,7 @@ fn row_known(
 }
 
 /// How many of the first n methods have code.
-fn count_coded(methods: &[Method], n: u32) -> usize
+pub fn count_coded(methods: &[Method], n: u32) -> usize
     ensures { result ≡ length (coded (take n methods.now)) }
 {
     let mut count: usize = 0;
