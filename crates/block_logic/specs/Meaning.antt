@@ -29,7 +29,7 @@ use Rattle.conspec_automaton.specs.declared.policy.Branch.{Branch}
 use Rattle.conspec_automaton.specs.declared.policy.Clause.{Clause}
 use Rattle.conspec_automaton.specs.declared.policy.Policy.{Policy}
 use Rattle.conspec_automaton.specs.Denying.{DeniesOnly}
-use Rattle.conspec_automaton.specs.Next.{Values, argument, holds, initial, is_taken, next, returned}
+use Rattle.conspec_automaton.specs.Next.{Values, argument, holds, initial, is_taken, moment, next, returned}
 use Rattle.conspec_automaton.specs.Obeys.{IsFollowed, after, spoken}
 use Rattle.conspec_automaton.specs.Range.{in_range}
 use Rattle.conspec_automaton.specs.Sight.{sight_of}
@@ -167,9 +167,9 @@ IsDue policy site Exceptional seen state event = Pends policy site seen state ev
 -- The first branches fail, and of the next one so many atoms hold.
 pub record IsTried (state : Values) (event : Event) (branches : List Branch) (failed holding : ℕ) : Type 0 where
   pub few : failed ≤ length branches
-  pub fail : (j : ℕ) (b : Branch) → j < failed → slice_get branches j ≡ Some b → is_taken state event b ≡ false
+  pub fail : (j : ℕ) (b : Branch) → j < failed → slice_get branches j ≡ Some b → is_taken (moment state event) b ≡ false
   pub hold : (b : Branch) → slice_get branches failed ≡ Some b → (holding ≤ length b.atoms)
-      × ((j : ℕ) (atom : Atom) → j < holding → slice_get b.atoms j ≡ Some atom → holds state event atom ≡ true)
+      × ((j : ℕ) (atom : Atom) → j < holding → slice_get b.atoms j ≡ Some atom → holds (moment state event) atom ≡ true)
 
 -- The lock is held, and the check is made so far; the variables are those of `map`, and `list` stands on the stack, the last on top.
 pub record MeansHeld (program : Program) (policy : Policy) (seen : List Event) (fields : List Value) (frame : Frame)

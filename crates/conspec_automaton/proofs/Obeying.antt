@@ -7,7 +7,7 @@ use Rattle.std.proofs.lemmas.Bool.{and_parts, false≢true}
 use Rattle.api_listing.specs.declared.events.Event.{Event}
 use Rattle.conspec_automaton.specs.declared.policy.Clause.{Clause}
 use Rattle.conspec_automaton.specs.declared.policy.Policy.{Policy}
-use Rattle.conspec_automaton.specs.Next.{Values, clause_of, has_clause, initial, next, next_by}
+use Rattle.conspec_automaton.specs.Next.{Values, clause_of, has_clause, initial, moment, next, next_by}
 use Rattle.conspec_automaton.specs.Obeys.{Follows, IsFollowed, after, is_return}
 use Rattle.conspec_automaton.specs.Verdict.{is_refused, may_stop, refusal, verdict, verdict_from}
 
@@ -66,7 +66,7 @@ module _ {S E : Type 0} (next : S → E → Option S) (is_return : E → Bool) w
 
 no_clause : (policy : Policy) (state : Values) (event : Event) → has_clause policy event ≡ false → next policy state event ≡ Some state
 no_clause policy state event e = by (clause_of policy event) e where
-  by : (o : Option Clause) → is_some o ≡ false → option_map_or (λ clause. next_by clause state event) o (Some state) ≡ Some state
+  by : (o : Option Clause) → is_some o ≡ false → option_map_or (λ clause. next_by clause (moment state event)) o (Some state) ≡ Some state
   by None is = refl
   by (Some clause) is = absurd (false≢true (sym is))
 

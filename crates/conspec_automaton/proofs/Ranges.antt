@@ -20,7 +20,7 @@ use Rattle.conspec_automaton.specs.declared.policy.Branch.{Branch}
 use Rattle.conspec_automaton.specs.declared.policy.Clause.{Clause}
 use Rattle.conspec_automaton.specs.declared.policy.Policy.{Policy}
 use Rattle.conspec_automaton.specs.Building.{atoms_of, compared, range_atoms}
-use Rattle.conspec_automaton.specs.Next.{Values, clause_of, holds, is_taken, next, next_by, updated, updated_once}
+use Rattle.conspec_automaton.specs.Next.{Values, clause_of, holds, is_taken, moment, next, next_by, updated, updated_once}
 use Rattle.conspec_automaton.specs.Range.{MayUpdate, SumFits, are_in_range, has_room, in_range, is_between, is_in_range}
 use Rattle.conspec_automaton.specs.Sound.{IsBranchIn, IsClauseIn, IsPolicy}
 use Rattle.conspec_automaton.specs.Turning.{Keeps}
@@ -151,12 +151,12 @@ wrapped_neg by least most =
     wrapping_neg_is w32 by g ∙ int_wrap_fits w32 (neg_ℤ by) h
 
 -- what an atom on a variable says of its value
-compared_le : (state : Values) (event : Event) (var : ℕ) (value n : ℤ) → slice_get state var ≡ Some n → holds state event (compared var Le value) ≡ true → n ≤ℤ value
+compared_le : (state : Values) (event : Event) (var : ℕ) (value n : ℤ) → slice_get state var ≡ Some n → holds (moment state event) (compared var Le value) ≡ true → n ≤ℤ value
 compared_le state event var value n there e =
     let h : int_le n value ≡ true = rw there at e in
     int_low n value h
 
-compared_ge : (state : Values) (event : Event) (var : ℕ) (value n : ℤ) → slice_get state var ≡ Some n → holds state event (compared var Ge value) ≡ true → value ≤ℤ n
+compared_ge : (state : Values) (event : Event) (var : ℕ) (value n : ℤ) → slice_get state var ≡ Some n → holds (moment state event) (compared var Ge value) ≡ true → value ≤ℤ n
 compared_ge state event var value n there e =
     let h : int_le value n ≡ true = rw there at e in
     int_low value n h
@@ -168,30 +168,30 @@ atoms_up maxint var k =
 
 module _ (maxint : ℤ) (low : pos 1 ≤ℤ maxint) (high : maxint ≤ℤ pos 1000000000) (state : Values) (event : Event) where
   sum_in_range : (var : ℕ) (by n : ℤ) → slice_get state var ≡ Some n → Between (pos 0) maxint n → neg_ℤ (pos 1000000000) ≤ℤ by → by ≤ℤ pos 1000000000
-      → list_all (holds state event) (range_atoms maxint (Add var by)) ≡ true → is_between (pos 0) maxint (n +ℤ by) ≡ true
+      → list_all (holds (moment state event)) (range_atoms maxint (Add var by)) ≡ true → is_between (pos 0) maxint (n +ℤ by) ≡ true
   sum_in_range var (pos zero) n there ranged least most all = between_from (pos 0) maxint (n +ℤ pos zero) (omega (arith, ints)) (omega (arith, ints))
   sum_in_range var (pos (suc k)) n there ranged least most all =
-      let p = only (holds state event) (compared var Le (int_wrapping_sub w32 maxint (pos (suc k)))) (ap (list_all (holds state event)) (sym (atoms_up maxint var k)) ∙ all) in
+      let p = only (holds (moment state event)) (compared var Le (int_wrapping_sub w32 maxint (pos (suc k)))) (ap (list_all (holds (moment state event))) (sym (atoms_up maxint var k)) ∙ all) in
       let h : n ≤ℤ (maxint -ℤ pos (suc k)) = subst (λ (x : ℤ). n ≤ℤ x) (wrapped_sub maxint (pos (suc k)) low high least most) (compared_le state event var (int_wrapping_sub w32 maxint (pos (suc k))) n there p) in
       between_from (pos 0) maxint (n +ℤ pos (suc k)) (omega (arith, ints)) (omega (arith, ints))
   sum_in_range var (negsuc k) n there ranged least most all =
-      let p = only (holds state event) (compared var Ge (int_wrapping_neg w32 (negsuc k))) all in
+      let p = only (holds (moment state event)) (compared var Ge (int_wrapping_neg w32 (negsuc k))) all in
       let h : neg_ℤ (negsuc k) ≤ℤ n = subst (λ (x : ℤ). x ≤ℤ n) (wrapped_neg (negsuc k) least most) (compared_ge state event var (int_wrapping_neg w32 (negsuc k)) n there p) in
       between_from (pos 0) maxint (n +ℤ negsuc k) (omega (arith, ints)) (omega (arith, ints))
 
   -- the range atoms leave room for the update
-  has_room_of : (vars : List Var) (u : Update) → are_in_range maxint vars state ≡ true → IsUpdateIn vars maxint u → list_all (holds state event) (range_atoms maxint u) ≡ true → has_room maxint state u ≡ true
+  has_room_of : (vars : List Var) (u : Update) → are_in_range maxint vars state ≡ true → IsUpdateIn vars maxint u → list_all (holds (moment state event)) (range_atoms maxint u) ≡ true → has_room maxint (moment state event) u ≡ true
   has_room_of vars (Set var value) r is all = refl
   has_room_of vars (Add var by) r is all =
       let at = value_there maxint vars state var is.variable r is.there in
       let whole : is_between (pos 0) maxint at.value ≡ true = sym (int_range maxint is.variable at.value is.fits.0) ∙ at.ranged in
       rw at.there (sum_in_range var by at.value at.there (between_is (pos 0) maxint at.value whole) is.fits.1.0 is.fits.1.1 all)
 
-  pub all_have_room : (vars : List Var) (us : List Update) → are_in_range maxint vars state ≡ true → AllByRecursion (IsUpdateIn vars maxint) us → list_all (holds state event) (flat_map (range_atoms maxint) us) ≡ true
-      → list_all (has_room maxint state) us ≡ true
+  pub all_have_room : (vars : List Var) (us : List Update) → are_in_range maxint vars state ≡ true → AllByRecursion (IsUpdateIn vars maxint) us → list_all (holds (moment state event)) (flat_map (range_atoms maxint) us) ≡ true
+      → list_all (has_room maxint (moment state event)) us ≡ true
   all_have_room vars [] r each all = refl
   all_have_room vars (u ∷ us) r each all =
-      let p = all_parts (holds state event) (range_atoms maxint u) (flat_map (range_atoms maxint) us) all in
+      let p = all_parts (holds (moment state event)) (range_atoms maxint u) (flat_map (range_atoms maxint) us) all in
       rw (has_room_of vars u r each.0 p.0, all_have_room vars us r each.1 p.1) refl
 
 -- ---- one update
@@ -203,70 +203,71 @@ other_value (m ∷ state) zero (suc j) n ne = refl
 other_value (m ∷ state) (suc i) zero n ne = refl
 other_value (m ∷ state) (suc i) (suc j) n ne = other_value state i j n (λ e. ne (ap suc e))
 
--- an update leaves the other variables alone
-other_update : (state : Values) (u : Update) (j : ℕ) → target u ≢ j → slice_get (updated_once state u) j ≡ slice_get state j
-other_update state (Set var value) j ne = other_value state var j value ne
-other_update state (Add var by) j ne = by_value (slice_get state var) where
-  by_value : (o : Option ℤ) → slice_get (option_map_or (λ n. slice_set state var (n +ℤ by)) o state) j ≡ slice_get state j
-  by_value None = refl
-  by_value (Some n) = other_value state var j (n +ℤ by) ne
+module _ (event : Event) where
+  -- an update leaves the other variables alone
+  other_update : (state : Values) (u : Update) (j : ℕ) → target u ≢ j → slice_get (updated_once (moment state event) u) j ≡ slice_get state j
+  other_update state (Set var value) j ne = other_value state var j value ne
+  other_update state (Add var by) j ne = by_value (slice_get state var) where
+    by_value : (o : Option ℤ) → slice_get (option_map_or (λ n. slice_set state var (n +ℤ by)) o state) j ≡ slice_get state j
+    by_value None = refl
+    by_value (Some n) = other_value state var j (n +ℤ by) ne
 
-same_room : (maxint : ℤ) (state : Values) (u w : Update) → target u ≢ target w → has_room maxint (updated_once state u) w ≡ has_room maxint state w
-same_room maxint state u (Set var value) ne = refl
-same_room maxint state u (Add var by) ne = ap (λ (o : Option ℤ). option_map_or (λ n. is_between (pos 0) maxint (n +ℤ by)) o false) (other_update state u var ne)
+  same_room : (maxint : ℤ) (state : Values) (u w : Update) → target u ≢ target w → has_room maxint (moment (updated_once (moment state event) u) event) w ≡ has_room maxint (moment state event) w
+  same_room maxint state u (Set var value) ne = refl
+  same_room maxint state u (Add var by) ne = ap (λ (o : Option ℤ). option_map_or (λ n. is_between (pos 0) maxint (n +ℤ by)) o false) (other_update state u var ne)
 
-still_room : (maxint : ℤ) (state : Values) (u : Update) (us : List Update) → ((i : ℕ) (d : Update) → i < length us → target u ≢ target (get_or us i d)) → list_all (has_room maxint state) us ≡ true
-    → list_all (has_room maxint (updated_once state u)) us ≡ true
-still_room maxint state u [] apart all = refl
-still_room maxint state u (w ∷ us) apart all =
-    let p = and_parts (has_room maxint state w) (list_all (has_room maxint state) us) all in
-    let here : has_room maxint (updated_once state u) w ≡ true = same_room maxint state u w (apart 0 w (omega arith)) ∙ p.0 in
-    let later = still_room maxint state u us (λ i d below. apart (suc i) d (omega arith)) p.1 in
-    rw (here, later) refl
+  still_room : (maxint : ℤ) (state : Values) (u : Update) (us : List Update) → ((i : ℕ) (d : Update) → i < length us → target u ≢ target (get_or us i d)) → list_all (has_room maxint (moment state event)) us ≡ true
+      → list_all (has_room maxint (moment (updated_once (moment state event) u) event)) us ≡ true
+  still_room maxint state u [] apart all = refl
+  still_room maxint state u (w ∷ us) apart all =
+      let p = and_parts (has_room maxint (moment state event) w) (list_all (has_room maxint (moment state event)) us) all in
+      let here : has_room maxint (moment (updated_once (moment state event) u) event) w ≡ true = same_room maxint state u w (apart 0 w (omega arith)) ∙ p.0 in
+      let later = still_room maxint state u us (λ i d below. apart (suc i) d (omega arith)) p.1 in
+      rw (here, later) refl
 
-once_in_range : (maxint : ℤ) (vars : List Var) (state : Values) (u : Update) → are_in_range maxint vars state ≡ true → IsUpdateIn vars maxint u → has_room maxint state u ≡ true → are_in_range maxint vars (updated_once state u) ≡ true
-once_in_range maxint vars state (Set var value) r is room =
-    value_set maxint vars state var is.variable value r is.there (between_from (pos 0) (greatest maxint is.variable.is_bool) value is.fits.low is.fits.high)
-once_in_range maxint vars state (Add var by) r is room =
-    let at = value_there maxint vars state var is.variable r is.there in
-    let sum : is_between (pos 0) maxint (at.value +ℤ by) ≡ true = rw at.there at room in
-    let ranged : is_in_range maxint is.variable (at.value +ℤ by) ≡ true = int_range maxint is.variable (at.value +ℤ by) is.fits.0 ∙ sum in
-    rw at.there (value_set maxint vars state var is.variable (at.value +ℤ by) r is.there ranged)
+  once_in_range : (maxint : ℤ) (vars : List Var) (state : Values) (u : Update) → are_in_range maxint vars state ≡ true → IsUpdateIn vars maxint u → has_room maxint (moment state event) u ≡ true → are_in_range maxint vars (updated_once (moment state event) u) ≡ true
+  once_in_range maxint vars state (Set var value) r is room =
+      value_set maxint vars state var is.variable value r is.there (between_from (pos 0) (greatest maxint is.variable.is_bool) value is.fits.low is.fits.high)
+  once_in_range maxint vars state (Add var by) r is room =
+      let at = value_there maxint vars state var is.variable r is.there in
+      let sum : is_between (pos 0) maxint (at.value +ℤ by) ≡ true = rw at.there at room in
+      let ranged : is_in_range maxint is.variable (at.value +ℤ by) ≡ true = int_range maxint is.variable (at.value +ℤ by) is.fits.0 ∙ sum in
+      rw at.there (value_set maxint vars state var is.variable (at.value +ℤ by) r is.there ranged)
 
-pub may_go_on : (vars : List Var) (maxint : ℤ) (state : Values) (u : Update) (us : List Update) → MayUpdate vars maxint state (u ∷ us) → MayUpdate vars maxint (updated_once state u) us
-may_go_on vars maxint state u us may =
-    let p = and_parts (has_room maxint state u) (list_all (has_room maxint state) us) may.room in
-    record {
-      ranged = once_in_range maxint vars state u may.ranged may.each.0 p.0;
-      each = may.each.1;
-      once = λ i j d lt below. may.once (suc i) (suc j) d (omega arith) (omega arith);
-      room = still_room maxint state u us (λ i d below. may.once 0 (suc i) d (omega arith) (omega arith)) p.1;
-    }
+  pub may_go_on : (vars : List Var) (maxint : ℤ) (state : Values) (u : Update) (us : List Update) → MayUpdate vars maxint (moment state event) (u ∷ us) → MayUpdate vars maxint (moment (updated_once (moment state event) u) event) us
+  may_go_on vars maxint state u us may =
+      let p = and_parts (has_room maxint (moment state event) u) (list_all (has_room maxint (moment state event)) us) may.room in
+      record {
+        ranged = once_in_range maxint vars state u may.ranged may.each.0 p.0;
+        each = may.each.1;
+        once = λ i j d lt below. may.once (suc i) (suc j) d (omega arith) (omega arith);
+        room = still_room maxint state u us (λ i d below. may.once 0 (suc i) d (omega arith) (omega arith)) p.1;
+      }
 
-pub target_there : (vars : List Var) (maxint : ℤ) (state : Values) (u : Update) (us : List Update) → MayUpdate vars maxint state (u ∷ us) → target u < length state
-target_there vars maxint state u us may =
-    let at = value_there maxint vars state (target u) may.each.0.variable may.ranged may.each.0.there in
-    slice_get_within state (target u) at.value at.there
+  pub target_there : (vars : List Var) (maxint : ℤ) (state : Values) (u : Update) (us : List Update) → MayUpdate vars maxint (moment state event) (u ∷ us) → target u < length state
+  target_there vars maxint state u us may =
+      let at = value_there maxint vars state (target u) may.each.0.variable may.ranged may.each.0.there in
+      slice_get_within state (target u) at.value at.there
 
-pub sum_fits : (vars : List Var) (maxint : ℤ) (state : Values) (u : Update) (us : List Update) → maxint ≤ℤ pos 1000000000 → MayUpdate vars maxint state (u ∷ us) → SumFits state u
-sum_fits vars maxint state (Set var value) us high may = tt
-sum_fits vars maxint state (Add var by) us high may = λ n there.
-    let p = and_parts (has_room maxint state (Add var by)) (list_all (has_room maxint state) us) may.room in
-    let sum : is_between (pos 0) maxint (n +ℤ by) ≡ true = rw there at p.0 in
-    let b = between_is (pos 0) maxint (n +ℤ by) sum in
-    omega (arith, ints)
+  pub sum_fits : (vars : List Var) (maxint : ℤ) (state : Values) (u : Update) (us : List Update) → maxint ≤ℤ pos 1000000000 → MayUpdate vars maxint (moment state event) (u ∷ us) → SumFits (moment state event) u
+  sum_fits vars maxint state (Set var value) us high may = tt
+  sum_fits vars maxint state (Add var by) us high may = λ n there.
+      let p = and_parts (has_room maxint (moment state event) (Add var by)) (list_all (has_room maxint (moment state event)) us) may.room in
+      let sum : is_between (pos 0) maxint (n +ℤ by) ≡ true = rw there at p.0 in
+      let b = between_is (pos 0) maxint (n +ℤ by) sum in
+      omega (arith, ints)
 
-pub updated_in_range : (vars : List Var) (maxint : ℤ) (state : Values) (us : List Update) → MayUpdate vars maxint state us → are_in_range maxint vars (updated state us) ≡ true
-updated_in_range vars maxint state [] may = may.ranged
-updated_in_range vars maxint state (u ∷ us) may = updated_in_range vars maxint (updated_once state u) us (may_go_on vars maxint state u us may)
+  pub updated_in_range : (vars : List Var) (maxint : ℤ) (state : Values) (us : List Update) → MayUpdate vars maxint (moment state event) us → are_in_range maxint vars (updated (moment state event) us) ≡ true
+  updated_in_range vars maxint state [] may = may.ranged
+  updated_in_range vars maxint state (u ∷ us) may = updated_in_range vars maxint (updated_once (moment state event) u) us (may_go_on vars maxint state u us may)
 
 -- ---- an event
 
-pub branch_may : (policy : Policy) (askable : Askable) (state : Values) (event : Event) (branch : Branch) → IsPolicy policy → in_range policy state ≡ true → IsBranchIn policy.vars policy.maxint askable branch → is_taken state event branch ≡ true
-    → MayUpdate policy.vars policy.maxint state branch.updates
+pub branch_may : (policy : Policy) (askable : Askable) (state : Values) (event : Event) (branch : Branch) → IsPolicy policy → in_range policy state ≡ true → IsBranchIn policy.vars policy.maxint askable branch → is_taken (moment state event) branch ≡ true
+    → MayUpdate policy.vars policy.maxint (moment state event) branch.updates
 branch_may policy askable state event branch sound r is taken =
-    let all : list_all (holds state event) (atoms_of policy.maxint branch.updates is.own) ≡ true = subst (λ (atoms : List Atom). list_all (holds state event) atoms ≡ true) is.kept taken in
-    let p = all_parts (holds state event) is.own (flat_map (range_atoms policy.maxint) branch.updates) all in
+    let all : list_all (holds (moment state event)) (atoms_of policy.maxint branch.updates is.own) ≡ true = subst (λ (atoms : List Atom). list_all (holds (moment state event)) atoms ≡ true) is.kept taken in
+    let p = all_parts (holds (moment state event)) is.own (flat_map (range_atoms policy.maxint) branch.updates) all in
     record {
       ranged = r;
       each = is.updates;
@@ -275,19 +276,19 @@ branch_may policy askable state event branch sound r is taken =
     }
 
 pub found_may : (policy : Policy) (clause : Clause) (state : Values) (event : Event) (branch : Branch) → IsPolicy policy → IsClauseIn policy.vars policy.maxint clause → in_range policy state ≡ true
-    → find (is_taken state event) clause.branches ≡ Some branch → MayUpdate policy.vars policy.maxint state branch.updates
+    → find (is_taken (moment state event)) clause.branches ≡ Some branch → MayUpdate policy.vars policy.maxint (moment state event) branch.updates
 found_may policy clause state event branch sound is r e =
-    let f = found_is _ (is_taken state event) clause.branches branch is.branches e in
+    let f = found_is _ (is_taken (moment state event)) clause.branches branch is.branches e in
     branch_may policy _ state event branch sound r f.so f.passes
 
-next_by_keeps : (policy : Policy) (clause : Clause) (state end : Values) (event : Event) → IsPolicy policy → IsClauseIn policy.vars policy.maxint clause → in_range policy state ≡ true → next_by clause state event ≡ Some end → in_range policy end ≡ true
-next_by_keeps policy clause state end event sound is r e = by (find (is_taken state event) clause.branches) refl where
-  by : (o : Option Branch) → find (is_taken state event) clause.branches ≡ o → in_range policy end ≡ true
+next_by_keeps : (policy : Policy) (clause : Clause) (state end : Values) (event : Event) → IsPolicy policy → IsClauseIn policy.vars policy.maxint clause → in_range policy state ≡ true → next_by clause (moment state event) ≡ Some end → in_range policy end ≡ true
+next_by_keeps policy clause state end event sound is r e = by (find (is_taken (moment state event)) clause.branches) refl where
+  by : (o : Option Branch) → find (is_taken (moment state event)) clause.branches ≡ o → in_range policy end ≡ true
   by None found = let none : None ≡ Some end = rw found at e in absurd cc
   by (Some branch) found =
-      let some : Some (updated state branch.updates) ≡ Some end = rw found at e in
-      let same : updated state branch.updates ≡ end = cc in
-      subst (λ (s : Values). in_range policy s ≡ true) same (updated_in_range policy.vars policy.maxint state branch.updates (found_may policy clause state event branch sound is r found))
+      let some : Some (updated (moment state event) branch.updates) ≡ Some end = rw found at e in
+      let same : updated (moment state event) branch.updates ≡ end = cc in
+      subst (λ (s : Values). in_range policy s ≡ true) same (updated_in_range event policy.vars policy.maxint state branch.updates (found_may policy clause state event branch sound is r found))
 
 pub next_keeps : (policy : Policy) → IsPolicy policy → Keeps (next policy) (in_range policy)
 next_keeps policy sound state end event r e = by (clause_of policy event) refl where

@@ -11,10 +11,12 @@ use Rattle.conspec_tree.specs.declared.types.Base.{Base}
 use Rattle.conspec_tree.specs.declared.types.Base.TheVariants as bases
 use Rattle.conspec_tree.specs.declared.types.Phase.{Phase}
 use Rattle.conspec_tree.specs.declared.types.Phase.TheVariants.{Before, After, Exceptional}
+use Rattle.conspec_tree.specs.declared.types.Update.{Update}
+use Rattle.conspec_tree.specs.declared.types.Update.TheVariants.{Add, Set}
 use Rattle.conspec_automaton.specs.declared.policy.Branch.{Branch}
 use Rattle.conspec_automaton.specs.declared.policy.Clause.{Clause}
 use Rattle.conspec_automaton.specs.declared.policy.Policy.{Policy}
-use Rattle.conspec_automaton.specs.Next.{Values, clause_of, holds, is_phase_of, is_taken, method_of, next, next_by, number_in, relates, speaks_of, updated, value_of}
+use Rattle.conspec_automaton.specs.Next.{Values, clause_of, holds, is_phase_of, is_taken, method_of, moment, next, next_by, number_in, relates, speaks_of, updated, value_of}
 use Rattle.conspec_automaton.specs.Sight.{Sight, sight_of}
 
 -- ---- tests that agree
@@ -70,7 +72,7 @@ value_in state sight (bases.Var i) = slice_get state i
 value_in state sight (bases.Arg i) = number_there sight.arguments i
 value_in state sight bases.Result = sight.result
 
-value_seen : (state : Values) (e : Event) (base : Base) → value_of state e base ≡ value_in state (sight_of e) base
+value_seen : (state : Values) (e : Event) (base : Base) → value_of (moment state e) base ≡ value_in state (sight_of e) base
 value_seen state (events.Call thread method arguments) (bases.Var i) = refl
 value_seen state (events.Call thread method arguments) (bases.Arg i) = argument_seen arguments i
 value_seen state (events.Call thread method arguments) bases.Result = refl
@@ -90,23 +92,34 @@ module _ (e f : Event) (same : sight_of e ≡ sight_of f) where
       let phases : is_phase_of e clause.phase ≡ is_phase_of f clause.phase = phase_seen e clause.phase ∙ ap (λ (s : Sight). is_phase s.phase clause.phase) same ∙ sym (phase_seen f clause.phase) in
       ap (λ (m : ℕ). (clause.method == m) && is_phase_of e clause.phase) methods ∙ ap (λ (b : Bool). (clause.method == method_of f) && b) phases
 
-  holds_same : (state : Values) (atom : Atom) → holds state e atom ≡ holds state f atom
+  holds_same : (state : Values) (atom : Atom) → holds (moment state e) atom ≡ holds (moment state f) atom
   holds_same state atom =
-      let values : value_of state e atom.base ≡ value_of state f atom.base = value_seen state e atom.base ∙ ap (λ (s : Sight). value_in state s atom.base) same ∙ sym (value_seen state f atom.base) in
+      let values : value_of (moment state e) atom.base ≡ value_of (moment state f) atom.base = value_seen state e atom.base ∙ ap (λ (s : Sight). value_in state s atom.base) same ∙ sym (value_seen state f atom.base) in
       ap (λ (o : Option ℤ). option_map_or (λ n. relates atom.rel n atom.value) o false) values
 
-  taken_same : (state : Values) (branch : Branch) → is_taken state e branch ≡ is_taken state f branch
-  taken_same state branch = all_same (holds state e) (holds state f) branch.atoms (holds_same state)
+  taken_same : (state : Values) (branch : Branch) → is_taken (moment state e) branch ≡ is_taken (moment state f) branch
+  taken_same state branch = all_same (holds (moment state e)) (holds (moment state f)) branch.atoms (holds_same state)
 
-  by_same : (state : Values) (clause : Clause) → next_by clause state e ≡ next_by clause state f
-  by_same state clause = ap (option_map (λ (branch : Branch). updated state branch.updates)) (found_same (is_taken state e) (is_taken state f) clause.branches (taken_same state))
+  updated_same : (updates : List Update) (state : Values) → updated (moment state e) updates ≡ updated (moment state f) updates
+  updated_same [] state = refl
+  updated_same (Set var value ∷ updates) state = updated_same updates _
+  updated_same (Add var by ∷ updates) state = updated_same updates _
+
+  branch_same : (state : Values) (o : Option Branch) → option_map (λ (branch : Branch). updated (moment state e) branch.updates) o ≡ option_map (λ (branch : Branch). updated (moment state f) branch.updates) o
+  branch_same state None = refl
+  branch_same state (Some branch) = ap (λ (s : Values). Some s) (updated_same branch.updates state)
+
+  by_same : (state : Values) (clause : Clause) → next_by clause (moment state e) ≡ next_by clause (moment state f)
+  by_same state clause =
+      ap (option_map (λ (branch : Branch). updated (moment state e) branch.updates)) (found_same (is_taken (moment state e)) (is_taken (moment state f)) clause.branches (taken_same state))
+      ∙ branch_same state (find (is_taken (moment state f)) clause.branches)
 
   clause_same : (policy : Policy) → clause_of policy e ≡ clause_of policy f
   clause_same policy = found_same (speaks_of e) (speaks_of f) policy.clauses speaks_same
 
   next_same : (policy : Policy) (state : Values) → next policy state e ≡ next policy state f
-  next_same policy state = ap (λ (o : Option Clause). option_map_or (λ clause. next_by clause state e) o (Some state)) (clause_same policy) ∙ by (clause_of policy f) where
-    by : (o : Option Clause) → option_map_or (λ clause. next_by clause state e) o (Some state) ≡ option_map_or (λ clause. next_by clause state f) o (Some state)
+  next_same policy state = ap (λ (o : Option Clause). option_map_or (λ clause. next_by clause (moment state e)) o (Some state)) (clause_same policy) ∙ by (clause_of policy f) where
+    by : (o : Option Clause) → option_map_or (λ clause. next_by clause (moment state e)) o (Some state) ≡ option_map_or (λ clause. next_by clause (moment state f)) o (Some state)
     by None = refl
     by (Some clause) = by_same state clause
 

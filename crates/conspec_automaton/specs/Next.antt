@@ -71,11 +71,19 @@ abbrev pub returned : Event → Option ℤ
 returned (events.Return thread method value) = option_and_then number_in value
 returned other = None
 
+-- an event, and the state that it finds: what atoms ask and updates read
+pub record Moment : Type 0 where
+  pub state : Values
+  pub event : Event
+
+abbrev pub moment : Values → Event → Moment
+moment state event = record { state = state; event = event }
+
 -- what an atom compares, where it is there and is a number
-abbrev pub value_of : Values → Event → Base → Option ℤ
-value_of state event (bases.Var i) = slice_get state i
-value_of state event (bases.Arg i) = argument event i
-value_of state event bases.Result = returned event
+abbrev pub value_of : Moment → Base → Option ℤ
+value_of m (bases.Var i) = slice_get m.state i
+value_of m (bases.Arg i) = argument m.event i
+value_of m bases.Result = returned m.event
 
 abbrev pub relates : Rel → ℤ → ℤ → Bool
 relates relations.Eq x y = int_eq x y
@@ -86,28 +94,28 @@ relates relations.Gt x y = int_lt y x
 relates relations.Ge x y = int_le y x
 
 -- An atom on what is not there does not hold.
-abbrev pub holds : Values → Event → Atom → Bool
-holds state event atom = option_map_or (λ n. relates atom.rel n atom.value) (value_of state event atom.base) false
+abbrev pub holds : Moment → Atom → Bool
+holds m atom = option_map_or (λ n. relates atom.rel n atom.value) (value_of m atom.base) false
 
-abbrev pub is_taken : Values → Event → Branch → Bool
-is_taken state event branch = list_all (holds state event) branch.atoms
+abbrev pub is_taken : Moment → Branch → Bool
+is_taken m branch = list_all (holds m) branch.atoms
 
 -- ---- updates
 
-abbrev pub updated_once : Values → Update → Values
-updated_once state (Set var value) = slice_set state var value
-updated_once state (Add var by) = option_map_or (λ n. slice_set state var (n +ℤ by)) (slice_get state var) state
+abbrev pub updated_once : Moment → Update → Values
+updated_once m (Set var value) = slice_set m.state var value
+updated_once m (Add var by) = option_map_or (λ n. slice_set m.state var (n +ℤ by)) (slice_get m.state var) m.state
 
-abbrev pub updated : Values → List Update → Values
-updated state [] = state
-updated state (update ∷ updates) = updated (updated_once state update) updates
+abbrev pub updated : Moment → List Update → Values
+updated m [] = m.state
+updated m (update ∷ updates) = updated (moment (updated_once m update) m.event) updates
 
 -- ---- the state after an event
 
 -- the state after an event that the clause speaks of, or nothing where it refuses the event
-abbrev pub next_by : Clause → Values → Event → Option Values
-next_by clause state event = option_map (λ (branch : Branch). updated state branch.updates) (find (is_taken state event) clause.branches)
+abbrev pub next_by : Clause → Moment → Option Values
+next_by clause m = option_map (λ (branch : Branch). updated m branch.updates) (find (is_taken m) clause.branches)
 
 -- An event without a clause changes nothing.
 abbrev pub next : Policy → Values → Event → Option Values
-next policy state event = option_map_or (λ clause. next_by clause state event) (clause_of policy event) (Some state)
+next policy state event = option_map_or (λ clause. next_by clause (moment state event)) (clause_of policy event) (Some state)

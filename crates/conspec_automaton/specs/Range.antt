@@ -9,7 +9,7 @@ use Rattle.conspec_tree.specs.declared.types.Var.{Var}
 use Rattle.conspec_tree.specs.Tree.{greatest, IsUpdateIn}
 use Rattle.conspec_tree.specs.Updates.{target}
 use Rattle.conspec_automaton.specs.declared.policy.Policy.{Policy}
-use Rattle.conspec_automaton.specs.Next.{Values}
+use Rattle.conspec_automaton.specs.Next.{Moment, Values}
 
 abbrev pub is_between : ℤ → ℤ → ℤ → Bool
 is_between low high n = int_le low n && int_le n high
@@ -31,18 +31,18 @@ in_range policy state = are_in_range policy.maxint policy.vars state
 -- ---- updates
 
 -- The sum is in the range of an int variable.
-abbrev pub has_room : ℤ → Values → Update → Bool
-has_room maxint state (Set var value) = true
-has_room maxint state (Add var by) = option_map_or (λ n. is_between (pos 0) maxint (n +ℤ by)) (slice_get state var) false
+abbrev pub has_room : ℤ → Moment → Update → Bool
+has_room maxint m (Set var value) = true
+has_room maxint m (Add var by) = option_map_or (λ n. is_between (pos 0) maxint (n +ℤ by)) (slice_get m.state var) false
 
 -- The state is in range, and so are those that the updates lead to: each is of another variable.
-pub record MayUpdate (vars : List Var) (maxint : ℤ) (state : Values) (updates : List Update) : Type 0 where
-  pub ranged : are_in_range maxint vars state ≡ true
+pub record MayUpdate (vars : List Var) (maxint : ℤ) (m : Moment) (updates : List Update) : Type 0 where
+  pub ranged : are_in_range maxint vars m.state ≡ true
   pub each : AllByRecursion (IsUpdateIn vars maxint) updates
   pub once : AllPairs (λ u w. target u ≢ target w) updates
-  pub room : list_all (has_room maxint state) updates ≡ true
+  pub room : list_all (has_room maxint m) updates ≡ true
 
 -- The sum is a number of 32 bits.
-abbrev pub SumFits : Values → Update → Type 0
-SumFits state (Set var value) = Unit {0}
-SumFits state (Add var by) = (n : ℤ) → slice_get state var ≡ Some n → FitsSigned w32 (n +ℤ by)
+abbrev pub SumFits : Moment → Update → Type 0
+SumFits m (Set var value) = Unit {0}
+SumFits m (Add var by) = (n : ℤ) → slice_get m.state var ≡ Some n → FitsSigned w32 (n +ℤ by)

@@ -11,6 +11,7 @@ ghost use Rattle.conspec_automaton.specs.Next.{
   is_phase_of,
   is_taken,
   method_of,
+  moment,
   number_in,
   relates,
   returned,
@@ -91,7 +92,7 @@ fn is_phase_of(event: &Event, phase: Phase) -> bool
 
 /// The first of the branches of which all atoms hold.
 pub fn branch_of<'a>(branches: &'a [Branch], state: &State, event: &Event) -> Option<&'a Branch>
-    ensures { option_copied result ≡ find (is_taken state.now event.now) branches.now }
+    ensures { option_copied result ≡ find (is_taken (moment state.now event.now)) branches.now }
 {
     let mut left = branches;
     while let [branch, rest @ ..] = left {
@@ -104,7 +105,7 @@ pub fn branch_of<'a>(branches: &'a [Branch], state: &State, event: &Event) -> Op
 }
 
 fn is_taken(state: &State, event: &Event, branch: &Branch) -> bool
-    ensures { result ≡ is_taken state.now event.now branch.now }
+    ensures { result ≡ is_taken (moment state.now event.now) branch.now }
 {
     branch
         .atoms
@@ -114,7 +115,7 @@ fn is_taken(state: &State, event: &Event, branch: &Branch) -> bool
 }
 
 fn holds(state: &State, event: &Event, atom: Atom) -> bool
-    ensures { result ≡ holds state.now event.now atom }
+    ensures { result ≡ holds (moment state.now event.now) atom }
 {
     match value_of(state, event, atom.base) {
         Some(n) => relates(atom.rel, n, atom.value),
@@ -124,7 +125,7 @@ fn holds(state: &State, event: &Event, atom: Atom) -> bool
 
 /// What an atom compares, where it is there and is a number.
 fn value_of(state: &State, event: &Event, base: Base) -> Option<i32>
-    ensures { result ≡ value_of state.now event.now base }
+    ensures { result ≡ value_of (moment state.now event.now) base }
 {
     match base {
         Base::Var(i) => state.get(i),

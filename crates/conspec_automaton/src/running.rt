@@ -4,7 +4,7 @@ ghost use Rattle.std.specs.Prelude.{◌≡◌, ◌<◌, length, IsSome, IsTrue, 
 ghost use Rattle.api_listing.specs.declared.events.Event.{Event};
 ghost use Rattle.conspec_tree.specs.Updates.{target};
 ghost use Rattle.conspec_automaton.specs.declared.policy.Policy.{Policy};
-ghost use Rattle.conspec_automaton.specs.Next.{initial, next, next_by, updated, updated_once};
+ghost use Rattle.conspec_automaton.specs.Next.{initial, moment, next, next_by, updated, updated_once};
 ghost use Rattle.conspec_automaton.specs.Obeys.{IsFollowed, after};
 ghost use Rattle.conspec_automaton.specs.Range.{MayUpdate, SumFits, in_range};
 ghost use Rattle.conspec_automaton.specs.Sound.{IsPolicy, IsClauseIn};
@@ -61,14 +61,14 @@ fn next_by(policy: &Policy, clause: &Clause, state: &mut State, event: &Event) -
     requires policy { IsPolicy policy.now }
     requires clause { IsClauseIn policy.now.vars policy.now.maxint clause.now }
     requires ranged { IsTrue (in_range policy.now state.old) }
-    ensures is { MatchBool result (next_by clause.now state.old event.now ≡ Some state.new)
-        (next_by clause.now state.old event.now ≡ None) }
+    ensures is { MatchBool result (next_by clause.now (moment state.old event.now) ≡ Some state.new)
+        (next_by clause.now (moment state.old event.now) ≡ None) }
     ensures same { result ≡ false → state.new ≡ state.old }
     ensures ranged { IsTrue (in_range policy.now state.new) }
 {
     match branch_of(clause.branches.as_slice(), state, event) {
         Some(branch) => {
-            update(policy, state, branch.updates.as_slice());
+            update(policy, state, event, branch.updates.as_slice());
             true
         }
         None => false,
@@ -76,23 +76,23 @@ fn next_by(policy: &Policy, clause: &Clause, state: &mut State, event: &Event) -
 }
 
 /// Updates the variables of a state that leaves room for it.
-fn update(policy: &Policy, state: &mut State, updates: &[Update])
+fn update(policy: &Policy, state: &mut State, event: &Event, updates: &[Update])
     requires policy { IsPolicy policy.now }
-    requires room { MayUpdate policy.now.vars policy.now.maxint state.old updates.now }
-    ensures is { state.new ≡ updated state.old updates.now }
+    requires room { MayUpdate policy.now.vars policy.now.maxint (moment state.old event.now) updates.now }
+    ensures is { state.new ≡ updated (moment state.old event.now) updates.now }
     ensures ranged { IsTrue (in_range policy.now state.new) }
 {
     let mut left = updates;
     while let [first, rest @ ..] = left {
-        update_once(state, *first);
+        update_once(state, event, *first);
         left = rest;
     }
 }
 
-fn update_once(state: &mut State, update: Update)
+fn update_once(state: &mut State, event: &Event, update: Update)
     requires there { target update < length state.old }
-    requires fits { SumFits state.old update }
-    ensures { state.new ≡ updated_once state.old update }
+    requires fits { SumFits (moment state.old event.now) update }
+    ensures { state.new ≡ updated_once (moment state.old event.now) update }
 {
     match update {
         Update::Set { var, value } => state.set(var, value),

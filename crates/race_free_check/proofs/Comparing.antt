@@ -13,7 +13,7 @@ use Rattle.conspec_automaton.specs.declared.policy.Branch.{Branch}
 use Rattle.conspec_automaton.specs.declared.policy.Clause.{Clause}
 use Rattle.conspec_automaton.specs.declared.policy.Policy.{Policy}
 use Rattle.conspec_automaton.specs.Events.{IsWellFormed}
-use Rattle.conspec_automaton.specs.Next.{Values, clause_of, next, speaks_of, updated}
+use Rattle.conspec_automaton.specs.Next.{Values, clause_of, next, speaks_of}
 use Rattle.conspec_automaton.specs.Obeys.{after}
 use Rattle.conspec_automaton.specs.Points.{choices_of, events_of, states_of, updates_in}
 use Rattle.conspec_automaton.specs.Range.{in_range}
@@ -26,6 +26,7 @@ use Rattle.race_free_check.proofs.Likening.{try_event}
 use Rattle.race_free_check.proofs.Members.{Has, found_passes, in_either, of_all}
 use Rattle.race_free_check.proofs.Picking.{StandsFor, ends_told, pick_all, stands_sided}
 use Rattle.race_free_check.proofs.Sides.{LikeEvents, update_in}
+use Rattle.race_free_check.proofs.Updating.{altered}
 
 -- ---- ends
 
@@ -37,13 +38,13 @@ ends_same xs ys e = (pointwise_decides Decides-int_eq xs ys).1 e
 
 -- whether the one run is refused, or both end alike
 abbrev pub ends_alike : Values → Option (List Update) → Option (List Update) → Bool
-ends_alike state run turned = option_map_or (λ (end : Values). is_end end (option_map (updated state) turned)) (option_map (updated state) run) true
+ends_alike state run turned = option_map_or (λ (end : Values). is_end end (option_map (altered state) turned)) (option_map (altered state) run) true
 
 pub turned_is : (policy : Policy) (d c : Clause) (state : Values) (first second : Event) → clause_of policy first ≡ Some d → clause_of policy second ≡ Some c
     → is_turned policy state first second ≡ ends_alike state (run_of d c state first second) (run_of c d state second first)
 turned_is policy d c state first second e f =
     ap (λ (o : Option Values). option_map_or (λ (end : Values). is_end end (after (next policy) state (second ∷ first ∷ []))) o true) (run_is policy d c state first second e f)
-    ∙ ap (λ (o : Option Values). option_map_or (λ (end : Values). is_end end o) (option_map (updated state) (run_of d c state first second)) true) (run_is policy c d state second first f e)
+    ∙ ap (λ (o : Option Values). option_map_or (λ (end : Values). is_end end o) (option_map (altered state) (run_of d c state first second)) true) (run_is policy c d state second first f e)
 
 -- ---- the updates of a run
 
@@ -54,15 +55,15 @@ module _ (cs : List Clause) (d c : Clause) (state : Values) (first second : Even
     by (inl k) = update_in cs d b u hd hb k
     by (inr k) = update_in cs c e u hc he k
 
-  second_in : (b : Branch) (us : List Update) → Has d.branches b → option_map (λ (e : Branch). b.updates ++ e.updates) (chosen c (updated state b.updates) second) ≡ Some us → (u : Update) → Has us u → Has (updates_in cs) u
-  second_in b us hb some = by (chosen c (updated state b.updates) second) refl some where
-    by : (o : Option Branch) → chosen c (updated state b.updates) second ≡ o → option_map (λ (e : Branch). b.updates ++ e.updates) o ≡ Some us → (u : Update) → Has us u → Has (updates_in cs) u
+  second_in : (b : Branch) (us : List Update) → Has d.branches b → option_map (λ (e : Branch). b.updates ++ e.updates) (chosen c (altered state b.updates) second) ≡ Some us → (u : Update) → Has us u → Has (updates_in cs) u
+  second_in b us hb some = by (chosen c (altered state b.updates) second) refl some where
+    by : (o : Option Branch) → chosen c (altered state b.updates) second ≡ o → option_map (λ (e : Branch). b.updates ++ e.updates) o ≡ Some us → (u : Update) → Has us u → Has (updates_in cs) u
     by None found e = absurd cc
     by (Some branch) found e = joined_in b branch us hb (found_passes _ c.branches branch found).there (same_Some (b.updates ++ branch.updates) us e)
 
   run_in : (us : List Update) → run_of d c state first second ≡ Some us → (u : Update) → Has us u → Has (updates_in cs) u
   run_in us some = by (chosen d state first) refl some where
-    by : (o : Option Branch) → chosen d state first ≡ o → option_and_then (λ (b : Branch). option_map (λ (e : Branch). b.updates ++ e.updates) (chosen c (updated state b.updates) second)) o ≡ Some us → (u : Update) → Has us u → Has (updates_in cs) u
+    by : (o : Option Branch) → chosen d state first ≡ o → option_and_then (λ (b : Branch). option_map (λ (e : Branch). b.updates ++ e.updates) (chosen c (altered state b.updates) second)) o ≡ Some us → (u : Update) → Has us u → Has (updates_in cs) u
     by None found e = absurd cc
     by (Some branch) found e = second_in branch us (found_passes _ d.branches branch found).there e
 
@@ -109,10 +110,10 @@ module _ (policy : Policy) (sound : IsPolicy policy) (state : Values) (ranged : 
     taken_by : (p : PointFor (c ∷ []) [] []) (e : EventFor c event) → is_none (next policy p.point e.other) ≡ false → is_some (next policy state event) ≡ true
     taken_by p e passes =
         let same : chosen c state event ≡ chosen c p.point e.other = chosen_same policy (c ∷ []) one_sound state p.point (stands_sided policy.maxint (c ∷ []) [] [] state p.point p.stands) [] (none_once (c ∷ [])) c event e.other (inl refl) e.like in
-        let here : next policy state event ≡ option_map (λ (b : Branch). updated state b.updates) (chosen c state event) = next_is policy c state event found in
-        let there : next policy p.point e.other ≡ option_map (λ (b : Branch). updated p.point b.updates) (chosen c state event) = next_is policy c p.point e.other e.found ∙ ap (option_map (λ (b : Branch). updated p.point b.updates)) (sym same) in
+        let here : next policy state event ≡ option_map (λ (b : Branch). altered state b.updates) (chosen c state event) = next_is policy c state event found in
+        let there : next policy p.point e.other ≡ option_map (λ (b : Branch). altered p.point b.updates) (chosen c state event) = next_is policy c p.point e.other e.found ∙ ap (option_map (λ (b : Branch). altered p.point b.updates)) (sym same) in
         by (chosen c state event) here there where
-          by : (o : Option Branch) → next policy state event ≡ option_map (λ (b : Branch). updated state b.updates) o → next policy p.point e.other ≡ option_map (λ (b : Branch). updated p.point b.updates) o → is_some (next policy state event) ≡ true
+          by : (o : Option Branch) → next policy state event ≡ option_map (λ (b : Branch). altered state b.updates) o → next policy p.point e.other ≡ option_map (λ (b : Branch). altered p.point b.updates) o → is_some (next policy state event) ≡ true
           by None here there = absurd (false≢true (sym passes ∙ ap is_none there))
           by (Some b) here there = ap is_some here
 
@@ -166,9 +167,9 @@ module _ (policy : Policy) (sound : IsPolicy policy) (state : Values) (ranged : 
             inside u (inr h) = absurd h
       by (Some us) e (Some vs) f =
           let found = ending us vs inside all in
-          let same : pointwise int_eq (updated found.point us) (updated found.point vs) ≡ true = rw (e, f) at found.alike in
-          let ends = ends_told policy.maxint (d ∷ c ∷ []) us vs state found.point found.stands (same_ends (updated found.point us) (updated found.point vs) same) in
-          rw (e, f) (ends_same (updated state us) (updated state vs) ends) where
+          let same : pointwise int_eq (altered found.point us) (altered found.point vs) ≡ true = rw (e, f) at found.alike in
+          let ends = ends_told policy.maxint (d ∷ c ∷ []) us vs state found.point found.stands (same_ends (altered found.point us) (altered found.point vs) same) in
+          rw (e, f) (ends_same (altered state us) (altered state vs) ends) where
             inside : (u : Update) → Has us u ⊎ Has vs u → Has (updates_in (d ∷ c ∷ [])) u
             inside u (inl h) = run_in (d ∷ c ∷ []) d c state first second (inl refl) (inr (inl refl)) us e u h
             inside u (inr h) = run_in (d ∷ c ∷ []) c d state second first (inr (inl refl)) (inl refl) vs f u h

@@ -15,7 +15,7 @@ use Rattle.conspec_tree.specs.Updates.{target}
 use Rattle.conspec_automaton.specs.declared.policy.Branch.{Branch}
 use Rattle.conspec_automaton.specs.declared.policy.Clause.{Clause}
 use Rattle.conspec_automaton.specs.declared.policy.Policy.{Policy}
-use Rattle.conspec_automaton.specs.Next.{Values, holds, is_taken, relates, updated, value_of}
+use Rattle.conspec_automaton.specs.Next.{Values, holds, is_taken, moment, relates, value_of}
 use Rattle.conspec_automaton.specs.Points.{atoms_in, events_of, is_named, is_same, updates_in}
 use Rattle.conspec_automaton.specs.Sound.{IsClauseIn, IsPolicy}
 use Rattle.conspec_automaton.specs.Trying.{Placed, Point, Trial, breaks, is_broken, is_turned, points, seconds_of}
@@ -29,7 +29,7 @@ use Rattle.race_free_check.proofs.Moves.{Move, Stay, moved}
 use Rattle.race_free_check.proofs.Named.{updates_alone}
 use Rattle.race_free_check.proofs.Sides.{atom_in, names_atom, names_update, update_in}
 use Rattle.race_free_check.proofs.Trials.{parts_of}
-use Rattle.race_free_check.proofs.Updating.{each_same, got, moves, stays, touched, updated_twice}
+use Rattle.race_free_check.proofs.Updating.{altered, altered_twice, each_same, got, moves, stays, touched}
 
 -- ---- updates that a clause does not see
 
@@ -41,7 +41,7 @@ unmoved : (o : Option ℤ) → option_map (moved Stay) o ≡ o
 unmoved None = refl
 unmoved (Some n) = refl
 
-left_alone : (state : Values) (us : List Update) (i : ℕ) → moves us i ≡ Stay → slice_get (updated state us) i ≡ slice_get state i
+left_alone : (state : Values) (us : List Update) (i : ℕ) → moves us i ≡ Stay → slice_get (altered state us) i ≡ slice_get state i
 left_alone state us i e = got state us i ∙ ap (λ (m : Move). option_map (moved m) (slice_get state i)) e ∙ unmoved (slice_get state i)
 
 module _ (c : Clause) (us : List Update) (unseen : Unseen c us) (state : Values) (event : Event) where
@@ -49,23 +49,23 @@ module _ (c : Clause) (us : List Update) (unseen : Unseen c us) (state : Values)
   named_stays : (i : ℕ) → is_named i (c ∷ []) ≡ true → moves us i ≡ Stay
   named_stays i named = stays us i (λ u h same. false≢true (sym (unseen u h) ∙ ap (λ (j : ℕ). is_named j (c ∷ [])) same ∙ named))
 
-  value_stays : (a : Atom) → Has (atoms_in (c ∷ [])) a → value_of (updated state us) event a.base ≡ value_of state event a.base
+  value_stays : (a : Atom) → Has (atoms_in (c ∷ [])) a → value_of (moment (altered state us) event) a.base ≡ value_of (moment state event) a.base
   value_stays a h = by a.base refl where
-    by : (base : Base) → a.base ≡ base → value_of (updated state us) event base ≡ value_of state event base
+    by : (base : Base) → a.base ≡ base → value_of (moment (altered state us) event) base ≡ value_of (moment state event) base
     by (bases.Var i) e =
         let same : is_same (bases.Var i) a.base ≡ true = ap (is_same (bases.Var i)) e ∙ eq-eqb i i refl in
         left_alone state us i (named_stays i (names_atom (c ∷ []) i a h same))
     by (bases.Arg i) e = refl
     by bases.Result e = refl
 
-  holds_still : (a : Atom) → Has (atoms_in (c ∷ [])) a → holds (updated state us) event a ≡ holds state event a
+  holds_still : (a : Atom) → Has (atoms_in (c ∷ [])) a → holds (moment (altered state us) event) a ≡ holds (moment state event) a
   holds_still a h = ap (λ (o : Option ℤ). option_map_or (λ n. relates a.rel n a.value) o false) (value_stays a h)
 
-  taken_still : (b : Branch) → Has c.branches b → is_taken (updated state us) event b ≡ is_taken state event b
-  taken_still b hb = same_all (holds (updated state us) event) (holds state event) b.atoms (λ a ha. holds_still a (atom_in (c ∷ []) c b a (inl refl) hb ha))
+  taken_still : (b : Branch) → Has c.branches b → is_taken (moment (altered state us) event) b ≡ is_taken (moment state event) b
+  taken_still b hb = same_all (holds (moment (altered state us) event)) (holds (moment state event)) b.atoms (λ a ha. holds_still a (atom_in (c ∷ []) c b a (inl refl) hb ha))
 
-  chosen_still : chosen c (updated state us) event ≡ chosen c state event
-  chosen_still = same_found (is_taken (updated state us) event) (is_taken state event) c.branches taken_still
+  chosen_still : chosen c (altered state us) event ≡ chosen c state event
+  chosen_still = same_found (is_taken (moment (altered state us) event)) (is_taken (moment state event)) c.branches taken_still
 
 -- ---- updates of different variables turn
 
@@ -84,11 +84,11 @@ module _ (us vs : List Update) (differ : (u v : Update) → Has us u → Has vs 
     by (inl stay) = inl stay
     by (inr m) = inr (stays vs i (λ v h same. differ m.item v m.there h (m.so ∙ sym same)))
 
-  both_got : (state : Values) (ws xs : List Update) (i : ℕ) → slice_get (updated state (ws ++ xs)) i ≡ option_map (moved (moves xs i)) (option_map (moved (moves ws i)) (slice_get state i))
-  both_got state ws xs i = ap (λ (values : Values). slice_get values i) (updated_twice state ws xs) ∙ got (updated state ws) xs i ∙ ap (option_map (moved (moves xs i))) (got state ws i)
+  both_got : (state : Values) (ws xs : List Update) (i : ℕ) → slice_get (altered state (ws ++ xs)) i ≡ option_map (moved (moves xs i)) (option_map (moved (moves ws i)) (slice_get state i))
+  both_got state ws xs i = ap (λ (values : Values). slice_get values i) (altered_twice state ws xs) ∙ got (altered state ws) xs i ∙ ap (option_map (moved (moves xs i))) (got state ws i)
 
-  updates_turn : (state : Values) → updated state (us ++ vs) ≡ updated state (vs ++ us)
-  updates_turn state = each_same (updated state (us ++ vs)) (updated state (vs ++ us))
+  updates_turn : (state : Values) → altered state (us ++ vs) ≡ altered state (vs ++ us)
+  updates_turn state = each_same (altered state (us ++ vs)) (altered state (vs ++ us))
       (λ i. both_got state us vs i ∙ option_turns (moves us i) (moves vs i) (one_stays i) (slice_get state i) ∙ sym (both_got state vs us i))
 
 -- ---- clauses that are apart
@@ -107,10 +107,10 @@ run_at_once o p = option_and_then (λ (b : Branch). option_map (λ (e : Branch).
 run_still : (d c : Clause) (state : Values) (first second : Event) → Overlooks c d → run_of d c state first second ≡ run_at_once (chosen d state first) (chosen c state second)
 run_still d c state first second over = by (chosen d state first) refl where
   by : (o : Option Branch) → chosen d state first ≡ o
-      → option_and_then (λ (b : Branch). option_map (λ (e : Branch). b.updates ++ e.updates) (chosen c (updated state b.updates) second)) o ≡ run_at_once o (chosen c state second)
+      → option_and_then (λ (b : Branch). option_map (λ (e : Branch). b.updates ++ e.updates) (chosen c (altered state b.updates) second)) o ≡ run_at_once o (chosen c state second)
   by None found = refl
   by (Some b) found =
-      let there = (found_passes (is_taken state first) d.branches b found).there in
+      let there = (found_passes (is_taken (moment state first)) d.branches b found).there in
       ap (option_map (λ (e : Branch). b.updates ++ e.updates)) (chosen_still c b.updates (branch_unseen c d b over there) state second)
 
 module _ (d c : Clause) (state : Values) (first second : Event) (ahead : Overlooks c d) (behind : Overlooks d c) where
@@ -122,9 +122,9 @@ module _ (d c : Clause) (state : Values) (first second : Event) (ahead : Overloo
   at_once_alike None p found other = refl
   at_once_alike (Some b) None found other = refl
   at_once_alike (Some b) (Some e) found other =
-      let hb = (found_passes (is_taken state first) d.branches b found).there in
-      let he = (found_passes (is_taken state second) c.branches e other).there in
-      ends_same (updated state (b.updates ++ e.updates)) (updated state (e.updates ++ b.updates)) (updates_turn b.updates e.updates (branches_differ b e hb he) state)
+      let hb = (found_passes (is_taken (moment state first)) d.branches b found).there in
+      let he = (found_passes (is_taken (moment state second)) c.branches e other).there in
+      ends_same (altered state (b.updates ++ e.updates)) (altered state (e.updates ++ b.updates)) (updates_turn b.updates e.updates (branches_differ b e hb he) state)
 
   runs_alike : ends_alike state (run_of d c state first second) (run_of c d state second first) ≡ true
   runs_alike =

@@ -10,7 +10,7 @@ use Rattle.conspec_tree.specs.declared.types.Update.{Update}
 use Rattle.conspec_tree.specs.declared.types.Var.{Var}
 use Rattle.conspec_tree.specs.Tree.{greatest}
 use Rattle.conspec_automaton.specs.declared.policy.Clause.{Clause}
-use Rattle.conspec_automaton.specs.Next.{Values, updated}
+use Rattle.conspec_automaton.specs.Next.{Values}
 use Rattle.conspec_automaton.specs.Points.{is_named, named_points, near, points_of, thresholds, updates_in}
 use Rattle.conspec_automaton.specs.Range.{are_in_range, is_in_range}
 use Rattle.race_free_check.proofs.EachChoice.{Choice}
@@ -19,7 +19,7 @@ use Rattle.race_free_check.proofs.Nearest.{Near, in_ascending, itself, near_poin
 use Rattle.race_free_check.proofs.Moves.{Move, Stay, agree, moved}
 use Rattle.race_free_check.proofs.Thresholds.{Alike, differs, equals, side_itself, within}
 use Rattle.race_free_check.proofs.Sides.{Meets, Sided, mark_is, names_update}
-use Rattle.race_free_check.proofs.Updating.{each_same, got, moves, stays}
+use Rattle.race_free_check.proofs.Updating.{altered, each_same, got, moves, stays}
 
 -- ---- one number
 
@@ -121,9 +121,9 @@ module _ (maxint : ℤ) (cs : List Clause) (us vs : List Update) where
   value_told i (Some x) (Some y) m e = ap Some (m.tells (same_Some (moved (moves us i) y) (moved (moves vs i) y) e))
 
   -- where both lists of updates lead to the same from the point, they do from the state
-  pub ends_told : (s p : Values) → StandsFor s p → updated p us ≡ updated p vs → updated s us ≡ updated s vs
-  ends_told s p stands e = each_same (updated s us) (updated s vs) at where
-    at : (i : ℕ) → slice_get (updated s us) i ≡ slice_get (updated s vs) i
+  pub ends_told : (s p : Values) → StandsFor s p → altered p us ≡ altered p vs → altered s us ≡ altered s vs
+  ends_told s p stands e = each_same (altered s us) (altered s vs) at where
+    at : (i : ℕ) → slice_get (altered s us) i ≡ slice_get (altered s vs) i
     at i =
         let same : option_map (moved (moves us i)) (slice_get p i) ≡ option_map (moved (moves vs i)) (slice_get p i) = sym (got p us i) ∙ ap (λ (xs : Values). slice_get xs i) e ∙ got p vs i in
         got s us i ∙ value_told i (slice_get s i) (slice_get p i) (stands i) same ∙ sym (got s vs i)

@@ -15,12 +15,12 @@ use Rattle.conspec_tree.specs.declared.types.Update.TheVariants.{Add}
 use Rattle.conspec_tree.specs.Updates.{target}
 use Rattle.conspec_automaton.specs.declared.policy.Branch.{Branch}
 use Rattle.conspec_automaton.specs.declared.policy.Clause.{Clause}
-use Rattle.conspec_automaton.specs.Next.{Values, argument, relates, returned, updated, value_of}
+use Rattle.conspec_automaton.specs.Next.{Values, argument, moment, relates, returned, value_of}
 use Rattle.conspec_automaton.specs.Points.{added_to, assigned_to, atoms_in, compared_with, constants_of, is_named, is_same, marks, shifts, thresholds, updates_in}
 use Rattle.race_free_check.proofs.Members.{Has, in_any, in_filter_map, in_flat, in_left, in_map}
 use Rattle.race_free_check.proofs.Moves.{By, Move, Stay, To, moved}
 use Rattle.race_free_check.proofs.Thresholds.{Alike, Side, relates_same, side_itself, side_shifted}
-use Rattle.race_free_check.proofs.Updating.{IsOnce, added, got, moves, set, untouched}
+use Rattle.race_free_check.proofs.Updating.{altered, IsOnce, added, got, moves, set, untouched}
 
 -- ---- values that are there or not
 
@@ -124,15 +124,15 @@ abbrev pub AreOnce : List Clause → List Update → Type 0
 AreOnce cs us = (i : ℕ) → IsOnce (updates_in cs) i (moves us i)
 
 module _ (maxint : ℤ) (cs : List Clause) (s p : Values) (sided : Sided maxint cs s p) (us : List Update) (once : AreOnce cs us) where
-  variable_meets : (a : Atom) (i : ℕ) → Has (atoms_in cs) a → a.base ≡ bases.Var i → Meets (Side a.value) (slice_get (updated s us) i) (slice_get (updated p us) i)
+  variable_meets : (a : Atom) (i : ℕ) → Has (atoms_in cs) a → a.base ≡ bases.Var i → Meets (Side a.value) (slice_get (altered s us) i) (slice_get (altered p us) i)
   variable_meets a i h e =
       let same : is_same (bases.Var i) a.base ≡ true = rw e (eq-eqb i i refl) in
       let meets = meets_moved (moves us i) a.value (thresholds maxint i cs) (slice_get s i) (slice_get p i) (covers cs maxint i a (moves us i) h same (once i)) (sided i (names_atom cs i a h same)) in
       rw (got s us i, got p us i) meets
 
-  pub atom_meets : (a : Atom) (e f : Event) → Has (atoms_in cs) a → PassesAlike e f a.value a.base → Meets (Side a.value) (value_of (updated s us) e a.base) (value_of (updated p us) f a.base)
+  pub atom_meets : (a : Atom) (e f : Event) → Has (atoms_in cs) a → PassesAlike e f a.value a.base → Meets (Side a.value) (value_of (moment (altered s us) e) a.base) (value_of (moment (altered p us) f) a.base)
   atom_meets a e f h passes = by a.base refl passes where
-    by : (b : Base) → a.base ≡ b → PassesAlike e f a.value b → Meets (Side a.value) (value_of (updated s us) e b) (value_of (updated p us) f b)
+    by : (b : Base) → a.base ≡ b → PassesAlike e f a.value b → Meets (Side a.value) (value_of (moment (altered s us) e) b) (value_of (moment (altered p us) f) b)
     by (bases.Var i) is passed = variable_meets a i h is
     by (bases.Arg i) is passed = passed
     by bases.Result is passed = passed

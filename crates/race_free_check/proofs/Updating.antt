@@ -4,12 +4,29 @@ use Rattle.std.specs.Prelude.{AllPairs, ◌==◌, if◌then◌else◌, option_ma
 use Rattle.std.specs.Option.{option_map_or}
 use Rattle.std.proofs.lemmas.Bool.{eqb-false, eqb-true}
 use Rattle.std.proofs.lemmas.Option.{same_Some}
+use Rattle.api_listing.specs.declared.events.Event.{Event}
 use Rattle.conspec_tree.specs.declared.types.Update.{Update}
 use Rattle.conspec_tree.specs.declared.types.Update.TheVariants.{Set, Add}
 use Rattle.conspec_tree.specs.Updates.{target}
-use Rattle.conspec_automaton.specs.Next.{Values, updated, updated_once}
+use Rattle.conspec_automaton.specs.Next.{Values, moment, updated}
 use Rattle.race_free_check.proofs.Members.{Among, Has, place_of}
 use Rattle.race_free_check.proofs.Moves.{By, Move, Stay, To, moved, joined, moved_joined}
+
+-- ---- what updates make of a state
+
+-- none reads the event
+abbrev altered_once : Values → Update → Values
+altered_once state (Set var value) = slice_set state var value
+altered_once state (Add var by) = option_map_or (λ n. slice_set state var (n +ℤ by)) (slice_get state var) state
+
+abbrev pub altered : Values → List Update → Values
+altered state [] = state
+altered state (u ∷ us) = altered (altered_once state u) us
+
+pub updated_alters : (event : Event) (us : List Update) (state : Values) → updated (moment state event) us ≡ altered state us
+updated_alters event [] state = refl
+updated_alters event (Set var value ∷ us) state = updated_alters event us _
+updated_alters event (Add var by ∷ us) state = updated_alters event us _
 
 -- ---- one update
 
@@ -37,19 +54,19 @@ set_there (x ∷ state) zero (suc j) n ne = refl
 set_there (x ∷ state) (suc i) zero n ne = refl
 set_there (x ∷ state) (suc i) (suc j) n ne = set_there state i j n (λ e. ne (ap suc e))
 
-once_there : (state : Values) (u : Update) (i : ℕ) → target u ≢ i → slice_get (updated_once state u) i ≡ slice_get state i
+once_there : (state : Values) (u : Update) (i : ℕ) → target u ≢ i → slice_get (altered_once state u) i ≡ slice_get state i
 once_there state (Set var value) i ne = set_there state var i value ne
 once_there state (Add var by) i ne = at (slice_get state var) where
   at : (o : Option ℤ) → slice_get (option_map_or (λ n. slice_set state var (n +ℤ by)) o state) i ≡ slice_get state i
   at None = refl
   at (Some n) = set_there state var i (n +ℤ by) ne
 
-once_here : (state : Values) (u : Update) (i : ℕ) → target u ≡ i → slice_get (updated_once state u) i ≡ option_map (moved (move_at u)) (slice_get state i)
+once_here : (state : Values) (u : Update) (i : ℕ) → target u ≡ i → slice_get (altered_once state u) i ≡ option_map (moved (move_at u)) (slice_get state i)
 once_here state (Set var value) i e = subst (λ (j : ℕ). slice_get (slice_set state var value) j ≡ option_map (moved (To value)) (slice_get state j)) e (at (slice_get state var) refl) where
   at : (o : Option ℤ) → slice_get state var ≡ o → slice_get (slice_set state var value) var ≡ option_map (moved (To value)) (slice_get state var)
   at None is = set_past state var value is ∙ sym (ap (option_map (moved (To value))) is)
   at (Some n) is = set_here state var value n is ∙ sym (ap (option_map (moved (To value))) is)
-once_here state (Add var by) i e = subst (λ (j : ℕ). slice_get (updated_once state (Add var by)) j ≡ option_map (moved (By by)) (slice_get state j)) e (at (slice_get state var) refl) where
+once_here state (Add var by) i e = subst (λ (j : ℕ). slice_get (altered_once state (Add var by)) j ≡ option_map (moved (By by)) (slice_get state j)) e (at (slice_get state var) refl) where
   at : (o : Option ℤ) → slice_get state var ≡ o → slice_get (option_map_or (λ n. slice_set state var (n +ℤ by)) (slice_get state var) state) var ≡ option_map (moved (By by)) (slice_get state var)
   at None is = rw (is, is) refl
   at (Some n) is =
@@ -58,13 +75,13 @@ once_here state (Add var by) i e = subst (λ (j : ℕ). slice_get (updated_once 
       let right : option_map (moved (By by)) (slice_get state var) ≡ Some (n +ℤ by) = rw is refl in
       left ∙ sym right
 
-got_once : (state : Values) (u : Update) (i : ℕ) → slice_get (updated_once state u) i ≡ option_map (moved (move_once u i)) (slice_get state i)
+got_once : (state : Values) (u : Update) (i : ℕ) → slice_get (altered_once state u) i ≡ option_map (moved (move_once u i)) (slice_get state i)
 got_once state u i = at (target u == i) refl where
   stays : (o : Option ℤ) → o ≡ option_map (moved Stay) o
   stays None = refl
   stays (Some n) = refl
 
-  at : (b : Bool) → (target u == i) ≡ b → slice_get (updated_once state u) i ≡ option_map (moved (if b then move_at u else Stay)) (slice_get state i)
+  at : (b : Bool) → (target u == i) ≡ b → slice_get (altered_once state u) i ≡ option_map (moved (if b then move_at u else Stay)) (slice_get state i)
   at true e = once_here state u i (eqb-true (target u) i e)
   at false e = once_there state u i (eqb-false (target u) i e) ∙ stays (slice_get state i)
 
@@ -79,16 +96,16 @@ option_moved m k None = refl
 option_moved m k (Some x) = ap Some (sym (moved_joined m k x))
 
 -- the value of a variable is moved by all of them
-pub got : (state : Values) (us : List Update) (i : ℕ) → slice_get (updated state us) i ≡ option_map (moved (moves us i)) (slice_get state i)
+pub got : (state : Values) (us : List Update) (i : ℕ) → slice_get (altered state us) i ≡ option_map (moved (moves us i)) (slice_get state i)
 got state [] i = stays (slice_get state i) where
   stays : (o : Option ℤ) → o ≡ option_map (moved Stay) o
   stays None = refl
   stays (Some n) = refl
-got state (u ∷ us) i = got (updated_once state u) us i ∙ ap (option_map (moved (moves us i))) (got_once state u i) ∙ option_moved (move_once u i) (moves us i) (slice_get state i)
+got state (u ∷ us) i = got (altered_once state u) us i ∙ ap (option_map (moved (moves us i))) (got_once state u i) ∙ option_moved (move_once u i) (moves us i) (slice_get state i)
 
-pub updated_twice : (state : Values) (us vs : List Update) → updated state (us ++ vs) ≡ updated (updated state us) vs
-updated_twice state [] vs = refl
-updated_twice state (u ∷ us) vs = updated_twice (updated_once state u) us vs
+pub altered_twice : (state : Values) (us vs : List Update) → altered state (us ++ vs) ≡ altered (altered state us) vs
+altered_twice state [] vs = refl
+altered_twice state (u ∷ us) vs = altered_twice (altered_once state u) us vs
 
 -- a variable that none is of stays
 pub stays : (us : List Update) (i : ℕ) → ((u : Update) → Has us u → target u ≢ i) → moves us i ≡ Stay

@@ -27,7 +27,7 @@ use Rattle.conspec_tree.specs.declared.types.Rel.{Rel}
 use Rattle.conspec_automaton.specs.declared.policy.Branch.{Branch}
 use Rattle.conspec_automaton.specs.declared.policy.Clause.{Clause}
 use Rattle.conspec_automaton.specs.declared.policy.Policy.{Policy}
-use Rattle.conspec_automaton.specs.Next.{holds, relates}
+use Rattle.conspec_automaton.specs.Next.{holds, moment, relates}
 use Rattle.guest_heap.specs.declared.value.Value.{Value}
 use Rattle.guest_heap.specs.declared.value.Value.TheVariants as values
 use Rattle.guest_frames.specs.Stepping.{moved_to}
@@ -220,7 +220,7 @@ module _ (program : Program) (policy : Policy) (annotations : Annotations) (o : 
   module _ (relation : Relation) (to : ℕ) (is : shape_of next.0 ≡ shapes.Compare relation to) (branch : Branch) (atom : Atom)
       (there : slice_get m.clause.branches failed ≡ Some branch) (atom_is : slice_get branch.atoms holding ≡ Some atom) (asked : AsksAtom list atom) where
     abbrev so : Bool
-    so = holds m.state m.event atom
+    so = holds (moment m.state m.event) atom
 
     tops : TwoTops (base_term atom.base) (terms.Const atom.value)
     tops = two_tops (base_term atom.base) (terms.Const atom.value) asked.base asked.value

@@ -13,7 +13,7 @@ use Rattle.conspec_tree.specs.declared.types.Phase.TheVariants.{Before, After, E
 use Rattle.conspec_automaton.specs.declared.policy.Branch.{Branch}
 use Rattle.conspec_automaton.specs.declared.policy.Clause.{Clause}
 use Rattle.conspec_automaton.specs.declared.policy.Policy.{Policy}
-use Rattle.conspec_automaton.specs.Next.{Values, clause_of as clause_for, has_clause, holds, initial, is_phase_of, is_taken, method_of, next, next_by, speaks_of, updated}
+use Rattle.conspec_automaton.specs.Next.{Values, clause_of as clause_for, has_clause, holds, initial, is_phase_of, is_taken, method_of, moment, next, next_by, speaks_of, updated}
 use Rattle.conspec_automaton.specs.Obeys.{IsFollowed, after, is_return, spoken}
 use Rattle.conspec_automaton.specs.Range.{in_range}
 use Rattle.conspec_automaton.specs.Sight.{sight_of}
@@ -144,16 +144,16 @@ first_found p (y ∷ xs) (suc i) x there fail passes =
     rw (fail 0 y (omega arith) refl) (first_found p xs i x there (λ j z less is. fail (suc j) z (omega arith) is) passes)
 
 module _ (policy : Policy) (site : Site) (clause : Clause) (there : clause_of policy site ≡ Some clause) (e : Event) (of : IsEventOf site e) (state : Values) where
-  by_clause : next policy state e ≡ next_by clause state e
+  by_clause : next policy state e ≡ next_by clause (moment state e)
   by_clause = let found : clause_for policy e ≡ Some clause = clause_found policy site e of ∙ there in rw found refl
 
   -- The first branches fail, and all atoms of this one hold: it is taken.
   pub taken_by : (failed : ℕ) (branch : Branch) → slice_get clause.branches failed ≡ Some branch → IsTried state e clause.branches failed (length branch.atoms)
-      → next policy state e ≡ Some (updated state branch.updates)
+      → next policy state e ≡ Some (updated (moment state e) branch.updates)
   taken_by failed branch is tried =
-      let passes : is_taken state e branch ≡ true = all_pass (holds state e) branch.atoms (tried.hold branch is).1 in
-      let found : find (is_taken state e) clause.branches ≡ Some branch = first_found (is_taken state e) clause.branches failed branch is tried.fail passes in
-      by_clause ∙ ap (option_map (λ (b : Branch). updated state b.updates)) found
+      let passes : is_taken (moment state e) branch ≡ true = all_pass (holds (moment state e)) branch.atoms (tried.hold branch is).1 in
+      let found : find (is_taken (moment state e)) clause.branches ≡ Some branch = first_found (is_taken (moment state e)) clause.branches failed branch is tried.fail passes in
+      by_clause ∙ ap (option_map (λ (b : Branch). updated (moment state e) b.updates)) found
 
 -- An accepted event leads to a state in range.
 pub stays_ranged : (policy : Policy) (state end : Values) (e : Event) → IsPolicy policy → in_range policy state ≡ true → next policy state e ≡ Some end

@@ -19,7 +19,7 @@ use Rattle.conspec_automaton.specs.declared.policy.Branch.{Branch}
 use Rattle.conspec_automaton.specs.declared.policy.Clause.{Clause}
 use Rattle.conspec_automaton.specs.declared.policy.Policy.{Policy}
 use Rattle.conspec_automaton.specs.Denying.{Denies}
-use Rattle.conspec_automaton.specs.Next.{Values, next, updated}
+use Rattle.conspec_automaton.specs.Next.{Values, moment, next, updated}
 use Rattle.conspec_automaton.specs.Obeys.{IsFollowed}
 use Rattle.conspec_automaton.specs.Range.{in_range}
 use Rattle.conspec_automaton.specs.Sight.{sight_of}
@@ -186,7 +186,7 @@ module _ (program : Program) (policy : Policy) (annotations : Annotations) (o : 
         let of : IsEventOf site h.event = due_event policy site site.phase seen h.state h.event h.due in
         let tried : IsTried h.state h.event h.clause.branches failed (length d.branch.atoms) = subst (IsTried h.state h.event h.clause.branches failed) d.all h.tried in
         let taken = taken_by policy site h.clause h.there h.event of h.state failed d.branch d.there tried in
-        let end = updated h.state d.branch.updates in
+        let end = updated (moment h.state h.event) d.branch.updates in
         let written : AreTerms program h.state h.event (after_updates policy d.branch.updates) fields =
         subst (λ (m : List Term). AreTerms program h.state h.event m fields) d.written h.variables in
         record {

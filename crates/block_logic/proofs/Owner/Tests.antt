@@ -23,7 +23,7 @@ use Rattle.conspec_tree.specs.declared.types.Rel.TheVariants as rels
 use Rattle.conspec_tree.specs.Tree.{greatest}
 use Rattle.conspec_automaton.specs.declared.policy.Branch.{Branch}
 use Rattle.conspec_automaton.specs.declared.policy.Policy.{Policy}
-use Rattle.conspec_automaton.specs.Next.{Values, holds, is_taken, relates, value_of}
+use Rattle.conspec_automaton.specs.Next.{Values, holds, is_taken, moment, relates, value_of}
 use Rattle.conspec_automaton.specs.Range.{in_range, is_between}
 use Rattle.conspec_automaton.specs.Sound.{IsPolicy}
 use Rattle.conspec_automaton.proofs.Ranges.{between_is, int_low, same_length, value_there}
@@ -86,20 +86,20 @@ atom_asked list atom e =
     record { base = same_as (base_term atom.base) (last_but_one list) p.0; value = same_as (terms.Const atom.value) (last_term list) p.1 }
 
 module _ (program : Program) (state : Values) (event : Event) where
-  base_is : (base : Base) → term_value program state event (base_term base) ≡ option_map values.Int (value_of state event base)
+  base_is : (base : Base) → term_value program state event (base_term base) ≡ option_map values.Int (value_of (moment state event) base)
   base_is (bases.Var var) = refl
   base_is (bases.Arg i) = refl
   base_is bases.Result = refl
 
   -- It holds where its operands relate.
   pub compared_holds : (atom : Atom) (x y : Value) → term_value program state event (base_term atom.base) ≡ Some x
-      → term_value program state event (terms.Const atom.value) ≡ Some y → holds state event atom ≡ relates atom.rel (number_of x) (number_of y)
+      → term_value program state event (terms.Const atom.value) ≡ Some y → holds (moment state event) atom ≡ relates atom.rel (number_of x) (number_of y)
   compared_holds atom x y first second =
-      let n = map_of values.Int (value_of state event atom.base) x (sym (base_is atom.base) ∙ first) in
+      let n = map_of values.Int (value_of (moment state event) atom.base) x (sym (base_is atom.base) ∙ first) in
       let constant : values.Int atom.value ≡ y = cc in
       known n.0 n.1 x n.2 y constant where
-        known : (n : ℤ) → value_of state event atom.base ≡ Some n → (x : Value) → values.Int n ≡ x → (y : Value) → values.Int atom.value ≡ y
-            → holds state event atom ≡ relates atom.rel (number_of x) (number_of y)
+        known : (n : ℤ) → value_of (moment state event) atom.base ≡ Some n → (x : Value) → values.Int n ≡ x → (y : Value) → values.Int atom.value ≡ y
+            → holds (moment state event) atom ≡ relates atom.rel (number_of x) (number_of y)
         known n is x first y second = rw (is, ← first, ← second) refl
 
   -- ---- branches that are tried
@@ -109,20 +109,20 @@ module _ (program : Program) (state : Values) (event : Event) where
     same_branch : (b : Branch) → slice_get branches failed ≡ Some b → branch ≡ b
     same_branch b is = cc
 
-    pub one_more_holds : holds state event atom ≡ true → IsTried state event branches failed (holding + 1)
+    pub one_more_holds : holds (moment state event) atom ≡ true → IsTried state event branches failed (holding + 1)
     one_more_holds so = record {
       few = tried.few;
       fail = tried.fail;
-      hold = λ b is. subst (λ (c : Branch). (holding + 1 ≤ length c.atoms) × ((j : ℕ) (x : Atom) → j < holding + 1 → slice_get c.atoms j ≡ Some x → holds state event x ≡ true))
+      hold = λ b is. subst (λ (c : Branch). (holding + 1 ≤ length c.atoms) × ((j : ℕ) (x : Atom) → j < holding + 1 → slice_get c.atoms j ≡ Some x → holds (moment state event) x ≡ true))
           (same_branch b is) (omega (arith, slice_get_within branch.atoms holding atom next), each);
     } where
-      each : (j : ℕ) (x : Atom) → j < holding + 1 → slice_get branch.atoms j ≡ Some x → holds state event x ≡ true
+      each : (j : ℕ) (x : Atom) → j < holding + 1 → slice_get branch.atoms j ≡ Some x → holds (moment state event) x ≡ true
       each j x less is = elim (cases_lt j holding) [
         | inl before ↦ (tried.hold branch there).1 j x before is
         | inr last ↦
             let here : j ≡ holding = omega arith in
             let same : atom ≡ x = let at : slice_get branch.atoms holding ≡ Some x = subst (λ (n : ℕ). slice_get branch.atoms n ≡ Some x) here is in cc in
-            subst (λ (y : Atom). holds state event y ≡ true) same so
+            subst (λ (y : Atom). holds (moment state event) y ≡ true) same so
       ]
 
     one_fails : {X : Type 0} (p : X → Bool) (xs : List X) (i : ℕ) (x : X) → slice_get xs i ≡ Some x → p x ≡ false → list_all p xs ≡ false
@@ -130,19 +130,19 @@ module _ (program : Program) (state : Values) (event : Event) where
     one_fails p (y ∷ xs) zero x is fails = let same : y ≡ x = cc in rw (same, fails) refl
     one_fails p (y ∷ xs) (suc i) x is fails = and_right (p y) (list_all p xs) (one_fails p xs i x is fails)
 
-    pub one_more_fails : holds state event atom ≡ false → IsTried state event branches (failed + 1) 0
+    pub one_more_fails : holds (moment state event) atom ≡ false → IsTried state event branches (failed + 1) 0
     one_more_fails not_so = record {
       few = omega (arith, slice_get_within branches failed branch there);
       fail = each;
       hold = λ b is. (omega arith, λ j x less at. absurd (omega arith));
     } where
-      each : (j : ℕ) (b : Branch) → j < failed + 1 → slice_get branches j ≡ Some b → is_taken state event b ≡ false
+      each : (j : ℕ) (b : Branch) → j < failed + 1 → slice_get branches j ≡ Some b → is_taken (moment state event) b ≡ false
       each j b less is = elim (cases_lt j failed) [
         | inl before ↦ tried.fail j b before is
         | inr last ↦
             let here : j ≡ failed = omega arith in
             let same : branch ≡ b = same_branch b (subst (λ (n : ℕ). slice_get branches n ≡ Some b) here is) in
-            subst (λ (c : Branch). is_taken state event c ≡ false) same (one_fails (holds state event) branch.atoms holding atom next not_so)
+            subst (λ (c : Branch). is_taken (moment state event) c ≡ false) same (one_fails (holds (moment state event)) branch.atoms holding atom next not_so)
       ]
 
 -- ---- sums

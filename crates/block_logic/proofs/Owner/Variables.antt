@@ -15,7 +15,7 @@ use Rattle.conspec_tree.specs.Updates.{target}
 use Rattle.conspec_automaton.specs.declared.policy.Branch.{Branch}
 use Rattle.conspec_automaton.specs.declared.policy.Clause.{Clause}
 use Rattle.conspec_automaton.specs.declared.policy.Policy.{Policy}
-use Rattle.conspec_automaton.specs.Next.{Values, updated, updated_once}
+use Rattle.conspec_automaton.specs.Next.{Values, moment, updated, updated_once}
 use Rattle.conspec_automaton.specs.Range.{in_range}
 use Rattle.conspec_automaton.specs.Sound.{IsBranchIn, IsClauseIn, IsPolicy}
 use Rattle.conspec_automaton.proofs.Ranges.{found_is, same_length}
@@ -42,17 +42,17 @@ set_elsewhere (y ∷ xs) (suc i) (suc j) x other = set_elsewhere xs i j x (λ e.
 
 -- ---- one update
 
-once_length : (state : Values) (u : Update) → length (updated_once state u) ≡ length state
-once_length state (Set var value) = length-set state var value
-once_length state (Add var by) = each (slice_get state var) where
+once_length : (e : Event) (state : Values) (u : Update) → length (updated_once (moment state e) u) ≡ length state
+once_length e state (Set var value) = length-set state var value
+once_length e state (Add var by) = each (slice_get state var) where
   each : (o : Option ℤ) → length (option_map_or (λ n. slice_set state var (n +ℤ by)) o state) ≡ length state
   each None = refl
   each (Some n) = length-set state var (n +ℤ by)
 
 -- a variable that it is not of
-other_kept : (state : Values) (u : Update) (i : ℕ) → target u ≢ i → slice_get (updated_once state u) i ≡ slice_get state i
-other_kept state (Set var value) i other = set_elsewhere state i var value other
-other_kept state (Add var by) i other = each (slice_get state var) where
+other_kept : (e : Event) (state : Values) (u : Update) (i : ℕ) → target u ≢ i → slice_get (updated_once (moment state e) u) i ≡ slice_get state i
+other_kept e state (Set var value) i other = set_elsewhere state i var value other
+other_kept e state (Add var by) i other = each (slice_get state var) where
   each : (o : Option ℤ) → slice_get (option_map_or (λ n. slice_set state var (n +ℤ by)) o state) i ≡ slice_get state i
   each None = refl
   each (Some n) = set_elsewhere state i var (n +ℤ by) other
@@ -81,7 +81,7 @@ module _ (program : Program) (e : Event) where
 
   -- what an update writes
   this_one : (state : Values) (u : Update) → target u < length state
-      → term_value program state e (written u) ≡ option_map values.Int (slice_get (updated_once state u) (target u))
+      → term_value program state e (written u) ≡ option_map values.Int (slice_get (updated_once (moment state e) u) (target u))
   this_one state (Set var value) inside = rw (set_there state var value inside) refl
   this_one state (Add var by) inside = each (slice_get state var) refl where
     each : (o : Option ℤ) → slice_get state var ≡ o
@@ -90,16 +90,16 @@ module _ (program : Program) (e : Event) where
     each (Some n) is = rw (set_there state var (n +ℤ by) inside) refl
 
   -- what later updates write, after one that is of another variable
-  later_kept : (state : Values) (u : Update) (i : ℕ) (us : List Update) → target u ≢ i → worth (updated_once state u) i us ≡ worth state i us
-  later_kept state u i [] other = ap (option_map values.Int) (other_kept state u i other)
+  later_kept : (state : Values) (u : Update) (i : ℕ) (us : List Update) → target u ≢ i → worth (updated_once (moment state e) u) i us ≡ worth state i us
+  later_kept state u i [] other = ap (option_map values.Int) (other_kept e state u i other)
   later_kept state u i (w ∷ us) other = by (target w == i) refl (later_kept state u i us other) where
-    reads : (w : Update) → target w ≡ i → term_value program (updated_once state u) e (written w) ≡ term_value program state e (written w)
+    reads : (w : Update) → target w ≡ i → term_value program (updated_once (moment state e) u) e (written w) ≡ term_value program state e (written w)
     reads (Set var value) is = refl
     reads (Add var by) is =
-        let same : slice_get (updated_once state u) var ≡ slice_get state var = other_kept state u var (λ t. other (t ∙ is)) in
+        let same : slice_get (updated_once (moment state e) u) var ≡ slice_get state var = other_kept e state u var (λ t. other (t ∙ is)) in
         ap (option_map (λ m. values.Int (m +ℤ by))) same
 
-    by : (b : Bool) → (target w == i) ≡ b → worth (updated_once state u) i us ≡ worth state i us → worth (updated_once state u) i (w ∷ us) ≡ worth state i (w ∷ us)
+    by : (b : Bool) → (target w == i) ≡ b → worth (updated_once (moment state e) u) i us ≡ worth state i us → worth (updated_once (moment state e) u) i (w ∷ us) ≡ worth state i (w ∷ us)
     by true is later = rw is (reads w (eqb-true (target w) i is))
     by false is later = rw is later
 
@@ -112,19 +112,19 @@ module _ (program : Program) (e : Event) where
 
   -- A variable once the updates are made.
   variable_is : (us : List Update) (state : Values) (i : ℕ) → AreApart us → AreInside (length state) us
-      → worth state i us ≡ option_map values.Int (slice_get (updated state us) i)
+      → worth state i us ≡ option_map values.Int (slice_get (updated (moment state e) us) i)
   variable_is [] state i apart inside = refl
   variable_is (u ∷ us) state i apart inside =
-      let within : AreInside (length (updated_once state u)) us = subst (λ (n : ℕ). AreInside n us) (sym (once_length state u)) inside.1 in
-      by (target u == i) refl (variable_is us (updated_once state u) i apart.1 within) where
-        by : (b : Bool) → (target u == i) ≡ b → worth (updated_once state u) i us ≡ option_map values.Int (slice_get (updated (updated_once state u) us) i)
-            → worth state i (u ∷ us) ≡ option_map values.Int (slice_get (updated (updated_once state u) us) i)
+      let within : AreInside (length (updated_once (moment state e) u)) us = subst (λ (n : ℕ). AreInside n us) (sym (once_length e state u)) inside.1 in
+      by (target u == i) refl (variable_is us (updated_once (moment state e) u) i apart.1 within) where
+        by : (b : Bool) → (target u == i) ≡ b → worth (updated_once (moment state e) u) i us ≡ option_map values.Int (slice_get (updated (moment (updated_once (moment state e) u) e) us) i)
+            → worth state i (u ∷ us) ≡ option_map values.Int (slice_get (updated (moment (updated_once (moment state e) u) e) us) i)
         by true is later =
             let same : target u ≡ i = eqb-true (target u) i is in
             let none : variable_after us i ≡ variable_after [] i = none_is i us (subst (λ (n : ℕ). AllByRecursion (λ w. n ≢ target w) us) same apart.0) in
-            let here : term_value program state e (written u) ≡ option_map values.Int (slice_get (updated_once state u) i) =
-            this_one state u inside.0 ∙ ap (λ (n : ℕ). option_map values.Int (slice_get (updated_once state u) n)) same in
-            rw is (here ∙ sym (ap (term_value program (updated_once state u) e) none) ∙ later)
+            let here : term_value program state e (written u) ≡ option_map values.Int (slice_get (updated_once (moment state e) u) i) =
+            this_one state u inside.0 ∙ ap (λ (n : ℕ). option_map values.Int (slice_get (updated_once (moment state e) u) n)) same in
+            rw is (here ∙ sym (ap (term_value program (updated_once (moment state e) u) e) none) ∙ later)
         by false is later = rw is (sym (later_kept state u i us (eqb-false (target u) i is)) ∙ later)
 
   -- all variables from one on
@@ -140,9 +140,9 @@ module _ (program : Program) (e : Event) where
       λ i. let place : var + suc i ≡ var + 1 + i = omega arith in subst (λ (k : ℕ). worth state k us ≡ option_map values.Int (slice_get held i)) place (each (suc i)) in
       rw (first, variables_are us state held (var + 1) n (omega arith) next) refl
 
-updated_length : (us : List Update) (state : Values) → length (updated state us) ≡ length state
-updated_length [] state = refl
-updated_length (u ∷ us) state = updated_length us (updated_once state u) ∙ once_length state u
+updated_length : (e : Event) (us : List Update) (state : Values) → length (updated (moment state e) us) ≡ length state
+updated_length e [] state = refl
+updated_length e (u ∷ us) state = updated_length e us (updated_once (moment state e) u) ∙ once_length e state u
 
 pub map_some_is : {X : Type 0} (xs ys : List X) → map Some xs ≡ map Some ys → xs ≡ ys
 map_some_is [] [] e = refl
@@ -175,14 +175,14 @@ module _ (program : Program) (policy : Policy) (good : IsPolicy policy) (e : Eve
         (omega (arith, within, as_many), all_inside us all.1)
 
     -- once those of a branch are made
-    pub done_are : (fields : List Value) → AreTerms program state e (after_updates policy branch.updates) fields → AreState fields (updated state branch.updates)
+    pub done_are : (fields : List Value) → AreTerms program state e (after_updates policy branch.updates) fields → AreState fields (updated (moment state e) branch.updates)
     done_are fields are =
         let us = branch.updates in
-        let each : (i : ℕ) → worth program e state (0 + i) us ≡ option_map values.Int (slice_get (updated state us) i) =
+        let each : (i : ℕ) → worth program e state (0 + i) us ≡ option_map values.Int (slice_get (updated (moment state e) us) i) =
         λ i. let place : 0 + i ≡ i = omega arith in
         ap (λ (k : ℕ). worth program e state k us) place ∙ variable_is program e us state i (apart_from us well.once) (all_inside us well.updates) in
-        let all = variables_are program e us state (updated state us) 0 (length policy.vars) (updated_length us state ∙ as_many) each in
-        map_some_is fields (map values.Int (updated state us)) (sym are ∙ all)
+        let all = variables_are program e us state (updated (moment state e) us) 0 (length policy.vars) (updated_length e us state ∙ as_many) each in
+        map_some_is fields (map values.Int (updated (moment state e) us)) (sym are ∙ all)
 
 -- a branch of the clause of a site
 pub branch_well : (policy : Policy) (good : IsPolicy policy) (site : Site) (clause : Clause) (i : ℕ) (branch : Branch) → clause_of policy site ≡ Some clause
