@@ -10,13 +10,13 @@ use Rattle.block_logic.proofs.Obeyed.{Proved}
 use Rattle.block_logic.proofs.Owner.Answers.{owner_answers}
 use Rattle.block_logic.proofs.Owner.Granted.{SeenIsEnough}
 use Rattle.block_logic.proofs.Owner.Steps.{owner_steps}
-use Rattle.block_logic.proofs.Owner.Taking.{taking_steps, taking_waits}
+use Rattle.block_logic.proofs.Owner.Taking.{taking_is_unseen, taking_steps, taking_waits}
 use Rattle.block_logic.proofs.Ruled.{BeginsOpen, OpenIsFree, RulesHold}
 use Rattle.block_logic.proofs.RulesHold.{begins_open, open_is_free, rules_hold}
 use Rattle.block_logic.proofs.Starting.{starts_well}
 use Rattle.block_logic.proofs.Client.Begins.{rests_client}
 use Rattle.block_logic.proofs.Client.Frames.{Laws}
-use Rattle.block_logic.proofs.Steps.{StartsWell}
+use Rattle.block_logic.proofs.Steps.{StartsWell, TakingIsUnseen}
 
 module _ (program : Program) (policy : Policy) (certificate : Certificate) (o : IsObeying program policy certificate) where
   ruled : RulesHold program policy certificate
@@ -38,6 +38,9 @@ module _ (program : Program) (policy : Policy) (certificate : Certificate) (o : 
     owner_answers = owner_answers program policy certificate o ruled;
   }
 
+  pub unseen : TakingIsUnseen program policy certificate
+  unseen = taking_is_unseen program policy certificate o ruled
+
   pub starts : StartsWell program policy certificate
   starts =
       let laws : Laws program policy certificate = record { obeys = o; rules_hold = ruled; begins_open = begin; open_free = free } in
@@ -47,4 +50,5 @@ pub proved : SeenIsEnough → Proved
 proved seen = record {
   steps = λ program policy certificate o. step_laws program policy certificate o seen;
   starts = λ program policy certificate o. starts program policy certificate o;
+  unseen = λ program policy certificate o. unseen program policy certificate o;
 }
