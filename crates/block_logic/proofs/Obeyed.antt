@@ -3,7 +3,7 @@ use Rattle.std.proofs.Common.{◌≡◌, ◌≢◌, ◌⊎◌, ℕ, ◌==◌, Bo
 use Rattle.std.specs.Prelude.{IfSome, find, option_map}
 use Rattle.std.specs.List.{AllByRecursion}
 use Rattle.std.specs.Option.{option_map_or, option_to_list}
-use Rattle.std.proofs.lemmas.Bool.{and_parts, cases_Bool}
+use Rattle.std.proofs.lemmas.Bool.{and_parts, cases_Bool, cases_eq}
 use Rattle.api_listing.specs.declared.events.Event.{Event}
 use Rattle.api_listing.specs.declared.events.Event.TheVariants as events
 use Rattle.bytecode_model.specs.declared.program.Program.{Program}
@@ -22,13 +22,13 @@ use Rattle.guest_model.specs.declared.machine.Step.{Step}
 use Rattle.guest_model.specs.Changes.{Change, applied, world_of}
 use Rattle.guest_model.specs.Runs.{exec, seen, trace}
 use Rattle.guest_model.specs.Stepping.{changed}
-use Rattle.guest_model.proofs.Options.{some_is}
+use Rattle.guest_model.proofs.Options.{map_of, some_is}
 use Rattle.block_logic.specs.Fitting.{Fits, IsKept, IsLocked, IsUnlocked, held_locks, locked_by}
 use Rattle.block_logic.specs.Meaning.{IsJudged}
-use Rattle.block_logic.specs.Obeying.{AcceptedObeys, IsObeying, LockOrders}
-use Rattle.block_logic.proofs.Composing.{StepLaws}
+use Rattle.block_logic.specs.Obeying.{AcceptedObeys, IsObeying, LockIsHeld, LockOrders}
+use Rattle.block_logic.proofs.Composing.{Moves, StepLaws}
 use Rattle.block_logic.proofs.Keeping.{IsMade, always_kept, client_changes, is_made, moves}
-use Rattle.block_logic.proofs.Steps.{ChangesClient, StartsWell}
+use Rattle.block_logic.proofs.Steps.{ChangesClient, StartsWell, TakingIsUnseen}
 use Rattle.block_logic.proofs.Tests.{it_is_there}
 
 -- ---- lists
@@ -125,10 +125,50 @@ module _ (program : Program) (policy : Policy) (annotations : Annotations) (laws
         let fits = kept.fits m.goes in
         unseen_one change.event (other_changes change m fits fits.lock).event
 
+  -- A step whose event has a clause is of the thread that holds the lock.
+  module _ (takes_unseen : TakingIsUnseen program policy annotations) (machine : Machine) (events : List Event) (step : Step) (change : Change) (event : Event)
+      (is : change.event ≡ Some event) (has : has_clause policy event ≡ true) where
+    clauseless : (o : Option Event) → IfSome o (λ (e : Event). has_clause policy e ≡ false) → o ≡ Some event → ⊥
+    clauseless None none e = absurd cc
+    clauseless (Some seen) none e = let same : seen ≡ event = some_is seen event e in absurd cc
+
+    not_client : ChangesClient program policy annotations (world_of machine) change → ⊥
+    not_client c = clauseless change.event c.event is
+
+    not_free : held_locks program machine.monitors ≡ [] → Moves program policy annotations laws machine step.thread change → ⊥
+    not_free free (inl c) = not_client c
+    not_free free (inr t) =
+        let none = takes_unseen machine t.a t.next change t.site t.acts t.free free t.stepped in
+        absurd cc
+
+    holder : (m : IsMade program policy annotations laws machine step change) (fits : Fits program policy annotations machine events)
+        → IsUnlocked program policy annotations machine events fits.fields ⊎ IsLocked program policy annotations machine events fits.fields
+        → held_locks program machine.monitors ≡ locked_by program step.thread
+    holder m fits (inl u) =
+        absurd (not_free u.free
+        (moves program policy annotations laws machine events fits step m.thread change m.there m.made (u.threads step.thread m.thread m.there)))
+    holder m fits (inr l) =
+        elim (cases_eq l.owner step.thread) [
+          | inl same ↦ subst (λ (n : ℕ). held_locks program machine.monitors ≡ locked_by program n) same l.locked
+          | inr differ ↦
+              let client = l.others step.thread m.thread (λ number. differ (sym number)) m.there in
+              absurd (not_client
+              (client_changes program policy annotations laws machine events fits step m.thread change m.there m.made l.owner l.locked differ
+              (moves program policy annotations laws machine events fits step m.thread change m.there m.made client)))
+        ]
+
+    held : IsKept program policy annotations machine events → changed program machine step ≡ Some change
+        → held_locks program machine.monitors ≡ locked_by program step.thread
+    held kept e =
+        let m = is_made program policy annotations laws machine step change e in
+        let fits = kept.fits m.goes in
+        holder m fits fits.lock
+
 -- what is proved of steps, and of the start
 pub record Proved : Type 0 where
   pub steps : (program : Program) (policy : Policy) (annotations : Annotations) → IsObeying program policy annotations → StepLaws program policy annotations
   pub starts : (program : Program) (policy : Policy) (annotations : Annotations) → IsObeying program policy annotations → StartsWell program policy annotations
+  pub unseen : (program : Program) (policy : Policy) (annotations : Annotations) → IsObeying program policy annotations → TakingIsUnseen program policy annotations
 
 pub accepted_obeys : Proved → AcceptedObeys
 accepted_obeys proved program policy certificate o steps =
@@ -141,3 +181,13 @@ lock_orders proved program policy annotations o steps owner step locked differ =
     let laws = proved.steps program policy annotations o in
     unseen program policy annotations laws (exec program steps) (trace program steps) step owner locked differ
     (always_kept program policy annotations laws (proved.starts program policy annotations o) steps) (changed program (exec program steps) step) refl
+
+pub lock_is_held : Proved → LockIsHeld
+lock_is_held proved program policy certificate o hold steps step after event e has =
+    let annotations = annotations_of certificate in
+    let laws = proved.steps program policy annotations o in
+    let machine = exec program steps in
+    let m = map_of (λ (change : Change). (applied step.thread machine change, change.event)) (changed program machine step) (after, Some event) e in
+    let seen : m.0.event ≡ Some event = ap (λ (made : Machine × Option Event). made.1) m.2 in
+    held program policy annotations laws (proved.unseen program policy annotations o) machine (trace program steps) step m.0 event seen has
+    (always_kept program policy annotations laws (proved.starts program policy annotations o) steps) m.1

@@ -95,6 +95,13 @@ module _ (program : Program) (policy : Policy) (annotations : Annotations) where
       → slice_get machine.statics (state_of program policy annotations) ≡ Some fields
       → insn_stepped program machine a next ≡ Some change → ChangesOwner a.number seen change
 
+  -- The library sees nothing of the step that takes it.
+  abbrev pub TakingIsUnseen : Type 0
+  TakingIsUnseen =
+      (machine : Machine) (a : Acting) (next : Insn × Target) (change : Change) (site : Site) → Acts machine a next (notes.Taking site)
+      → IsFree program policy a.frame (notes.Taking site) → held_locks program machine.monitors ≡ []
+      → insn_stepped program machine a next ≡ Some change → change.event ≡ None
+
   -- It waits while another thread holds it.
   abbrev pub TakingWaits : Type 0
   TakingWaits =

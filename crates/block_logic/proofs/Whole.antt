@@ -10,13 +10,13 @@ use Rattle.block_logic.proofs.Obeyed.{Proved}
 use Rattle.block_logic.proofs.Owner.Answers.{owner_answers}
 use Rattle.block_logic.proofs.Owner.Granted.{SeenIsEnough}
 use Rattle.block_logic.proofs.Owner.Steps.{owner_steps}
-use Rattle.block_logic.proofs.Owner.Taking.{taking_steps, taking_waits}
+use Rattle.block_logic.proofs.Owner.Taking.{taking_is_unseen, taking_steps, taking_waits}
 use Rattle.block_logic.proofs.Ruled.{BeginsOpen, OpenIsFree, RulesHold}
 use Rattle.block_logic.proofs.RulesHold.{begins_open, open_is_free, rules_hold}
 use Rattle.block_logic.proofs.Starting.{starts_well}
 use Rattle.block_logic.proofs.Client.Begins.{rests_client}
 use Rattle.block_logic.proofs.Client.Frames.{Laws}
-use Rattle.block_logic.proofs.Steps.{StartsWell}
+use Rattle.block_logic.proofs.Steps.{StartsWell, TakingIsUnseen}
 
 module _ (program : Program) (policy : Policy) (annotations : Annotations) (o : IsObeying program policy annotations) where
   ruled : RulesHold program policy annotations
@@ -38,6 +38,9 @@ module _ (program : Program) (policy : Policy) (annotations : Annotations) (o : 
     owner_answers = owner_answers program policy annotations o ruled;
   }
 
+  pub unseen : TakingIsUnseen program policy annotations
+  unseen = taking_is_unseen program policy annotations o ruled
+
   pub starts : StartsWell program policy annotations
   starts =
       let laws : Laws program policy annotations = record { obeys = o; rules_hold = ruled; begins_open = begin; open_free = free } in
@@ -47,4 +50,5 @@ pub proved : SeenIsEnough → Proved
 proved seen = record {
   steps = λ program policy annotations o. step_laws program policy annotations o seen;
   starts = λ program policy annotations o. starts program policy annotations o;
+  unseen = λ program policy annotations o. unseen program policy annotations o;
 }

@@ -1,5 +1,5 @@
 -- What an accepted program does: whatever its steps are, the events obey, and the lock orders them. (docs/CERTIFICATES.md)
-use Rattle.std.specs.Prelude.{◌≡◌, ◌≢◌, ℕ, false, List, length, is_some, Some, slice_get}
+use Rattle.std.specs.Prelude.{◌≡◌, ◌≢◌, ℕ, true, false, List, length, is_some, Some, slice_get}
 use Rattle.std.specs.List.{AllByRecursion}
 use Rattle.api_listing.specs.declared.events.Event.{Event}
 use Rattle.api_listing.specs.declared.types.ListedMethod.{ListedMethod}
@@ -8,16 +8,19 @@ use Rattle.bytecode_model.specs.declared.program.Program.{Program}
 use Rattle.bytecode_model.specs.Sound.{IsSound}
 use Rattle.bytecode_model.specs.Typed.{reached}
 use Rattle.cert_format.specs.declared.certificate.Certificate.{Certificate}
+use Rattle.cert_format.specs.declared.certificate.Mode.TheVariants as modes
 use Rattle.block_logic.specs.Annotations.{Annotations, annotations_of}
 use Rattle.conspec_automaton.specs.declared.policy.Clause.{Clause}
 use Rattle.conspec_automaton.specs.declared.policy.Policy.{Policy}
 use Rattle.conspec_automaton.specs.Next.{has_clause}
 use Rattle.conspec_automaton.specs.Obeys.{Obeys}
 use Rattle.conspec_automaton.specs.Sound.{IsPolicy, NamesMethods}
+use Rattle.guest_model.specs.declared.machine.Machine.{Machine}
 use Rattle.guest_model.specs.declared.machine.Step.{Step}
 use Rattle.guest_model.specs.Calls.{arity, types_of}
 use Rattle.guest_model.specs.Runs.{exec, seen, trace}
 use Rattle.guest_model.specs.Standing.{HasInsns, IsClosed}
+use Rattle.guest_model.specs.Stepping.{stepped}
 use Rattle.block_logic.specs.Accepted.{AreAccepted}
 use Rattle.block_logic.specs.Fitting.{held_locks, locked_by}
 use Rattle.block_logic.specs.Meaning.{IsJudged}
@@ -51,3 +54,15 @@ LockOrders =
     (program : Program) (policy : Policy) (annotations : Annotations) → IsObeying program policy annotations
     → (steps : List Step) (owner : ℕ) (step : Step) → held_locks program (exec program steps).monitors ≡ locked_by program owner
     → step.thread ≢ owner → AllByRecursion (λ (e : Event). has_clause policy e ≡ false) (seen program (exec program steps) step)
+
+-- Each step whose event has a clause is of the thread that holds the lock, which it holds once.
+abbrev pub EventsAreLocked : Program → Policy → Type 0
+EventsAreLocked program policy =
+    (steps : List Step) (step : Step) (after : Machine) (event : Event) → stepped program (exec program steps) step ≡ Some (after, Some event)
+    → has_clause policy event ≡ true → held_locks program (exec program steps).monitors ≡ locked_by program step.thread
+
+-- It is so of each program that is accepted in mode hold.
+abbrev pub LockIsHeld : Type 0
+LockIsHeld =
+    (program : Program) (policy : Policy) (certificate : Certificate) → IsObeying program policy (annotations_of certificate) → certificate.mode ≡ modes.Hold
+    → EventsAreLocked program policy

@@ -1,17 +1,19 @@
 //! What accepted programs do.
 
 ghost use Rattle.block_logic.specs.Locking.{FreeLockIsTaken};
-ghost use Rattle.block_logic.specs.Obeying.{AcceptedObeys, LockOrders};
+ghost use Rattle.block_logic.specs.Obeying.{AcceptedObeys, LockIsHeld, LockOrders};
 ghost use Rattle.block_logic.specs.Outside.{ErrorsLeaveBlocks};
 
 use conspec_automaton::seen_is_enough;
 use guest_model::steps_are_enabled;
 
 /// Whatever the steps of an accepted program are, its events obey the policy. While a thread holds the lock, no step of
-/// another has an event with a clause: the order in which the lock is taken is the order of the events.
+/// another has an event with a clause; and in mode hold a step with such an event is of the thread that holds the lock, which
+/// it holds once: the order in which the lock is taken is the order of the events.
 pub fn accepted_obeys()
     ensures obeys { AcceptedObeys }
     ensures orders { LockOrders }
+    ensures held { LockIsHeld }
 {
     seen_is_enough();
 }

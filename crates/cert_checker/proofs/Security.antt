@@ -1,4 +1,4 @@
--- An accepted program obeys, whatever its steps are.
+-- An accepted program obeys, whatever its steps are, and its lock is held.
 use Rattle.std.proofs.Common.{◌≡◌, ℕ, zero, suc, ◌<◌, Bool, List, [], ◌∷◌, length, Option, Some, None, refl, ap, subst, ◌∙◌, arith, inl, inr}
 use Rattle.std.specs.Prelude.{Contains, get_or, option_map, slice_get}
 use Rattle.std.specs.List.{AllByRecursion}
@@ -13,15 +13,16 @@ use Rattle.bytecode_model.specs.Sound.{IsSound, IsSoundClass, IsSoundMethod, IsW
 use Rattle.bytecode_model.specs.Typed.{reached}
 use Rattle.cert_format.specs.declared.certificate.Certificate.{Certificate}
 use Rattle.cert_format.specs.declared.certificate.Mode.{Mode}
+use Rattle.cert_format.specs.declared.certificate.Mode.TheVariants as modes
 use Rattle.code_typing.specs.Closed.{BeginsReached, GoesToReached, IsCaughtReached}
 use Rattle.conspec_automaton.specs.declared.policy.Policy.{Policy}
 use Rattle.conspec_automaton.specs.Sound.{IsPolicy, NamesMethods}
 use Rattle.guest_model.specs.Places.{method_at, insn_in}
 use Rattle.guest_model.specs.Standing.{HasInsns, IsClosed}
 use Rattle.block_logic.specs.Accepted.{IsAccepted}
-use Rattle.block_logic.specs.Annotations.{held_in}
+use Rattle.block_logic.specs.Annotations.{annotations_of, held_in}
 use Rattle.block_logic.specs.Meaning.{IsJudged, Promised}
-use Rattle.block_logic.specs.Obeying.{AcceptedObeys, FitsListing}
+use Rattle.block_logic.specs.Obeying.{AcceptedObeys, EventsAreLocked, FitsListing, IsObeying, LockIsHeld}
 use Rattle.cert_checker.specs.Secure.{Secure}
 use Rattle.cert_checker.proofs.Options.{all_at, and_then_of}
 
@@ -59,6 +60,7 @@ all_contains P xs x all has = at_place P xs x has.0 all has.1 has.2 where
 -- the laws of lower crates that this stands on
 pub record Laws : Type 0 where
   pub obeys : AcceptedObeys
+  pub held : LockIsHeld
   pub begin : BeginsReached
   pub next : GoesToReached
   pub caught : IsCaughtReached
@@ -121,8 +123,8 @@ module _ (laws : Laws) (program : Program) (policy : Policy) (certificate : Cert
         laws.caught program certificate.typing accepted.typed class method at of i.0 handler there i.1 inside has from to;
   }
 
-  pub secure : Promised certificate.mode policy → Secure certificate.mode program policy
-  secure promised steps = laws.obeys program policy certificate (record {
+  obeying : Promised certificate.mode policy → IsObeying program policy (annotations_of certificate)
+  obeying promised = record {
     judged = judged certificate.mode policy promised;
     sound = given.sound;
     good = given.good;
@@ -131,4 +133,10 @@ module _ (laws : Laws) (program : Program) (policy : Policy) (certificate : Cert
     accepted = accepted;
     insns = has_insns;
     closed = closed;
-  }) steps
+  }
+
+  pub secure : Promised certificate.mode policy → Secure certificate.mode program policy
+  secure promised steps = laws.obeys program policy certificate (obeying promised) steps
+
+  pub locked : certificate.mode ≡ modes.Hold → EventsAreLocked program policy
+  locked hold = laws.held program policy certificate (obeying (inl hold)) hold

@@ -4,10 +4,11 @@ ghost use Rattle.std.specs.Prelude.{◌≡◌, ◌↔◌, ◌<◌, ◌^◌, IsOk
 ghost use Rattle.std.specs.List.{AllByRecursion};
 ghost use Rattle.bytecode_model.specs.declared.program.Method.{Method as AMethod};
 ghost use Rattle.bytecode_model.specs.Sound.{IsSound, IsSoundClass};
+ghost use Rattle.cert_format.specs.declared.certificate.Mode.TheVariants as modes;
 ghost use Rattle.conspec_automaton.specs.Sound.{IsPolicy, NamesMethods};
 ghost use Rattle.block_logic.specs.Accepted.{IsAccepted};
 ghost use Rattle.block_logic.specs.Meaning.{Promised};
-ghost use Rattle.block_logic.specs.Obeying.{FitsListing};
+ghost use Rattle.block_logic.specs.Obeying.{EventsAreLocked, FitsListing};
 ghost use Rattle.block_logic.specs.Operands.{has_clause};
 ghost use Rattle.block_logic.specs.Annotations.{annotations_of};
 ghost use Rattle.block_logic.specs.Outside.{LeavesBlocks};
@@ -48,6 +49,9 @@ pub fn check(
     // obeys; of another policy in mode release nothing is promised, since its races are not decided here.
     ensures ok { IsOk result ↔ IsAccepted program.now policy.now certificate.now }
     ensures secure { IsOk result → Promised certificate.now.mode policy.now → Secure certificate.now.mode program.now policy.now }
+
+    // In mode hold each step whose event has a clause is of the thread that holds the lock: the lock's order is that of the events.
+    ensures locked { IsOk result → certificate.now.mode ≡ modes.Hold → EventsAreLocked program.now policy.now }
 
     // In either mode an error that a Java machine throws in a block leads out of it: where it is caught no lock is held, no call
     // with a clause before it is granted, and nothing is owed.

@@ -14,7 +14,7 @@ use Rattle.code_typing.specs.Closed.{method_at, BeginsReached, GoesToReached, Is
 use Rattle.bytecode_model.specs.Rules.{Frames, frame_of, row_failing}
 use Rattle.bytecode_model.specs.Layout.{has_code}
 use Rattle.bytecode_model.specs.Typed.{row_fault, place_at, frames_in, frames_told, reached}
-use Rattle.code_typing.proofs.Choices.{and_then_of}
+use Rattle.frame_types.proofs.Choices.{and_then_of}
 use Rattle.code_typing.proofs.Reaching.{row_passed, goes_to_frame, caught_at_frame}
 
 -- a method of a program, with its class

@@ -8,7 +8,7 @@ use Rattle.bytecode_model.specs.Makes.{type_at}
 use Rattle.bytecode_model.specs.Rules.{locals_fit}
 use Rattle.code_typing.specs.Steps.{behind_met, behind_fit}
 use Rattle.bytecode_model.specs.Wants.{all_met, to_described}
-use Rattle.code_typing.proofs.Choices.{some_is}
+use Rattle.frame_types.proofs.Choices.{some_is}
 use Rattle.code_typing.proofs.Fitting.{locals_fit-behind}
 
 -- ---- operands

@@ -11,7 +11,7 @@ use Rattle.code_typing.specs.First.{first_row, method_fault, methods_fault, clas
 use Rattle.bytecode_model.specs.Typed.{IsTyped, row_in, row_of_method, list_at, frames_in, frames_told}
 use Rattle.std.proofs.lemmas.Bool.{cases_Bool, cases_lt, ltb-false}
 use Rattle.std.proofs.lemmas.Option.{slice_get_past}
-use Rattle.code_typing.proofs.Choices.{neither, both_none, map_none, some_is, and_then_none, of_both, of_other}
+use Rattle.frame_types.proofs.Choices.{neither, both_none, map_none, some_is, and_then_none, of_both, of_other}
 
 -- ---- a method
 

@@ -11,6 +11,7 @@ use Rattle.bytecode_model.specs.Rules.{locals_fit, stack_fits, taken, goes_well}
 use Rattle.bytecode_model.specs.Wants.{all_met, anything, takes}
 use Rattle.cert_format.specs.declared.typing.FrameType.{FrameType}
 use Rattle.insn_codec.specs.Shapes.{shape_of}
+use Rattle.frame_types.proofs.Counting.{any_decides, map_same}
 use Rattle.code_typing.specs.declared.change.Change.{Change}
 use Rattle.code_typing.specs.Changing.{change_told, local_told, frame_takes}
 use Rattle.bytecode_model.specs.InsnPlace.{InsnPlace}
@@ -22,10 +23,6 @@ and_assoc false b c = refl
 and_false : (a b : Bool) → b ≡ false → (a && b) ≡ false
 and_false true b e = e
 and_false false b e = refl
-
-pub map_same : {A B : Type 0} (f g : A → B) → ((x : A) → f x ≡ g x) → (xs : List A) → map f xs ≡ map g xs
-map_same f g same [] = refl
-map_same f g same (x ∷ xs) = rw (same x, map_same f g same xs) refl
 
 pub locals_fit-same : (program : Program) (f g : ℕ → VType) → ((j : ℕ) → f j ≡ g j) → (j : ℕ) (to : List VType) → locals_fit program f j to ≡ locals_fit program g j to
 locals_fit-same program f g same j [] = refl
@@ -41,14 +38,6 @@ pub locals_fit-behind : (program : Program) (x : VType) (xs : List VType) (j : �
     → locals_fit program (type_at (x ∷ xs)) (j + 1) to ≡ locals_fit program (type_at xs) j to
 locals_fit-behind program x xs j [] = refl
 locals_fit-behind program x xs j (t ∷ to) = rw (type_at-behind x xs j, locals_fit-behind program x xs (j + 1) to) refl
-
-pub any_decides : (n : ℕ) (types : List VType) → Decides (all_met (replicate n anything) types) (length types ≡ n)
-any_decides zero [] = (λ e. refl, λ e. refl)
-any_decides zero (t ∷ types) = (λ e. absurd cc, λ e. absurd (omega arith))
-any_decides (suc n) [] = (λ e. absurd cc, λ e. absurd (omega arith))
-any_decides (suc n) (t ∷ types) =
-    let h = any_decides n types in
-    (λ e. ap suc (h.0 e), λ e. h.1 (omega (arith, e)))
 
 -- Where anything is wanted only the number counts.
 pub any_met : (n : ℕ) (types : List VType) → all_met (replicate n anything) types ≡ (length types == n)

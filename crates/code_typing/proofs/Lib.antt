@@ -1,5 +1,4 @@
 pub mod Covering
-pub mod Choices
 pub mod Describing
 pub mod Fitting
 pub mod LocalsOver
@@ -8,11 +7,9 @@ pub mod Arriving
 pub mod Faults
 pub mod Reaching
 pub mod Closed
-pub mod Moving
 pub mod Afterwards
 pub mod OrderLists
 pub mod OrderWants
 pub mod OrderYields
 pub mod OrderChanges
 pub mod OrderRows
-pub mod Descriptors

@@ -23,7 +23,7 @@ use Rattle.bytecode_model.specs.Makes.{type_at, moved_from, form_yields, item_ty
 use Rattle.code_typing.specs.Order.{StackBelow, LocalsBelow}
 use Rattle.bytecode_model.specs.InsnPlace.{InsnPlace}
 use Rattle.bytecode_model.specs.Wants.{Want, to_array, is_number, takes_of, all_met}
-use Rattle.code_typing.proofs.Choices.{some_is}
+use Rattle.frame_types.proofs.Choices.{some_is}
 use Rattle.code_typing.proofs.OrderLists.{both, stack_itself, at_below, places_below}
 use Rattle.code_typing.proofs.OrderWants.{array_under}
 

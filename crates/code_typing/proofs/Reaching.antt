@@ -10,7 +10,7 @@ use Rattle.insn_codec.specs.Control.{successors}
 use Rattle.bytecode_model.specs.declared.program.Handler.{Handler}
 use Rattle.bytecode_model.specs.InsnPlace.{InsnPlace}
 use Rattle.bytecode_model.specs.Rules.{Frames, frame_of, covers, is_handled, goes_well, catches_well, Successor, Caught, Depth, Operand, Local, Made, rule_failing, row_failing}
-use Rattle.code_typing.proofs.Choices.{passed, is_there}
+use Rattle.frame_types.proofs.Choices.{passed, is_there}
 
 -- what is among those that all pass a test passes it
 contained : {A : Type 0} (p : A → Bool) (xs : List A) (x : A) → list_all p xs ≡ true → Contains xs x → p x ≡ true

@@ -4,7 +4,5 @@ pub mod Leaving
 pub mod Catching
 pub mod Steps
 pub mod Closed
-pub mod Moving
 pub mod Order
-pub mod Agreeing
 pub mod First

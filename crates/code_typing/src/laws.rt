@@ -1,9 +1,6 @@
 //! What holds of each typed program.
 
-ghost use Rattle.std.specs.Prelude.{◌≡◌};
-ghost use Rattle.code_typing.specs.Agreeing.{DescriptorsAgree};
 ghost use Rattle.code_typing.specs.Closed.{BeginsReached, GoesToReached, IsCaughtReached};
-ghost use Rattle.code_typing.specs.Moving.{IsEffectTyped};
 ghost use Rattle.code_typing.specs.Order.{
   FrameIsBelowItself,
   FramesAreInOrder,
@@ -23,12 +20,6 @@ pub fn typed_is_closed()
     ensures caught { IsCaughtReached }
 {}
 
-/// What an instruction that works on its frame alone leaves, where the rules 2 to 4 are met, is what its effect over the
-/// types leaves.
-pub fn typed_effect()
-    ensures effect { IsEffectTyped }
-{}
-
 /// What the rules ask of a frame alone, each frame below it meets, too, and leaves what is below what it leaves.
 pub fn rows_follow_the_order()
     ensures alone { IsAloneKept }
@@ -38,9 +29,4 @@ pub fn rows_follow_the_order()
     // Frames are in order.
     ensures reflexive { FrameIsBelowItself }
     ensures transitive { FramesAreInOrder }
-{}
-
-/// The types that are read off a method's descriptor are those that api_listing reads of it.
-pub fn descriptors_agree()
-    ensures agree { DescriptorsAgree }
 {}

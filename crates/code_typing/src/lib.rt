@@ -27,7 +27,7 @@ pub use change::{Change, change_told, when_called};
 pub use fault::TypeFault;
 pub use following::goes_well;
 pub use handlers::catches_well;
-pub use laws::{descriptors_agree, rows_follow_the_order, typed_effect, typed_is_closed};
+pub use laws::{rows_follow_the_order, typed_is_closed};
 pub use place::PlaceRef;
 pub use row::is_alone_met;
 pub use typing::{check_row, check_typing, count_coded, row_in};

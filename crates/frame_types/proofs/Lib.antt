@@ -1,1 +1,5 @@
 pub mod Describing
+pub mod Choices
+pub mod Counting
+pub mod Moving
+pub mod Descriptors

@@ -8,6 +8,7 @@
 
 mod described;
 mod kinds;
+mod laws;
 mod lists;
 mod locals;
 mod methods;
@@ -20,6 +21,7 @@ pub use described::{
     arguments_text, arity, next_type, result_text, result_type, type_described, without_last,
 };
 pub use kinds::{is_array_type, is_made, is_number, is_reference, is_this, of_kind};
+pub use laws::{descriptors_agree, typed_effect};
 pub use lists::{moved_from, put_back, split_top, type_at};
 pub use locals::{count_after, stores, uses_local};
 pub use methods::{has_receiver, is_maker};

@@ -26,7 +26,7 @@ use Rattle.bytecode_model.specs.Rules.{taken}
 use Rattle.bytecode_model.specs.SearchOrder.{Name}
 use Rattle.bytecode_model.specs.Uses.{UsesAreShaped}
 use Rattle.bytecode_model.specs.Wants.{Want, is_made, takes, takes_of, to_class}
-use Rattle.code_typing.specs.Moving.{padded}
+use Rattle.frame_types.specs.Moving.{padded}
 use Rattle.guest_heap.specs.declared.frame.Frame.{Frame}
 use Rattle.guest_heap.specs.declared.object.Monitor.{Monitor}
 use Rattle.guest_heap.specs.declared.object.Object.{Object}

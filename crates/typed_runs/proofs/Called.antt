@@ -14,7 +14,7 @@ use Rattle.cert_format.specs.declared.typing.VType.{VType}
 use Rattle.bytecode_model.specs.declared.program.Program.{Program}
 use Rattle.bytecode_model.specs.Described.{result_type}
 use Rattle.bytecode_model.specs.SearchOrder.{Name}
-use Rattle.code_typing.proofs.Descriptors.{read_so}
+use Rattle.frame_types.proofs.Descriptors.{read_so}
 use Rattle.guest_heap.specs.declared.object.Object.{Object}
 use Rattle.guest_heap.specs.declared.object.Object.TheVariants as objects
 use Rattle.guest_heap.specs.declared.thread.Thread.{Thread}

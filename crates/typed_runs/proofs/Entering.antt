@@ -19,7 +19,7 @@ use Rattle.bytecode_model.specs.Makes.{type_at}
 use Rattle.bytecode_model.specs.InsnPlace.{is_maker}
 use Rattle.bytecode_model.specs.Rules.{arguments_typed, locals_fit}
 use Rattle.bytecode_model.specs.SearchOrder.{Name}
-use Rattle.code_typing.specs.Moving.{padded}
+use Rattle.frame_types.specs.Moving.{padded}
 use Rattle.guest_heap.specs.declared.frame.Frame.{Frame}
 use Rattle.guest_heap.specs.declared.object.Object.{Object}
 use Rattle.guest_heap.specs.declared.value.Value.{Value}

@@ -29,8 +29,8 @@ use Rattle.bytecode_model.specs.Order.{IsInOrder}
 use Rattle.bytecode_model.specs.InsnPlace.{InsnPlace}
 use Rattle.bytecode_model.specs.Rules.{goes_well, locals_fit, stack_fits, taken, Depth, Operand, Local}
 use Rattle.bytecode_model.specs.Wants.{takes}
-use Rattle.code_typing.specs.Moving.{padded, types_moved}
-use Rattle.code_typing.proofs.Moving.{effect_typed}
+use Rattle.frame_types.specs.Moving.{padded, types_moved}
+use Rattle.frame_types.proofs.Moving.{effect_typed}
 use Rattle.guest_heap.specs.declared.frame.Frame.{Frame}
 use Rattle.guest_heap.specs.declared.object.Object.{Object}
 use Rattle.guest_heap.specs.declared.value.Value.{Value}

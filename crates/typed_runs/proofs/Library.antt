@@ -29,7 +29,7 @@ use Rattle.bytecode_model.specs.SearchOrder.{Name}
 use Rattle.bytecode_model.specs.Targets.{Calls}
 use Rattle.bytecode_model.specs.Uses.{UsesAreShaped}
 use Rattle.bytecode_model.specs.Wants.{is_reference}
-use Rattle.code_typing.proofs.Descriptors.{read_so}
+use Rattle.frame_types.proofs.Descriptors.{read_so}
 use Rattle.guest_heap.specs.declared.frame.Frame.{Frame}
 use Rattle.guest_heap.specs.declared.object.Object.{Object}
 use Rattle.guest_heap.specs.declared.thread.Thread.{Thread}

@@ -39,7 +39,7 @@ use Rattle.bytecode_model.specs.SearchOrder.{Name}
 use Rattle.bytecode_model.specs.Targets.{Calls, Names, takes_class}
 use Rattle.bytecode_model.specs.Uses.{UsesAreShaped, calls_interface, use_shaped}
 use Rattle.bytecode_model.specs.Wants.{all_met, is_reference, takes, takes_of, to_arguments, to_described, to_own, to_receiver}
-use Rattle.code_typing.proofs.Descriptors.{read_so}
+use Rattle.frame_types.proofs.Descriptors.{read_so}
 use Rattle.guest_heap.specs.declared.frame.Frame.{Frame}
 use Rattle.guest_heap.specs.declared.object.Object.{Object}
 use Rattle.guest_heap.specs.declared.value.Value.{Value}

@@ -41,7 +41,7 @@ use Rattle.bytecode_model.specs.Sound.{IsSoundClass, IsSoundMethod, IsWithin}
 use Rattle.bytecode_model.specs.Standing.{IsStanding}
 use Rattle.bytecode_model.specs.Targets.{Names}
 use Rattle.bytecode_model.specs.Typed.{frames_in, frames_told, place_at, row_fault}
-use Rattle.code_typing.proofs.Choices.{passed}
+use Rattle.frame_types.proofs.Choices.{passed}
 use Rattle.api_listing.specs.BuiltIn.{throwable}
 use Rattle.guest_heap.specs.declared.frame.Frame.{Frame}
 use Rattle.guest_heap.specs.declared.value.Value.{Value}

@@ -25,7 +25,7 @@ use Rattle.bytecode_model.specs.Rules.{when_thrown}
 use Rattle.bytecode_model.specs.SearchOrder.{Name}
 use Rattle.bytecode_model.specs.Wants.{of_kind, is_made, is_number as wants_number, is_reference as wants_reference}
 use Rattle.type_lattice.proofs.Orders.{itself, type_over}
-use Rattle.code_typing.specs.Moving.{types_moved}
+use Rattle.frame_types.specs.Moving.{types_moved}
 use Rattle.guest_heap.specs.declared.object.Object.{Object}
 use Rattle.guest_heap.specs.declared.value.Value.{Value}
 use Rattle.guest_heap.specs.declared.value.Value.TheVariants as values

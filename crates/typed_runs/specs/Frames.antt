@@ -19,7 +19,7 @@ use Rattle.bytecode_model.specs.InsnPlace.{InsnPlace, desc_referred}
 use Rattle.bytecode_model.specs.Rules.{frame_of}
 use Rattle.bytecode_model.specs.Typed.{frames_in, frames_told, place_at}
 use Rattle.bytecode_model.specs.Wants.{takes}
-use Rattle.code_typing.specs.Moving.{padded}
+use Rattle.frame_types.specs.Moving.{padded}
 use Rattle.guest_heap.specs.declared.frame.Frame.{Frame}
 use Rattle.guest_heap.specs.declared.object.Object.{Object}
 use Rattle.typed_runs.specs.Fitting.{fits_type}

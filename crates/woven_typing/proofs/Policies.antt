@@ -22,7 +22,7 @@ use Rattle.conspec_tree.specs.declared.types.TreeClause.{TreeClause}
 use Rattle.conspec_tree.specs.Kinds.{array_kind, kind_of}
 use Rattle.conspec_tree.specs.Telling.{ClauseTellsKinds, ClauseTellsResult}
 use Rattle.conspec_automaton.specs.Building.{clause_built}
-use Rattle.code_typing.proofs.Descriptors.{described_so}
+use Rattle.frame_types.proofs.Descriptors.{described_so}
 use Rattle.woven_typing.specs.Telling.{AreOfKinds, ClauseTells, IsOfKind, IsOfResult, ListingsKnowThrowable, PoliciesTell}
 
 -- ---- kinds

@@ -30,7 +30,7 @@ use Rattle.conspec_automaton.specs.Range.{in_range}
 use Rattle.guest_heap.specs.declared.frame.Frame.{Frame}
 use Rattle.guest_heap.specs.declared.value.Value.{Value}
 use Rattle.guest_frames.specs.Stepping.{moved_to}
-use Rattle.guest_model.specs.Changes.{with_monitors, world_of}
+use Rattle.guest_model.specs.Changes.{Change, with_monitors, world_of}
 use Rattle.guest_model.specs.Parts.{number_in}
 use Rattle.guest_model.specs.Stepping.{enters}
 use Rattle.block_logic.specs.Clauses.{clause_at, is_of_phase}
@@ -44,7 +44,7 @@ use Rattle.block_logic.proofs.Owner.Moves.{enters_lock}
 use Rattle.block_logic.proofs.Owner.Rows.{enters_is, gives_asks, where_so}
 use Rattle.block_logic.proofs.Owner.Standing.{before_is, begun_means, none_there, some_there}
 use Rattle.block_logic.proofs.Ruled.{IsRuled, LeadsTo, RulesHold}
-use Rattle.block_logic.proofs.Steps.{ChangesOwner, TakingSteps, TakingWaits}
+use Rattle.block_logic.proofs.Steps.{ChangesOwner, TakingIsUnseen, TakingSteps, TakingWaits}
 
 -- ---- an event that is told by locals
 
@@ -189,3 +189,12 @@ module _ (program : Program) (policy : Policy) (annotations : Annotations) (o : 
         let top = top_is a.frame free.1 in
         let none : enters program (world_of machine) a (lock_of program) ≡ None = rw waits refl in
         rw here.0 (rw top none)
+
+    -- The library sees nothing of it.
+    pub taking_is_unseen : TakingIsUnseen program policy annotations
+    taking_is_unseen machine a next change site acts free none step =
+        let ruled = rules_hold a.frame next (notes.Taking site) acts.there acts.told in
+        let here = enters_here a.frame next site ruled in
+        let lock = lock_taken program a.number machine.monitors none in
+        let g = enters_lock program machine a change next step (lock_of program) lock.held here.0 (top_is a.frame free.1) refl lock.taken in
+        ap (λ (c : Change). c.event) g.is

@@ -6,7 +6,7 @@ use Rattle.block_logic.specs.Accepted.{IsAccepted}
 use Rattle.block_logic.specs.State.{state_fault}
 use Rattle.cert_checker.specs.Acceptance.{notes_fault, shape_fault}
 use Rattle.cert_checker.proofs.Accepting.{is_noted, is_shaped, nothing_found}
-use Rattle.cert_checker.proofs.Security.{IsGiven, Laws, secure}
+use Rattle.cert_checker.proofs.Security.{IsGiven, Laws, locked, secure}
 use Rattle.cert_checker.proofs.checking.check.Goals as goal
 
 pub returns-in-Some-clause-ok : goal.returns-in-Some-clause-ok
@@ -52,21 +52,30 @@ accepted_here c =
 pub returns-clause-ok : goal.returns-clause-ok
 returns-clause-ok c = (λ e. accepted_here c, λ accepted. refl)
 
+laws_here : goal.After-sites_of → Laws
+laws_here c = record {
+  obeys = c.accepted_obeys.ensures.obeys;
+  held = c.accepted_obeys.ensures.held;
+  begin = c.typed_is_closed.ensures.begin;
+  next = c.typed_is_closed.ensures.next;
+  caught = c.typed_is_closed.ensures.caught;
+}
+
+given_here : (c : goal.After-sites_of) → IsGiven c.args.program.now c.args.policy.now
+given_here c = record {
+  sound = c.requires.sound;
+  good = c.requires.policy;
+  named = c.requires.named;
+  listed = c.requires.listed;
+}
+
 pub returns-clause-secure : goal.returns-clause-secure
 returns-clause-secure c =
-    let laws : Laws = record {
-      obeys = c.accepted_obeys.ensures.obeys;
-      begin = c.typed_is_closed.ensures.begin;
-      next = c.typed_is_closed.ensures.next;
-      caught = c.typed_is_closed.ensures.caught;
-    } in
-    let given : IsGiven c.args.program.now c.args.policy.now = record {
-      sound = c.requires.sound;
-      good = c.requires.policy;
-      named = c.requires.named;
-      listed = c.requires.listed;
-    } in
-    λ e. secure laws c.args.program.now c.args.policy.now c.args.certificate.now given (accepted_here c)
+    λ e. secure (laws_here c) c.args.program.now c.args.policy.now c.args.certificate.now (given_here c) (accepted_here c)
+
+pub returns-clause-locked : goal.returns-clause-locked
+returns-clause-locked c =
+    λ e. locked (laws_here c) c.args.program.now c.args.policy.now c.args.certificate.now (given_here c) (accepted_here c)
 
 pub returns-clause-leaves_blocks : goal.returns-clause-leaves_blocks
 returns-clause-leaves_blocks c =

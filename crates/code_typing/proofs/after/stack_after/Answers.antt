@@ -5,7 +5,7 @@ use Rattle.code_typing.specs.Changing.{change_told}
 use Rattle.bytecode_model.specs.Makes.{changed, below, topmost, yields}
 use Rattle.bytecode_model.specs.Rules.{taken}
 use Rattle.bytecode_model.specs.Wants.{takes}
-use Rattle.code_typing.proofs.Fitting.{map_same}
+use Rattle.frame_types.proofs.Counting.{map_same}
 use Rattle.code_typing.proofs.after.stack_after.Goals as goal
 
 pub returns : goal.returns

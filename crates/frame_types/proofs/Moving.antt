@@ -20,11 +20,11 @@ use Rattle.insn_codec.specs.Shapes.{shape_of}
 use Rattle.insn_codec.specs.Table.{is_heap}
 use Rattle.bytecode_model.specs.declared.program.Method.{Method}
 use Rattle.bytecode_model.specs.Makes.{type_at, stores, changed_by, yields_of, below}
-use Rattle.code_typing.specs.Moving.{types_moved, padded, IsEffectTyped}
+use Rattle.frame_types.specs.Moving.{types_moved, padded, IsEffectTyped}
 use Rattle.bytecode_model.specs.InsnPlace.{InsnPlace}
 use Rattle.bytecode_model.specs.Rules.{taken, uses_local}
 use Rattle.bytecode_model.specs.Wants.{Want, takes, takes_of, all_met, of_kind, is_number, is_made, is_reference, returns_well}
-use Rattle.code_typing.proofs.Fitting.{map_same, any_decides}
+use Rattle.frame_types.proofs.Counting.{any_decides, map_same}
 
 -- ---- locals
 
