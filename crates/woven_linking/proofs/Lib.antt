@@ -15,6 +15,7 @@ pub mod LeftMethods
 pub mod Added
 pub mod Tables
 pub mod Again
+pub mod Attributes
 pub mod Steps
 pub mod Made
 pub mod Whole
