@@ -22,3 +22,4 @@ pub mod Whole
 pub mod Relinked
 pub mod Original
 pub mod Told
+pub mod Laid

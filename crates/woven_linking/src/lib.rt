@@ -7,5 +7,8 @@ mod laws;
 mod operands;
 mod program;
 
-pub use laws::{original_is_free, origins_are_true, woven_files_link, woven_program_is_linked};
+pub use laws::{
+    original_is_free, origins_are_laid_out, origins_are_true, woven_files_link,
+    woven_program_is_linked,
+};
 pub use program::program_with;
