@@ -69,10 +69,12 @@ class ClassFile:
         """A method without code."""
         self.methods.append(u2(flags) + u2(self.text(name)) + u2(self.text(desc)) + u2(0))
 
-    def method(self, flags, name, desc, code=RETURN, stack=4, local_count=4, table=()):
-        """`table` has entries of start, end, handler and the index of the class that is caught, or 0."""
+    def method(self, flags, name, desc, code=RETURN, stack=4, local_count=4, table=(), attrs=()):
+        """`table` has entries of start, end, handler and the index of the class that is caught, or 0; `attrs` the name and the bytes of
+        each attribute of the code."""
         body = u2(stack) + u2(local_count) + u4(len(code)) + code
-        body += u2(len(table)) + b"".join(u2(n) for entry in table for n in entry) + u2(0)
+        body += u2(len(table)) + b"".join(u2(n) for entry in table for n in entry)
+        body += u2(len(attrs)) + b"".join(u2(self.text(name)) + u4(len(told)) + told for name, told in attrs)
         head = u2(flags) + u2(self.text(name)) + u2(self.text(desc))
         self.methods.append(head + u2(1) + u2(self.text("Code")) + u4(len(body)) + body)
 

@@ -1,5 +1,5 @@
 -- The jumps of a block go forward.
-use Rattle.std.proofs.Common.{◌≡◌, ℕ, ◌+◌, ◌*◌, ◌<◌, ◌≤◌, ℤ, pos, Bool, true, false, List, [], ◌∷◌, ◌++◌, length, map, Option, Some, None, refl, sym, subst, arith, length-append}
+use Rattle.std.proofs.Common.{◌≡◌, ℕ, ◌+◌, ◌*◌, ◌<◌, ◌≤◌, ℤ, Bool, true, false, List, [], ◌∷◌, ◌++◌, length, map, Option, Some, None, refl, subst, arith}
 use Rattle.std.specs.Prelude.{IfSome, if◌then◌else◌, nat_lt, ⊤}
 use Rattle.std.specs.List.{AllByRecursion}
 use Rattle.insn_codec.specs.declared.opcodes.TheConstants.{GOTO, ILOAD, ALOAD, ILOAD_0, ALOAD_0, ISTORE, ASTORE, ISTORE_0, ASTORE_0}
@@ -16,7 +16,6 @@ use Rattle.conspec_tree.specs.declared.types.Update.{Update}
 use Rattle.conspec_tree.specs.declared.types.Update.TheVariants.{Set, Add}
 use Rattle.conspec_automaton.specs.declared.policy.Branch.{Branch}
 use Rattle.conspec_automaton.specs.declared.policy.Clause.{Clause}
-use Rattle.conspec_automaton.specs.declared.policy.Policy.{Policy}
 use Rattle.conspec_automaton.specs.Next.{has_clauses}
 use Rattle.offset_patch.specs.declared.block.Block.{Block}
 use Rattle.offset_patch.specs.declared.block.BlockInsn.{BlockInsn}
@@ -69,7 +68,7 @@ use Rattle.block_template.specs.Parts.{
 use Rattle.block_template.specs.Pushing.{load, local, push, push_base, store}
 use Rattle.block_template.proofs.Insns.{chosen, pushed}
 use Rattle.block_template.proofs.Rows.{all_joined}
-use Rattle.block_template.proofs.Sizes.{asks_length, branches_length, check_length, keep_length, reached_length, save_length, tried_length, with_handler_length, writes_length}
+use Rattle.block_template.proofs.Sizes.{asks_length, check_length, keep_length, reached_length, save_length, tried_length, writes_length}
 
 -- ---- of items
 

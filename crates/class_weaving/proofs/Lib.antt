@@ -13,3 +13,5 @@ pub mod Unwoven
 pub mod Bodies
 pub mod Aiming
 pub mod Known
+pub mod Covering
+pub mod Lined

@@ -3,3 +3,5 @@ pub mod Woven
 pub mod Known
 pub mod Sizes
 pub mod Outcome
+pub mod Covering
+pub mod LinesStay

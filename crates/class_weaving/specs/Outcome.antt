@@ -1,12 +1,14 @@
 -- What class files that were woven link to: the classes of the program, in which each instruction to which the plan gives a
 -- block stands in it, and behind them conspec/State. (docs/BLOCKS.md)
 use Rattle.mon_base.specs.declared.method.MethodId.{MethodId}
-use Rattle.std.specs.Prelude.{◌≡◌, ◌≢◌, ℕ, ◌+◌, codes, if◌then◌else◌, List, [], ◌∷◌, ◌++◌, length, map, slice_index, Contains, Option, Some, None, ⊤}
+use Rattle.std.specs.Prelude.{◌≡◌, ◌≢◌, ℕ, ◌+◌, true, false, codes, if◌then◌else◌, List, [], ◌∷◌, ◌++◌, length, map, slice_index, Contains, Option, Some, None, ⊤}
 use Rattle.std.specs.List.{AllByRecursion}
 use Rattle.class_codec.specs.declared.tree.Attr.{Attr}
 use Rattle.class_codec.specs.declared.tree.Attr.TheVariants as attributes
+use Rattle.class_codec.specs.declared.tree.Code.{Code}
 use Rattle.class_codec.specs.declared.tree.Const.{Const}
 use Rattle.class_codec.specs.declared.tree.Member.{Member}
+use Rattle.class_codec.specs.declared.tree.Other.{Other}
 use Rattle.insn_codec.specs.declared.insn.Insn.{Insn}
 use Rattle.bytecode_model.specs.declared.program.Target.{Target}
 use Rattle.bytecode_model.specs.declared.program.Target.TheVariants as target
@@ -22,7 +24,7 @@ use Rattle.bytecode_model.specs.declared.program.LinkedClass.{LinkedClass}
 use Rattle.bytecode_model.specs.declared.program.Method.{Method}
 use Rattle.bytecode_model.specs.declared.program.Program.{Program}
 use Rattle.offset_patch.specs.Entries.{state_name, place_in, with_wants}
-use Rattle.offset_patch.specs.Splicing.{call_place, part_of, fronts_of, spliced, wants_of, operands_needed}
+use Rattle.offset_patch.specs.Splicing.{attrs_spliced, call_place, part_of, fronts_of, spliced, wants_of, operands_needed}
 use Rattle.offset_patch.specs.Plan.{Plan}
 use Rattle.conspec_tree.specs.declared.types.Var.{Var}
 use Rattle.class_weaving.specs.State.{state_file}
@@ -130,19 +132,36 @@ class_wants plan (method ∷ methods) = wants_woven plan method ++ class_wants p
 
 -- ---- members
 
--- A code may be another; any other attribute is as it was.
-abbrev pub IsWovenAttr : Attr → Attr → Type 0
-IsWovenAttr (attributes.Code old) (attributes.Code new) = ⊤
-IsWovenAttr (attributes.Code old) (attributes.Other new) = ⊥
-IsWovenAttr (attributes.Other old) (attributes.Code new) = ⊥
-IsWovenAttr (attributes.Other old) (attributes.Other new) = new ≡ old
+-- What the attributes of a code are with blocks, which name constants of the pool: its line numbers, each line at the front of the
+-- instruction at which it began.
+abbrev pub attrs_woven : Plan → List Const → Method → List Other → List Other
+attrs_woven plan pool method attrs = attrs_spliced pool method.insns (insns_woven plan pool method) (sites_of plan method.max_locals method) attrs
+
+-- A code without a block is as it was. One with a block has the line numbers that it had.
+pub record IsWovenBody (plan : Plan) (pool : List Const) (method : Method) (old new : Code) : Type 0 where
+  pub same : is_woven plan method ≡ false → new ≡ old
+  pub name : new.name ≡ old.name
+  pub attrs : is_woven plan method ≡ true → new.attrs ≡ attrs_woven plan pool method old.attrs
+
+-- An attribute that is no code is as it was.
+abbrev pub IsWovenAttr : Plan → List Const → Method → Attr → Attr → Type 0
+IsWovenAttr plan pool method (attributes.Code old) (attributes.Code new) = IsWovenBody plan pool method old new
+IsWovenAttr plan pool method (attributes.Code old) (attributes.Other new) = ⊥
+IsWovenAttr plan pool method (attributes.Other old) (attributes.Code new) = ⊥
+IsWovenAttr plan pool method (attributes.Other old) (attributes.Other new) = new ≡ old
 
 -- All but its code is as it was.
-pub record IsWovenMember (old new : Member) : Type 0 where
+pub record IsWovenMember (plan : Plan) (pool : List Const) (method : Method) (old new : Member) : Type 0 where
   pub flags : new.flags ≡ old.flags
   pub name : new.name ≡ old.name
   pub desc : new.desc ≡ old.desc
-  pub attrs : Each IsWovenAttr old.attrs new.attrs
+  pub attrs : Each (IsWovenAttr plan pool method) old.attrs new.attrs
+
+-- So it is of the members of a class, each with its method.
+abbrev pub AreWovenMembers : Plan → List Const → List Method → List Member → List Member → Type 0
+AreWovenMembers plan pool [] [] [] = ⊤
+AreWovenMembers plan pool (method ∷ methods) (old ∷ olds) (new ∷ news) = IsWovenMember plan pool method old new × AreWovenMembers plan pool methods olds news
+AreWovenMembers plan pool methods olds news = ⊥
 
 -- ---- methods, classes and programs
 
@@ -169,7 +188,7 @@ pub record IsWovenClass (plan : Plan) (state : ℕ) (old new : LinkedClass) : Ty
   pub pool : new.file.pool ≡ old.file.pool ++ added
   pub wanted : new.file.pool ≡ with_wants old.file.pool (class_wants plan old.methods)
   pub file : new.file ≡ file_with old.file new.file.pool new.file.methods
-  pub members : Each IsWovenMember old.file.methods new.file.methods
+  pub members : AreWovenMembers plan new.file.pool old.methods old.file.methods new.file.methods
   pub methods : Each (IsWovenMethod plan state new.file.pool) old.methods new.methods
 
 -- The class conspec/State of these variables, which has no method.

@@ -27,7 +27,7 @@ use Rattle.offset_patch.specs.declared.block.Block.{Block}
 use Rattle.offset_patch.specs.declared.fault.Size.TheVariants as sizes
 use Rattle.offset_patch.specs.declared.fault.SpliceFault.{SpliceFault}
 use Rattle.offset_patch.specs.Fault.{fitted, code_fitted}
-use Rattle.offset_patch.specs.Splicing.{grown, fronts_of, catching, operands_needed, spliced, table_spliced, code_with, bytes_spliced, code_spliced}
+use Rattle.offset_patch.specs.Splicing.{attrs_spliced, grown, fronts_of, catching, operands_needed, spliced, table_spliced, code_with, bytes_spliced, code_spliced}
 use Rattle.offset_patch.proofs.CodeFits.{room_is, pool_short, rows_short, written_is}
 use Rattle.offset_patch.proofs.InsnFits.{wants_there, parts_fit}
 use Rattle.class_weaving.proofs.CodeCases.{with_blocks, IsPut, put_cases}
@@ -148,6 +148,8 @@ pub record IsRead (pool : List Const) (method : Method) (code : Code) (locals : 
   pub entries : w.entries ≡ grown pool sites
   pub insns : code_of w.code.code ≡ Ok (spliced w.entries method.insns sites)
   pub table : w.code.table ≡ table_spliced (starts_of (spliced w.entries method.insns sites)) sites method.handlers code.table
+  pub name : w.code.name ≡ code.name
+  pub attrs : w.code.attrs ≡ attrs_spliced w.entries method.insns (spliced w.entries method.insns sites) sites code.attrs
   pub max_stack : w.code.max_stack ≡ code.max_stack + operands_needed
   pub max_locals : w.code.max_locals ≡ code.max_locals + locals
   pub stack : code.max_stack + operands_needed < 2 ^ 16
@@ -183,6 +185,8 @@ put_reads kinds plan good class number pool method code w sound last =
           entries = refl;
           insns = there;
           table = ap (λ (c : Code). c.table) (sym h.is);
+          name = ap (λ (c : Code). c.name) (sym h.is);
+          attrs = ap (λ (c : Code). c.attrs) (sym h.is);
           max_stack = ap (λ (c : Code). c.max_stack) (sym h.is);
           max_locals = ap (λ (c : Code). c.max_locals) (sym h.is);
           stack = omega (arith, roomy.0);

@@ -28,7 +28,7 @@ use Rattle.conspec_tree.specs.declared.types.Var.{Var}
 use Rattle.class_weaving.specs.declared.woven.Members.{Members}
 use Rattle.class_weaving.specs.declared.woven.Woven.{Woven}
 use Rattle.class_weaving.specs.Woven.{WovenCode, folded, sites_of, code_woven, first_code, attr_with, member_with, bare_put, code_put, body_woven, member_woven, members_woven, none_made, file_with, file_put, class_woven, classes_woven, state_put, woven}
-use Rattle.class_weaving.specs.Outcome.{Each, IsWovenAttr, IsWovenMember}
+use Rattle.class_weaving.specs.Outcome.{Each}
 
 -- ---- a pool that grew
 
@@ -100,20 +100,9 @@ pub record IsKeptMember (old new : Member) : Type 0 where
   pub name : new.name ≡ old.name
   pub desc : new.desc ≡ old.desc
   pub codes : length (codes_of new) ≡ length (codes_of old)
-  pub attrs : Each IsWovenAttr old.attrs new.attrs
-
-same_attrs : (attrs : List Attr) → Each IsWovenAttr attrs attrs
-same_attrs [] = tt
-same_attrs (attributes.Code code ∷ attrs) = (tt, same_attrs attrs)
-same_attrs (attributes.Other other ∷ attrs) = (refl, same_attrs attrs)
 
 pub same_member : (m : Member) → IsKeptMember m m
-same_member m = record { flags = refl; name = refl; desc = refl; codes = refl; attrs = same_attrs m.attrs }
-
-with_attrs : (code : Code) (attrs : List Attr) → Each IsWovenAttr attrs (map (attr_with code) attrs)
-with_attrs code [] = tt
-with_attrs code (attributes.Code old ∷ attrs) = (tt, with_attrs code attrs)
-with_attrs code (attributes.Other other ∷ attrs) = (refl, with_attrs code attrs)
+same_member m = record { flags = refl; name = refl; desc = refl; codes = refl }
 
 same_codes : (code : Code) (attrs : List Attr) → length (filter_map code_in (map (attr_with code) attrs)) ≡ length (filter_map code_in attrs)
 same_codes code [] = refl
@@ -121,15 +110,7 @@ same_codes code (attributes.Code old ∷ attrs) = ap suc (same_codes code attrs)
 same_codes code (attributes.Other other ∷ attrs) = same_codes code attrs
 
 pub with_kept : (member : Member) (code : Code) → IsKeptMember member (member_with member code)
-with_kept member code = record { flags = refl; name = refl; desc = refl; codes = same_codes code member.attrs; attrs = with_attrs code member.attrs }
-
--- what is kept of each member is what is said of it
-pub members_woven_of : (olds news : List Member) → Each IsKeptMember olds news → Each IsWovenMember olds news
-members_woven_of [] [] k = tt
-members_woven_of [] (new ∷ news) k = absurd k
-members_woven_of (old ∷ olds) [] k = absurd k
-members_woven_of (old ∷ olds) (new ∷ news) k =
-    (record { flags = k.0.flags; name = k.0.name; desc = k.0.desc; attrs = k.0.attrs }, members_woven_of olds news k.1)
+with_kept member code = record { flags = refl; name = refl; desc = refl; codes = same_codes code member.attrs }
 
 -- What one member more makes of what was made.
 pub record IsNext (made next : Members) (member : Member) : Type 0 where

@@ -15,9 +15,11 @@ pub mod LeftMethods
 pub mod Added
 pub mod Tables
 pub mod Again
+pub mod Attributes
 pub mod Steps
 pub mod Made
 pub mod Whole
 pub mod Relinked
 pub mod Original
 pub mod Told
+pub mod Laid

@@ -1,6 +1,6 @@
 -- What becomes of a method: its member before and after weaving, and what each links to.
-use Rattle.std.proofs.Common.{◌≡◌, ℕ, ◌+◌, ◌<◌, ◌^◌, Bool, true, false, List, [], ◌∷◌, ◌++◌, length, map, Option, Some, None, Result, Ok, refl, sym, ap, subst, ◌∙◌, append-nil, arith}
-use Rattle.std.specs.Prelude.{slice_get, bytes_eq, ◌&&◌, if◌then◌else◌, not}
+use Rattle.std.proofs.Common.{◌≡◌, ℕ, ◌+◌, ◌<◌, ◌^◌, Bool, true, false, List, [], ◌∷◌, ◌++◌, length, map, Option, Some, None, Result, Ok, refl, sym, ap, subst, ◌∙◌, append_assoc, append-nil, arith}
+use Rattle.std.specs.Prelude.{slice_get, bytes_eq, ◌==◌, ◌&&◌, ◌≤◌, if◌then◌else◌, not}
 use Rattle.std.specs.List.{AllByRecursion, Contains, filter_map}
 use Rattle.mon_base.specs.Reading.{◌>>=◌}
 use Rattle.mon_base.proofs.Reading.{bind_ok, ok_is}
@@ -10,7 +10,7 @@ use Rattle.class_codec.specs.declared.tree.ClassFile.{ClassFile}
 use Rattle.class_codec.specs.declared.tree.Code.{Code}
 use Rattle.class_codec.specs.declared.tree.Const.{Const}
 use Rattle.class_codec.specs.declared.tree.Member.{Member}
-use Rattle.class_codec.specs.Fits.{FitsMember}
+use Rattle.class_codec.specs.Fits.{FitsMember, FitsOther}
 use Rattle.insn_codec.specs.declared.fault.CodeFault.{CodeFault}
 use Rattle.insn_codec.specs.declared.insn.Insn.{Insn}
 use Rattle.insn_codec.specs.Reading.{code_of}
@@ -21,8 +21,8 @@ use Rattle.class_linking.specs.declared.fault.LinkFault.{LinkFault}
 use Rattle.bytecode_model.specs.declared.program.Handler.{Handler}
 use Rattle.bytecode_model.specs.declared.program.Method.{Method}
 use Rattle.bytecode_model.specs.declared.program.Target.{Target}
-use Rattle.bytecode_model.specs.Conditions.{code_in, is_allowed, overrides, overrides_in, id_of}
-use Rattle.bytecode_model.specs.Heads.{head_of, all_classes, name_of, desc_of, is_static, maker}
+use Rattle.bytecode_model.specs.Conditions.{code_in, codes_of, describes_method, has_good_flags, has_its_code, is_allowed, is_begun_unlocked, is_good_initialiser, overrides, overrides_in, id_of}
+use Rattle.bytecode_model.specs.Heads.{head_of, all_classes, name_of, desc_of, is_abstract, is_static, maker}
 use Rattle.class_linking.specs.Operands.{operand_linked, operand_at, operands_linked}
 use Rattle.bytecode_model.specs.SearchOrder.{Name}
 use Rattle.class_linking.specs.Handlers.{handlers_linked}
@@ -37,15 +37,17 @@ use Rattle.offset_patch.specs.declared.block.BlockInsn.TheVariants.{Plain, Byte,
 use Rattle.offset_patch.specs.declared.block.PoolWant.{PoolWant}
 use Rattle.offset_patch.specs.declared.fault.SpliceFault.{SpliceFault}
 use Rattle.offset_patch.specs.Entries.{Placed, wanted, with_wants, place_in, IsThere}
-use Rattle.offset_patch.specs.Splicing.{part_of, fronts_of, put, parts_from, spliced, want_of, block_wants, wants_of, grown}
+use Rattle.offset_patch.specs.Lines.{attrs_kept, start_moved}
+use Rattle.offset_patch.specs.Splicing.{attrs_spliced, begins as begins_at, part_of, fronts_of, put, parts_from, spliced, want_of, block_wants, wants_of, grown}
 use Rattle.offset_patch.proofs.EntryFits.{wants_grow}
 use Rattle.offset_patch.proofs.InsnFits.{split_all, wants_there}
 use Rattle.offset_patch.proofs.Steady.{steady_wanted}
 use Rattle.class_weaving.specs.declared.woven.Members.{Members}
 use Rattle.class_weaving.specs.Woven.{WovenCode, is_woven, sites_of, locals_of, clients_from, blocks_put, code_woven, first_code, attr_with, member_with, bare_put, code_put, body_woven}
-use Rattle.class_weaving.specs.Outcome.{Each, way_out, at_fronts, own_handlers, handlers_with, wants_woven, insns_woven, stack_woven, locals_woven, handlers_woven, parts_named, refs_woven, IsWovenMethod}
+use Rattle.class_weaving.specs.Outcome.{Each, way_out, at_fronts, own_handlers, handlers_with, wants_woven, insns_woven, stack_woven, locals_woven, handlers_woven, parts_named, refs_woven, IsWovenBody, IsWovenMember, IsWovenMethod}
 use Rattle.woven_linking.specs.Program.{HasRoom, MethodHasRoom}
 use Rattle.woven_linking.proofs.Again.{IsSoundCode, put_reads}
+use Rattle.woven_linking.proofs.Attributes.{attrs_same, attrs_with, lines_same}
 use Rattle.woven_linking.proofs.Aims.{GoesOn, last_alone, spliced_below, spliced_count, spliced_within}
 use Rattle.woven_linking.proofs.Calls.{call_goes}
 use Rattle.woven_linking.proofs.Free.{IsFree, class_free}
@@ -57,6 +59,8 @@ use Rattle.class_weaving.proofs.FirstCode.{first_fits}
 use Rattle.woven_linking.proofs.Tables.{IsHandlerOf, handlers_of, of_handlers, sites_caught, handlers_kept, handlers_moved}
 use Rattle.class_weaving.proofs.Wanted.{exit_there, reference_told, there_on, all_of}
 use Rattle.std.proofs.lemmas.List.{length-map}
+use Rattle.std.proofs.lemmas.Bool.{and_parts}
+use Rattle.std.proofs.lemmas.Bool.Decides.{nat_tests}
 use Rattle.class_codec.specs.declared.tree.TableEntry.{TableEntry}
 use Rattle.class_codec.specs.Fits.{FitCounted, FitsPool, FitsTableEntry}
 use Rattle.class_codec.specs.Pool.{reference_at}
@@ -161,6 +165,19 @@ conditions_of files listing file at member m e =
     let parts = method_parts files listing file at member m e in
     (parts.allowed, parts.own, ap (body_linked files listing file at member) (sym (first_is member.attrs)) ∙ parts.body)
 
+-- a member that is allowed has one code at most
+one_code : (pool : List Const) (member : Member) → is_allowed pool member ≡ true → length (codes_of member) ≤ 1
+one_code pool member e =
+    let one = and_parts (has_good_flags pool member) _ e in
+    let two = and_parts (is_good_initialiser pool member) _ one.1 in
+    let three = and_parts (is_begun_unlocked pool member) _ two.1 in
+    let four = and_parts (describes_method (desc_of pool member)) (has_its_code member) three.1 in
+    by (is_abstract member.flags) four.1
+  where
+    by : (b : Bool) → (length (codes_of member) == (if b then 0 else 1)) ≡ true → length (codes_of member) ≤ 1
+    by true h = grind (arith, nat_tests)
+    by false h = grind (arith, nat_tests)
+
 -- ---- one member
 
 module _ (kinds : List Bool) (plan : Plan) (good : IsGood kinds plan) (file new : ClassFile) (files others : List ClassFile) (listing : Listing) (added : IsAdded kinds files others listing)
@@ -187,7 +204,7 @@ module _ (kinds : List Bool) (plan : Plan) (good : IsGood kinds plan) (file new 
       rw (allowed, own, first_is item.attrs) body
 
   -- What one member more makes of what was made.
-  pub record IsStep (made next : Members) (m : Method) : Type 0 where
+  pub record IsStep (made next : Members) (member : Member) (m : Method) : Type 0 where
     pub item : Member
     pub items : next.items ≡ made.items ++ item ∷ []
     pub number : next.number ≡ made.number + 1
@@ -196,9 +213,10 @@ module _ (kinds : List Bool) (plan : Plan) (good : IsGood kinds plan) (file new 
     pub is : (ys : List Const) → new.pool ≡ next.entries ++ ys → (at : ℕ) → (other : Method) × (method_linked others listing new at item ≡ Ok other) × IsWovenMethod plan (length files) new.pool m other
         × IsSoundMethod other
     pub room : (ys : List Const) → new.pool ≡ next.entries ++ ys → MethodHasRoom plan new.pool m
+    pub kept : (ys : List Const) → new.pool ≡ next.entries ++ ys → IsWovenMember plan new.pool m member item
 
   bare_step : (made : Members) (member : Member) (m : Method) → FitsMember file.pool true member → method_linked files listing file made.number member ≡ Ok m → first_code member.attrs ≡ None
-      → bare file member ≡ m → IsStep made (bare_put made member) m
+      → bare file member ≡ m → IsStep made (bare_put made member) member m
   bare_step made member m fits linked none is = record {
     item = member;
     items = refl;
@@ -224,6 +242,7 @@ module _ (kinds : List Bool) (plan : Plan) (good : IsGood kinds plan) (file new 
           record { few = omega arith; refs = refl; insns = tt; targets = tt; ends = tt; few_handlers = omega arith; handlers = tt },
         );
     room = λ ys grown. subst (MethodHasRoom plan new.pool) is (λ woven. absurd cc);
+    kept = λ ys grown. record { flags = refl; name = refl; desc = refl; attrs = attrs_same plan new.pool m member.attrs none };
   }
 
   abbrev Names : Insn → Target → Type 0
@@ -242,10 +261,16 @@ module _ (kinds : List Bool) (plan : Plan) (good : IsGood kinds plan) (file new 
     rows : length w.code.table < 2 ^ 16
     sound : (ys : List Const) → new.pool ≡ w.entries ++ ys → IsSoundCode (insns_woven plan new.pool m)
     room : (ys : List Const) → new.pool ≡ w.entries ++ ys → MethodHasRoom plan new.pool m
+    body : (ys : List Const) → new.pool ≡ w.entries ++ ys → IsWovenBody plan new.pool m code w.code
+
+  -- the constants that the methods before added
+  abbrev pub Begins : List Const → Type 0
+  Begins pool = (xs : List Const) × (pool ≡ file.pool ++ xs)
 
   woven_is : (class : List ℕ) (number : ℕ) (pool : List Const) (m : Method) (member : Member) (code : Code) (w : WovenCode) → IsSoundMethod m → IsCoded files listing file member code m
-      → FitCounted (FitsTableEntry file.pool) code.table → code_woven plan class number pool m code ≡ Ok w → IsWovenCode pool m code w
-  woven_is class number pool m member code w sound old fits = by (is_woven plan m) refl
+      → FitCounted (FitsTableEntry file.pool) code.table → AllByRecursion (FitsOther file.pool) code.attrs → Begins pool → code_woven plan class number pool m code ≡ Ok w
+      → IsWovenCode pool m code w
+  woven_is class number pool m member code w sound old fits attrs begins = by (is_woven plan m) refl
     where
       refs_still : Each Names m.insns m.refs
       refs_still = each_as (λ (x : Insn) (t : Target). operand_linked files listing file.pool x ≡ Ok t) Names (operand_still kinds files others listing added file.pool new.pool p free longer) m.insns m.refs old.refs
@@ -314,6 +339,21 @@ module _ (kinds : List Bool) (plan : Plan) (good : IsGood kinds plan) (file new 
                   insns = omega (arith, spliced_count w.entries m.insns sites count, few);
                   there = there ys grown;
                 });
+            body = λ ys grown. record {
+              same = λ fails. absurd cc;
+              name = h.name;
+              attrs = λ woven.
+                  let moved = start_moved (begins_at m.insns) (fronts_of sites) (starts_of xs) in
+                  let behind = begins.0 ++ more.0 in
+                  let entries : w.entries ≡ file.pool ++ behind =
+                  h.entries ∙ more.1 ∙ ap (λ (q : List Const). q ++ more.0) begins.1 ∙ append_assoc file.pool begins.0 more.0 in
+                  let stay : attrs_kept w.entries moved code.attrs ≡ attrs_kept new.pool moved code.attrs =
+                  ap (λ (q : List Const). attrs_kept q moved code.attrs) entries ∙ lines_same file.pool behind ys moved code.attrs attrs
+                  ∙ ap (λ (q : List Const). attrs_kept (q ++ ys) moved code.attrs) (sym entries) ∙ ap (λ (q : List Const). attrs_kept q moved code.attrs) (sym grown) in
+                  h.attrs ∙ ap (λ (q : List Insn). attrs_spliced w.entries m.insns q sites code.attrs) (spliced_same ys grown) ∙ stay
+                  ∙ ap (λ (q : List Insn). attrs_spliced new.pool m.insns q sites code.attrs) (sym insns_is)
+                  ∙ ap (λ (q : List (Option Block)). attrs_spliced new.pool m.insns (insns_woven plan new.pool m) q code.attrs) (sym same);
+            };
           }
         where
           grown_by : List (Option Block) → List Const
@@ -340,14 +380,16 @@ module _ (kinds : List Bool) (plan : Plan) (good : IsGood kinds plan) (file new 
             rows = fits.count;
             sound = λ ys grown. subst IsSoundCode (sym insns_is) (record { few = sound.few; each = sound.insns; targets = sound.targets; ends = sound.ends });
             room = λ ys grown woven. absurd cc;
+            body = λ ys grown. record { same = λ fails. refl; name = refl; attrs = λ woven. absurd cc };
           })
 
   coded_step : (class : List ℕ) (made : Members) (member : Member) (m : Method) (code : Code) (w : WovenCode) → FitsMember file.pool true member → IsSoundMethod m
       → method_linked files listing file made.number member ≡ Ok m → first_code member.attrs ≡ Some code → IsCoded files listing file member code m
-      → code_woven plan class made.number made.entries m code ≡ Ok w → IsStep made (code_put made member w) m
-  coded_step class made member m code w fits sound linked first old e =
-      let entries = (first_fits file.pool member.attrs code fits.attrs.each first).1.table in
-      let h = woven_is class made.number made.entries m member code w sound old entries e in
+      → Begins made.entries → code_woven plan class made.number made.entries m code ≡ Ok w → IsStep made (code_put made member w) member m
+  coded_step class made member m code w fits sound linked first old begins e =
+      let fits_code = (first_fits file.pool member.attrs code fits.attrs.each first).1 in
+      let h = woven_is class made.number made.entries m member code w sound old fits_code.table fits_code.attrs.each begins e in
+      let one = one_code file.pool member (conditions_of files listing file made.number member m linked).0 in
       record {
         item = member_with member w.code;
         items = refl;
@@ -384,6 +426,7 @@ module _ (kinds : List Bool) (plan : Plan) (good : IsGood kinds plan) (file new 
               sound_of others listing new at item w.code insns refs handlers (h.sound ys grown) h.rows operands table,
             );
         room = h.room;
+        kept = λ ys grown. record { flags = refl; name = refl; desc = refl; attrs = attrs_with plan new.pool m w.code code member.attrs first one (h.body ys grown) };
       }
     where
       code_links : (at : ℕ) (item : Member) (code : Code) (insns : List Insn) (refs : List Target) (handlers : List Handler) → code_of code.code ≡ Ok insns
@@ -398,13 +441,14 @@ module _ (kinds : List Bool) (plan : Plan) (good : IsGood kinds plan) (file new 
           ∙ ap (λ (r : Result (List Target) LinkFault). r >>= λ ts. ending insns ts) b ∙ ap (λ (r : Result (List Handler) LinkFault). r >>= λ hs. Ok (with_code new item code insns refs hs)) c
 
   pub one_step : (class : List ℕ) (made next : Members) (member : Member) (m : Method) → FitsMember file.pool true member → IsSoundMethod m
-      → method_linked files listing file made.number member ≡ Ok m → body_woven plan class made member (Some m) (first_code member.attrs) ≡ Ok next → IsStep made next m
-  one_step class made next member m fits sound linked = by (first_code member.attrs) refl (conditions_of files listing file made.number member m linked).2
+      → method_linked files listing file made.number member ≡ Ok m → Begins made.entries → body_woven plan class made member (Some m) (first_code member.attrs) ≡ Ok next
+      → IsStep made next member m
+  one_step class made next member m fits sound linked begins = by (first_code member.attrs) refl (conditions_of files listing file made.number member m linked).2
     where
-      by : (c : Option Code) → first_code member.attrs ≡ c → body_linked files listing file made.number member c ≡ Ok m → body_woven plan class made member (Some m) c ≡ Ok next → IsStep made next m
+      by : (c : Option Code) → first_code member.attrs ≡ c → body_linked files listing file made.number member c ≡ Ok m → body_woven plan class made member (Some m) c ≡ Ok next → IsStep made next member m
       by None none body e =
-          subst (λ (x : Members). IsStep made x m) (ok_is SpliceFault (bare_put made member) next e) (bare_step made member m fits linked none (ok_is LinkFault (bare file member) m body))
+          subst (λ (x : Members). IsStep made x member m) (ok_is SpliceFault (bare_put made member) next e) (bare_step made member m fits linked none (ok_is LinkFault (bare file member) m body))
       by (Some code) first body e =
           let one = bind_ok (code_woven plan class made.number made.entries m code) (λ w. Ok (code_put made member w)) next e in
           let old = coded files listing file made.number member code m body in
-          subst (λ (x : Members). IsStep made x m) (ok_is SpliceFault (code_put made member one.0) next one.2) (coded_step class made member m code one.0 fits sound linked first old one.1)
+          subst (λ (x : Members). IsStep made x member m) (ok_is SpliceFault (code_put made member one.0) next one.2) (coded_step class made member m code one.0 fits sound linked first old begins one.1)

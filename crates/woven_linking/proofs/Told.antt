@@ -13,10 +13,11 @@ use Rattle.api_listing.specs.declared.types.Listing.{Listing}
 use Rattle.class_linking.specs.declared.fault.LinkFault.{LinkFault}
 use Rattle.bytecode_model.specs.declared.program.LinkedClass.{LinkedClass}
 use Rattle.bytecode_model.specs.declared.program.Method.{Method}
+use Rattle.bytecode_model.specs.declared.program.Program.{Program}
 use Rattle.bytecode_model.specs.declared.program.Side.TheVariants as sides
 use Rattle.class_linking.specs.Fault.{linked_from}
-use Rattle.class_linking.specs.Linking.{body_linked, method_linked}
-use Rattle.bytecode_model.specs.Sound.{IsSoundMethod, IsSoundClass}
+use Rattle.class_linking.specs.Linking.{assembled, body_linked, method_linked}
+use Rattle.bytecode_model.specs.Sound.{IsSound, IsSoundMethod, IsSoundClass}
 use Rattle.offset_patch.specs.Plan.{Plan}
 use Rattle.offset_patch.specs.declared.block.Block.{Block}
 use Rattle.offset_patch.specs.declared.block.BlockInsn.{BlockInsn}
@@ -27,15 +28,16 @@ use Rattle.offset_patch.specs.Splicing.{part_of, fronts_from, aimed, put, parts_
 use Rattle.class_weaving.proofs.CodeCases.{IsPut, code_cases}
 use Rattle.class_weaving.specs.declared.woven.Members.{Members}
 use Rattle.class_weaving.specs.declared.woven.Woven.{Woven}
-use Rattle.class_weaving.specs.Woven.{WovenCode, folded, is_woven, sites_of, clients_from, code_woven, first_code, bare_put, code_put, body_woven, member_woven, members_woven, none_made, file_with, file_put, class_woven, classes_woven, state_put}
+use Rattle.class_weaving.specs.Woven.{WovenCode, folded, is_woven, sites_of, clients_from, code_woven, first_code, bare_put, code_put, body_woven, member_woven, members_woven, none_made, file_with, file_put, class_woven, classes_woven, state_put, woven}
 use Rattle.class_weaving.specs.Outcome.{Each, insns_woven}
-use Rattle.woven_linking.specs.Origins.{fronts_in, insn_woven, IsOfBlock, IsFrom, AreFrom, MethodIsFrom, with_code, ClassIsFrom, ClassesAreFrom, OriginsAreTrue}
+use Rattle.woven_linking.specs.Origins.{fronts_in, insn_woven, IsOfBlock, IsFrom, AreFrom, MethodIsFrom, with_code, ClassTells, ClassesTell, OriginsAreTrue}
 use Rattle.class_linking.proofs.Loop.{first_linked}
 use Rattle.class_linking.proofs.Parts.{class_parts}
 use Rattle.woven_linking.proofs.Pairs.{each_append}
 use Rattle.woven_linking.proofs.Steps.{conditions_of, coded}
 use Rattle.woven_linking.proofs.Whole.{get_behind, IsOf, program_of}
 use Rattle.class_weaving.specs.State.{state_file}
+use Rattle.conspec_tree.specs.declared.types.Var.{Var}
 
 -- ---- the parts of a method
 
@@ -197,13 +199,19 @@ module _ (plan : Plan) (pool : List Const) (m : Method) where
 
 -- ---- the methods of a class
 
-module _ (plan : Plan) (pool : List Const) (files : List ClassFile) (listing : Listing) (class : LinkedClass) where
+-- What is so of a method that was woven, and of the origins of its instructions.
+abbrev pub Told : Plan → (Method → List Origin → Type 0) → Type 0
+Told plan Holds =
+    (m : Method) (class : List ℕ) (number : ℕ) (entries : List Const) (code : Code) (w : WovenCode) → IsSoundMethod m → m.max_locals ≡ code.max_locals
+    → code_woven plan class number entries m code ≡ Ok w → Holds m w.origins
+
+module _ (plan : Plan) (Holds : Method → List Origin → Type 0) (told_of : Told plan Holds) (files : List ClassFile) (listing : Listing) (class : LinkedClass) where
   -- What one member more tells of the methods with code.
   record IsTold (made next : Members) (olds : List Method) : Type 0 where
     told : List (List Origin)
     is : next.origins ≡ made.origins ++ told
     number : next.number ≡ made.number + 1
-    each : Each (MethodIsFrom plan pool) olds told
+    each : Each Holds olds told
 
   body_tells : (made next : Members) (member : Member) (m : Method) → IsSoundMethod m → (c : Option Code) → first_code member.attrs ≡ c
       → body_linked files listing class.file made.number member c ≡ Ok m → body_woven plan class.name made member (Some m) c ≡ Ok next
@@ -217,7 +225,7 @@ module _ (plan : Plan) (pool : List Const) (files : List ClassFile) (listing : L
         told = one.0.origins ∷ [];
         is = refl;
         number = refl;
-        each = (code_tells plan pool m class.name made.number made.entries code one.0 sound old.max_locals one.1, tt);
+        each = (told_of m class.name made.number made.entries code one.0 sound old.max_locals one.1, tt);
       })
 
   first_of : (m : Method) (member : Member) (methods : List Method) (members : List Member)
@@ -230,11 +238,11 @@ module _ (plan : Plan) (pool : List Const) (files : List ClassFile) (listing : L
 
   members_tell : (members : List Member) (made last : Members) (done left : List Method) → class.methods ≡ done ++ left → length done ≡ made.number → AllByRecursion IsSoundMethod left
       → linked_from (method_linked files listing class.file) made.number members ≡ Ok left → folded (member_woven plan class) made members ≡ Ok last
-      → (told : List (List Origin)) × (last.origins ≡ made.origins ++ told) × Each (MethodIsFrom plan pool) (with_code left members) told
+      → (told : List (List Origin)) × (last.origins ≡ made.origins ++ told) × Each Holds (with_code left members) told
   members_tell [] made last done left split count sound e w =
       let none : [] ≡ left = ok_is LinkFault [] left e in
       let same : last.origins ≡ made.origins ++ [] = ap (λ (x : Members). x.origins) (sym (ok_is SpliceFault made last w)) ∙ sym (append-nil made.origins) in
-      ([], same, subst (λ (ms : List Method). Each (MethodIsFrom plan pool) (with_code ms []) []) none tt)
+      ([], same, subst (λ (ms : List Method). Each Holds (with_code ms []) []) none tt)
   members_tell (member ∷ members) made last done left split count sound e w =
       let a = first_linked (method_linked files listing class.file) made.number member members left e in
       let m = a.0 in
@@ -251,20 +259,21 @@ module _ (plan : Plan) (pool : List Const) (files : List ClassFile) (listing : L
       let linked' : linked_from (method_linked files listing class.file) next.number members ≡ Ok rest = ap (λ (n : ℕ). linked_from (method_linked files listing class.file) n members) step.number ∙ a.3 in
       let count' : length (done ++ m ∷ []) ≡ next.number = length-append done (m ∷ []) ∙ ap (λ (n : ℕ). n + 1) count ∙ sym step.number in
       let later = members_tell members next last (done ++ m ∷ []) rest (split' ∙ sym (append_assoc done (m ∷ []) rest)) count' sound'.1 linked' one.2 in
-      let all = each_append (MethodIsFrom plan pool) (if is_some (first_code member.attrs) then m ∷ [] else []) (with_code rest members) step.told later.0 step.each later.2 in (
+      let all = each_append Holds (if is_some (first_code member.attrs) then m ∷ [] else []) (with_code rest members) step.told later.0 step.each later.2 in (
         step.told ++ later.0,
         later.1 ∙ ap (λ (xs : List (List Origin)). xs ++ later.0) step.is ∙ append_assoc made.origins step.told later.0,
-        subst (λ (ms : List Method). Each (MethodIsFrom plan pool) (with_code ms (member ∷ members)) (step.told ++ later.0)) a.4
-            (subst (λ (ms : List Method). Each (MethodIsFrom plan pool) ms (step.told ++ later.0)) (first_of m member rest members) all),
+        subst (λ (ms : List Method). Each Holds (with_code ms (member ∷ members)) (step.told ++ later.0)) a.4
+            (subst (λ (ms : List Method). Each Holds ms (step.told ++ later.0)) (first_of m member rest members) all),
       )
 
 -- ---- the program
 
-module _ (plan : Plan) (files : List ClassFile) (listing : Listing) where
+module _ (plan : Plan) (Holds : List Const → Method → List Origin → Type 0) (told_of : (pool : List Const) → Told plan (Holds pool))
+    (files : List ClassFile) (listing : Listing) where
   classes_tell : (made last : Woven) (classes : List LinkedClass) → AllByRecursion IsSoundClass classes → AllByRecursion (IsOf files listing) classes
       → folded (class_woven plan) made classes ≡ Ok last
       → (news : List ClassFile) × (told : List (List (List Origin))) × (last.files ≡ made.files ++ news) × (last.origins ≡ made.origins ++ told)
-      × ((state : ClassFile) → ClassesAreFrom plan classes (news ++ state ∷ []) (told ++ [] ∷ []))
+      × ((state : ClassFile) → ClassesTell Holds classes (news ++ state ∷ []) (told ++ [] ∷ []))
   classes_tell made last [] sound of e =
       let is : made ≡ last = ok_is SpliceFault made last e in (
         [],
@@ -280,8 +289,8 @@ module _ (plan : Plan) (files : List ClassFile) (listing : Listing) where
       let is : file_put made class done ≡ one.0 = ok_is SpliceFault (file_put made class done) one.0 two.2 in
       let file = file_with class.file done.entries done.items in
       let parts = class_parts files listing class.file class.methods of.0.methods in
-      let tell = members_tell plan done.entries files listing class class.file.methods (none_made class.file.pool) done [] class.methods refl refl sound.0.methods parts.each two.1 in
-      let here : ClassIsFrom plan class file done.origins = subst (Each (MethodIsFrom plan done.entries) (with_code class.methods class.file.methods)) (sym tell.1) tell.2 in
+      let tell = members_tell plan (Holds done.entries) (told_of done.entries) files listing class class.file.methods (none_made class.file.pool) done [] class.methods refl refl sound.0.methods parts.each two.1 in
+      let here : ClassTells Holds class file done.origins = subst (Each (Holds done.entries) (with_code class.methods class.file.methods)) (sym tell.1) tell.2 in
       let later = classes_tell one.0 last classes sound.1 of.1 one.2 in (
         file ∷ later.0,
         done.origins ∷ later.1,
@@ -290,17 +299,22 @@ module _ (plan : Plan) (files : List ClassFile) (listing : Listing) where
         λ state. (here, later.4 state),
       )
 
+  pub program_tells : (main : List ℕ) (vars : List Var) (old : Program) (made : Woven) → assembled files listing main sides.Original ≡ Ok old → IsSound old
+      → woven old plan vars ≡ Ok made → ClassesTell Holds old.classes made.files made.origins
+  program_tells main vars old made linked sound w =
+      let p = program_of files listing main sides.Original old linked in
+      let none : Woven = record { files = []; origins = [] } in
+      let one = bind_ok (classes_woven plan none old.classes) (λ x. Ok (state_put vars x)) made w in
+      let is : state_put vars one.0 ≡ made = ok_is SpliceFault (state_put vars one.0) made one.2 in
+      let all = classes_tell none one.0 old.classes sound.classes p.classes one.1 in
+      let news : (state_put vars one.0).files ≡ all.0 ++ state_file vars ∷ [] = ap (λ (xs : List ClassFile). xs ++ state_file vars ∷ []) all.2 in
+      let told : (state_put vars one.0).origins ≡ all.1 ++ [] ∷ [] = ap (λ (xs : List (List (List Origin))). xs ++ [] ∷ []) all.3 in
+      let here = all.4 (state_file vars) in
+      let put : ClassesTell Holds old.classes (state_put vars one.0).files (state_put vars one.0).origins =
+      subst (λ (xs : List (List (List Origin))). ClassesTell Holds old.classes (state_put vars one.0).files xs) (sym told)
+      (subst (λ (xs : List ClassFile). ClassesTell Holds old.classes xs (all.1 ++ [] ∷ [])) (sym news) here) in
+      subst (λ (x : Woven). ClassesTell Holds old.classes x.files x.origins) is put
+
 pub tell : OriginsAreTrue
 tell files listing main old plan vars made linked sound w =
-    let p = program_of files listing main sides.Original old linked in
-    let none : Woven = record { files = []; origins = [] } in
-    let one = bind_ok (classes_woven plan none old.classes) (λ x. Ok (state_put vars x)) made w in
-    let is : state_put vars one.0 ≡ made = ok_is SpliceFault (state_put vars one.0) made one.2 in
-    let all = classes_tell plan files listing none one.0 old.classes sound.classes p.classes one.1 in
-    let news : (state_put vars one.0).files ≡ all.0 ++ state_file vars ∷ [] = ap (λ (xs : List ClassFile). xs ++ state_file vars ∷ []) all.2 in
-    let told : (state_put vars one.0).origins ≡ all.1 ++ [] ∷ [] = ap (λ (xs : List (List (List Origin))). xs ++ [] ∷ []) all.3 in
-    let here = all.4 (state_file vars) in
-    let put : ClassesAreFrom plan old.classes (state_put vars one.0).files (state_put vars one.0).origins =
-    subst (λ (xs : List (List (List Origin))). ClassesAreFrom plan old.classes (state_put vars one.0).files xs) (sym told)
-    (subst (λ (xs : List ClassFile). ClassesAreFrom plan old.classes xs (all.1 ++ [] ∷ [])) (sym news) here) in
-    subst (λ (x : Woven). ClassesAreFrom plan old.classes x.files x.origins) is put
+    program_tells plan (MethodIsFrom plan) (λ pool m. code_tells plan pool m) files listing main vars old made linked sound w

@@ -33,14 +33,14 @@ use Rattle.class_weaving.specs.State.{state_file}
 use Rattle.class_weaving.specs.declared.woven.Members.{Members}
 use Rattle.class_weaving.specs.declared.woven.Woven.{Woven}
 use Rattle.class_weaving.specs.Woven.{folded, first_code, body_woven, member_woven, none_made}
-use Rattle.class_weaving.specs.Outcome.{Each, wants_woven, class_wants, IsWovenMethod, IsWovenClass, IsWoven}
+use Rattle.class_weaving.specs.Outcome.{AreWovenMembers, Each, wants_woven, class_wants, IsWovenMethod, IsWovenClass, IsWoven}
 use Rattle.woven_linking.specs.Links.{WovenLinks}
 use Rattle.woven_linking.specs.Program.{MethodHasRoom, IsWovenOf}
 use Rattle.woven_linking.specs.Program as program
 use Rattle.woven_linking.proofs.Made.{class_is, HaveMethodsRoom, with_state}
 use Rattle.woven_linking.proofs.Added.{is_added, new_stand}
 use Rattle.woven_linking.proofs.Free.{IsFree, class_free}
-use Rattle.woven_linking.proofs.Kept.{IsLonger, IsKept, IsFileOf, members_woven_of, file_kept, file_is, files_made}
+use Rattle.woven_linking.proofs.Kept.{IsLonger, IsKept, IsFileOf, file_kept, file_is, files_made}
 use Rattle.woven_linking.proofs.Listed.{listed}
 use Rattle.woven_linking.proofs.Named.{IsAdded}
 use Rattle.class_linking.proofs.Loop.{first_linked}
@@ -60,7 +60,7 @@ get_behind (z ∷ xs) x ys = get_behind xs x ys
 module _ (kinds : List Bool) (plan : Plan) (good : IsGood kinds plan) (class : LinkedClass) (new : ClassFile) (files others : List ClassFile) (listing : Listing) (added : IsAdded kinds files others listing)
     (p : FitsPool class.file.pool) (free : IsFree class.file.pool) (longer : IsLonger class.file.pool new.pool) (named : (head_of new).name ≡ (head_of class.file).name) where
   -- What the members that are left make of what was made, and what these link to.
-  record IsRest (made last : Members) (left : List Method) : Type 0 where
+  record IsRest (made last : Members) (members : List Member) (left : List Method) : Type 0 where
     items : List Member
     are : last.items ≡ made.items ++ items
     more : (xs : List Const) × (last.entries ≡ made.entries ++ xs)
@@ -70,17 +70,18 @@ module _ (kinds : List Bool) (plan : Plan) (good : IsGood kinds plan) (class : L
     each : Each (IsWovenMethod plan (length files) new.pool) left linked
     sound : AllByRecursion IsSoundMethod linked
     room : AllByRecursion (MethodHasRoom plan new.pool) left
+    kept : AreWovenMembers plan new.pool left members items
 
-  none_left : (made : Members) → IsRest made made []
-  none_left made = record { items = []; are = sym (append-nil made.items); more = ([], sym (append-nil made.entries)); wanted = refl; linked = []; links = refl; each = tt; sound = tt; room = tt }
+  none_left : (made : Members) → IsRest made made [] []
+  none_left made = record { items = []; are = sym (append-nil made.items); more = ([], sym (append-nil made.entries)); wanted = refl; linked = []; links = refl; each = tt; sound = tt; room = tt; kept = tt }
 
   members_rest : (members : List Member) (made last : Members) (done left : List Method) → class.methods ≡ done ++ left → length done ≡ made.number → AllByRecursion IsSoundMethod left
       → AllByRecursion (FitsMember class.file.pool true) members → linked_from (method_linked files listing class.file) made.number members ≡ Ok left
-      → folded (member_woven plan class) made members ≡ Ok last → last.entries ≡ new.pool → IsRest made last left
-  members_rest [] made last done left split count sound fits e w pool =
+      → folded (member_woven plan class) made members ≡ Ok last → last.entries ≡ new.pool → (xs : List Const) × (made.entries ≡ class.file.pool ++ xs) → IsRest made last members left
+  members_rest [] made last done left split count sound fits e w pool begins =
       let none : [] ≡ left = ok_is LinkFault [] left e in
-      subst (IsRest made last) none (subst (λ (x : Members). IsRest made x []) (ok_is SpliceFault made last w) (none_left made))
-  members_rest (member ∷ members) made last done left split count sound fits e w pool =
+      subst (IsRest made last []) none (subst (λ (x : Members). IsRest made x [] []) (ok_is SpliceFault made last w) (none_left made))
+  members_rest (member ∷ members) made last done left split count sound fits e w pool begins =
       let a = first_linked (method_linked files listing class.file) made.number member members left e in
       let m = a.0 in
       let rest = a.1 in
@@ -91,14 +92,18 @@ module _ (kinds : List Bool) (plan : Plan) (good : IsGood kinds plan) (class : L
       let next = one.0 in
       let woven : body_woven plan class.name made member (Some m) (first_code member.attrs) ≡ Ok next =
       ap (λ (o : Option Method). body_woven plan class.name made member o (first_code member.attrs)) (sym here) ∙ one.1 in
-      let step = one_step kinds plan good class.file new files others listing added p free longer named class.name made next member m fits.0 sound'.0 a.2 woven in
+      let step = one_step kinds plan good class.file new files others listing added p free longer named class.name made next member m fits.0 sound'.0 a.2 begins woven in
       let linked' : linked_from (method_linked files listing class.file) next.number members ≡ Ok rest = ap (λ (n : ℕ). linked_from (method_linked files listing class.file) n members) step.number ∙ a.3 in
       let count' : length (done ++ m ∷ []) ≡ next.number = length-append done (m ∷ []) ∙ ap (λ (n : ℕ). n + 1) count ∙ sym step.number in
-      let later = members_rest members next last (done ++ m ∷ []) rest (split' ∙ sym (append_assoc done (m ∷ []) rest)) count' sound'.1 fits.1 linked' one.2 pool in
+      let begins' : (xs : List Const) × (next.entries ≡ class.file.pool ++ xs) = (
+        begins.0 ++ step.more.0,
+        step.more.1 ∙ ap (λ (q : List Const). q ++ step.more.0) begins.1 ∙ append_assoc class.file.pool begins.0 step.more.0,
+      ) in
+      let later = members_rest members next last (done ++ m ∷ []) rest (split' ∙ sym (append_assoc done (m ∷ []) rest)) count' sound'.1 fits.1 linked' one.2 pool begins' in
       let first = step.is later.more.0 (sym pool ∙ later.more.1) made.number in
       let again : linked_from (method_linked others listing new) (made.number + 1) later.items ≡ Ok later.linked =
       ap (λ (n : ℕ). linked_from (method_linked others listing new) n later.items) (sym step.number) ∙ later.links in
-      let both : IsRest made last (m ∷ rest) = record {
+      let both : IsRest made last (member ∷ members) (m ∷ rest) = record {
         items = step.item ∷ later.items;
         are = later.are ∙ ap (λ (xs : List Member). xs ++ later.items) step.items ∙ append_assoc made.items (step.item ∷ []) later.items;
         more = (step.more.0 ++ later.more.0, later.more.1 ∙ ap (λ (xs : List Const). xs ++ later.more.0) step.more.1 ∙ append_assoc made.entries step.more.0 later.more.0);
@@ -109,8 +114,9 @@ module _ (kinds : List Bool) (plan : Plan) (good : IsGood kinds plan) (class : L
         each = (first.2, later.each);
         sound = (first.3, later.sound);
         room = (step.room later.more.0 (sym pool ∙ later.more.1), later.room);
+        kept = (step.kept later.more.0 (sym pool ∙ later.more.1), later.kept);
       } in
-      subst (IsRest made last) a.4 both
+      subst (IsRest made last (member ∷ members)) a.4 both
 
 -- ---- a class
 
@@ -141,7 +147,7 @@ module _ (kinds : List Bool) (plan : Plan) (good : IsGood kinds plan) (vars : Li
       let pool : w.made.entries ≡ new.pool = ap (λ (f : ClassFile). f.pool) w.is in
       let parts = class_parts files listing old.file old.methods of.methods in
       let rest = members_rest kinds plan good old new files others listing added sound.fits.pool free k.longer named old.file.methods (none_made old.file.pool) w.made [] old.methods refl refl sound.methods
-      sound.fits.methods.each parts.each w.all pool in
+      sound.fits.methods.each parts.each w.all pool ([], sym (append-nil old.file.pool)) in
       let items : new.methods ≡ rest.items = ap (λ (f : ClassFile). f.methods) (sym w.is) ∙ rest.are in
       let each : each_method_linked others listing new ≡ Ok rest.linked = ap (linked_from (method_linked others listing new) 0) items ∙ rest.links in
       let left : left_to_library others listing (head_of new) ≡ None =
@@ -157,7 +163,7 @@ module _ (kinds : List Bool) (plan : Plan) (good : IsGood kinds plan) (vars : Li
           pool = k.longer.is;
           wanted = sym pool ∙ rest.wanted;
           file = file_is plan old new w;
-          members = members_woven_of old.file.methods new.methods k.methods;
+          members = subst (AreWovenMembers plan new.pool old.methods old.file.methods) (sym items) rest.kept;
           methods = rest.each;
         },
         rest.sound,

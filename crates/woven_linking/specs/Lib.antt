@@ -1,3 +1,4 @@
 pub mod Origins
 pub mod Links
 pub mod Program
+pub mod Inlined

@@ -1,5 +1,5 @@
 -- Where the instructions of woven methods come from. (docs/BLOCKS.md)
-use Rattle.std.specs.Prelude.{◌≡◌, ◌≢◌, ℕ, ◌+◌, is_some, if◌then◌else◌, List, [], ◌∷◌, slice_get, slice_index, Some, Ok, ⊤}
+use Rattle.std.specs.Prelude.{◌≡◌, ◌≢◌, ℕ, ◌+◌, is_some, if◌then◌else◌, List, [], ◌∷◌, length, map, slice_get, slice_index, Some, Ok, ⊤}
 use Rattle.class_codec.specs.declared.tree.ClassFile.{ClassFile}
 use Rattle.class_codec.specs.declared.tree.Const.{Const}
 use Rattle.class_codec.specs.declared.tree.Member.{Member}
@@ -11,7 +11,8 @@ use Rattle.bytecode_model.specs.declared.program.Program.{Program}
 use Rattle.bytecode_model.specs.declared.program.Side.TheVariants as sides
 use Rattle.class_linking.specs.Linking.{assembled}
 use Rattle.conspec_tree.specs.declared.types.Var.{Var}
-use Rattle.offset_patch.specs.Plan.{Plan}
+use Rattle.offset_patch.specs.Origins.{StandAsTold}
+use Rattle.offset_patch.specs.Plan.{Plan, IsGood}
 use Rattle.bytecode_model.specs.Sound.{IsSound}
 use Rattle.offset_patch.specs.declared.block.Block.{Block}
 use Rattle.offset_patch.specs.declared.block.BlockInsn.{BlockInsn}
@@ -75,20 +76,34 @@ with_code (method ∷ methods) [] = []
 with_code (method ∷ methods) (member ∷ members) =
     if is_some (first_code member.attrs) then method ∷ with_code methods members else with_code methods members
 
--- Origins are told of the methods with code, whose blocks name constants of the new file.
-abbrev pub ClassIsFrom : Plan → LinkedClass → ClassFile → List (List Origin) → Type 0
-ClassIsFrom plan class file told = Each (MethodIsFrom plan file.pool) (with_code class.methods class.file.methods) told
+-- It holds of each method with code of a class, whose blocks name constants of the new file, and of the origins that are told of it.
+abbrev pub ClassTells : (List Const → Method → List Origin → Type 0) → LinkedClass → ClassFile → List (List Origin) → Type 0
+ClassTells Holds class file told = Each (Holds file.pool) (with_code class.methods class.file.methods) told
 
--- of the classes, and of conspec/State, which has no method
-abbrev pub ClassesAreFrom : Plan → List LinkedClass → List ClassFile → List (List (List Origin)) → Type 0
-ClassesAreFrom plan [] (state ∷ []) (told ∷ []) = told ≡ []
-ClassesAreFrom plan (class ∷ classes) (file ∷ files) (told ∷ others) = ClassIsFrom plan class file told × ClassesAreFrom plan classes files others
-ClassesAreFrom plan classes files told = ⊥
+-- So it is of the classes, and of conspec/State, which has no method.
+abbrev pub ClassesTell : (List Const → Method → List Origin → Type 0) → List LinkedClass → List ClassFile → List (List (List Origin)) → Type 0
+ClassesTell Holds [] (state ∷ []) (told ∷ []) = told ≡ []
+ClassesTell Holds (class ∷ classes) (file ∷ files) (told ∷ others) = ClassTells Holds class file told × ClassesTell Holds classes files others
+ClassesTell Holds classes files told = ⊥
 
--- ---- the law
+-- ---- the laws
 
 -- Each origin that is told of what a linked program is woven to is true.
 abbrev pub OriginsAreTrue : Type 0
 OriginsAreTrue =
     (files : List ClassFile) (listing : Listing) (main : List ℕ) (old : Program) (plan : Plan) (vars : List Var) (made : Woven)
-    → assembled files listing main sides.Original ≡ Ok old → IsSound old → woven old plan vars ≡ Ok made → ClassesAreFrom plan old.classes made.files made.origins
+    → assembled files listing main sides.Original ≡ Ok old → IsSound old → woven old plan vars ≡ Ok made
+    → ClassesTell (MethodIsFrom plan) old.classes made.files made.origins
+
+-- A method that is woven has an origin for each instruction, and each instruction stands where its origin tells: the client's of an
+-- index at its front and as far behind as the call stands in its block.
+pub record MethodIsLaid (plan : Plan) (pool : List Const) (method : Method) (told : List Origin) : Type 0 where
+  pub each : length told ≡ length (insns_woven plan pool method)
+  pub stand : StandAsTold (sites_of plan method.max_locals method) 0 told
+
+-- What a good plan makes of a linked program is laid out as its origins are: class by class, and each method with code.
+abbrev pub OriginsAreLaidOut : Type 0
+OriginsAreLaidOut =
+    (files : List ClassFile) (listing : Listing) (main : List ℕ) (old : Program) (plan : Plan) (vars : List Var) (made : Woven)
+    → assembled files listing main sides.Original ≡ Ok old → IsSound old → IsGood (map (λ (v : Var). v.is_bool) vars) plan
+    → woven old plan vars ≡ Ok made → ClassesTell (MethodIsLaid plan) old.classes made.files made.origins

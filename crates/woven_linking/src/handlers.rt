@@ -4,13 +4,28 @@ ghost use Rattle.std.specs.Prelude.{◌≡◌, ◌+◌, ◌++◌, ◌<◌, ◌^�
 ghost use Rattle.std.specs.List.{AllByRecursion};
 ghost use Rattle.offset_patch.specs.Fits.{IsSite};
 ghost use Rattle.offset_patch.specs.Splicing.{count_of, part_of};
-ghost use Rattle.class_weaving.specs.Outcome.{at_fronts, own_handler, own_handlers, site_handlers};
+ghost use Rattle.class_weaving.specs.Outcome.{at_fronts, handlers_with, own_handler, own_handlers, site_handlers};
 
 use bytecode_model::Handler;
 use class_codec::Copied;
 use mon_base::{List, NoMemory};
-use offset_patch::{Block, BlockInsn, call_place, catching, front, part_of};
+use offset_patch::{Block, BlockInsn, call_place, catching, front, fronts_of, part_of};
 use std::alloc::Global;
+
+/// The handlers of a method with these blocks: first those of the blocks, in their order, and then those that it had, each with its
+/// bounds and its target at their fronts.
+pub fn rewrite(
+    alloc: Global,
+    handlers: &[Handler],
+    sites: &[Option<Block>],
+) -> Result<List<Handler>, NoMemory>
+    requires sites { AllByRecursion IsSite sites.now }
+    requires few { count_of sites.now < 2 ^ 16 }
+    ensures { IfOk result (λ list. list ≡ handlers_with sites.now handlers.now) }
+{
+    let fronts = fronts_of(alloc, sites)?;
+    handlers_with(alloc, fronts.as_slice(), sites, handlers)
+}
 
 /// The handlers of the blocks, and behind them those that the method had, each at its fronts.
 pub fn handlers_with(

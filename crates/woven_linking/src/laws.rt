@@ -1,7 +1,7 @@
 //! What holds of what is woven.
 
 ghost use Rattle.woven_linking.specs.Links.{OriginalIsFree, WovenLinks};
-ghost use Rattle.woven_linking.specs.Origins.{OriginsAreTrue};
+ghost use Rattle.woven_linking.specs.Origins.{OriginsAreLaidOut, OriginsAreTrue};
 ghost use Rattle.woven_linking.specs.Program.{
   WovenFilesComeBack,
   WovenFilesHaveRoom,
@@ -22,6 +22,11 @@ pub fn original_is_free()
 /// Each origin is true of its instruction.
 pub fn origins_are_true()
     ensures true_of { OriginsAreTrue }
+{}
+
+/// There is an origin for each instruction, and each instruction stands where its origin tells.
+pub fn origins_are_laid_out()
+    ensures laid { OriginsAreLaidOut }
 {}
 
 /// Class files that were woven link to the program that is made of them. It is sound, and there is room for its blocks.

@@ -3,9 +3,15 @@
 #![tactic(auto)]
 
 mod handlers;
+mod inlining;
 mod laws;
 mod operands;
 mod program;
 
-pub use laws::{original_is_free, origins_are_true, woven_files_link, woven_program_is_linked};
+pub use handlers::rewrite;
+pub use inlining::{Inlined, inline};
+pub use laws::{
+    original_is_free, origins_are_laid_out, origins_are_true, woven_files_link,
+    woven_program_is_linked,
+};
 pub use program::program_with;
