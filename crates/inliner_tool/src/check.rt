@@ -5,6 +5,7 @@ ghost use Rattle.block_logic.specs.Meaning.{Promised};
 ghost use Rattle.conspec_automaton.specs.Building.{built};
 ghost use Rattle.bytecode_model.specs.declared.program.Program.{Program};
 ghost use Rattle.command_words.specs.Words.{Check, check_named};
+ghost use Rattle.inliner_tool.specs.Seen.{seen};
 ghost use Rattle.inliner_tool.specs.Answers.{EndsWell, Is, stopped};
 ghost use Rattle.inliner_tool.specs.Check.{
   IsChecked,
@@ -23,7 +24,6 @@ ghost use Rattle.inliner_tool.specs.Programs.{Equals, Step, UnlessMemory};
 ghost use Rattle.inliner_tool.specs.Running.{IsLinkedProgram};
 ghost use Rattle.inliner_tool.specs.Tool.{CarriesOut, Holds, IsAnswer};
 ghost use Rattle.input_files.specs.CheckInputs.{AreSound};
-ghost use Rattle.input_files.specs.Forms.{since};
 ghost use Rattle.input_files.specs.Named.{IsPolicyOf};
 
 use crate::answer::{Answer, refused, stopped};
@@ -46,10 +46,9 @@ use type_lattice::Indexed;
 
 /// The answer to `check`.
 pub fn answer_check<S: Store>(alloc: Global, words: &CheckWords, store: &mut S) -> Answer
-    ensures says { IsAnswer (λ answer. CarriesOut (S.files store.old) (S.files store.new)
-        (since (S.faults store.old) (S.faults store.new) (S.last store.new)) (Check (check_named words.now)) answer) result }
+    ensures says { IsAnswer (λ answer. CarriesOut (seen S.files S.faults S.last store.old store.new) (Check (check_named words.now)) answer) result }
     ensures holds { EndsWell result
-        → Holds (S.files store.old) (since (S.faults store.old) (S.faults store.new) (S.last store.new)) (check_named words.now) }
+        → Holds (seen S.files S.faults S.last store.old store.new) (check_named words.now) }
     ensures files { S.files store.new ≡ S.files store.old }
     ensures faults { S.faults store.old ≤ S.faults store.new }
 {
