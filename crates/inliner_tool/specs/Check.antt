@@ -13,6 +13,7 @@ use Rattle.cert_checker.specs.Secure.{Secure}
 use Rattle.cert_format.specs.declared.certificate.Certificate.{Certificate}
 use Rattle.cert_format.specs.declared.certificate.Mode.{Mode}
 use Rattle.cert_format.specs.declared.certificate.Mode.TheVariants.{Hold, Release}
+use Rattle.conspec_automaton.specs.declared.policy.Policy.{Policy}
 use Rattle.conspec_automaton.specs.Building.{built}
 use Rattle.conspec_automaton.specs.Denying.{denies_only}
 use Rattle.conspec_tree.specs.declared.types.PolicyTree.{PolicyTree}
@@ -20,6 +21,7 @@ use Rattle.inliner_tool.specs.declared.answer.Answer.{Answer}
 use Rattle.inliner_tool.specs.declared.answer.Answer.TheVariants as answers
 use Rattle.input_files.specs.declared.check_inputs.CheckInputs.{CheckInputs}
 use Rattle.input_files.specs.Named.{IsPolicyOf}
+use Rattle.inliner_tool.specs.declared.check.Checked.{Checked}
 use Rattle.inliner_tool.specs.declared.refusal.Refusal.TheVariants as refusals
 use Rattle.inliner_tool.specs.Answers.{refused}
 use Rattle.inliner_tool.specs.Classes.{label_of}
@@ -74,6 +76,17 @@ pub record ProgramIsChecked (policy : PolicyTree) (certificate : Certificate) (p
   pub errors : LeavesBlocks program (built policy) certificate
   pub read : IsPolicyOf program.listing policy
   pub runs : RunsTyped program certificate.typing
+
+-- It is checked so with the automaton of the policy, and the answer is that it was accepted as this.
+pub record ProgramIsCheckedAs (tree : PolicyTree) (certificate : Certificate) (program : Program) (policy : Policy) (accepted : Accepted) : Type 0 where
+  pub policy_is : policy ≡ built tree
+  pub answer : program_answer tree certificate program ≡ answers.Accepted accepted
+  pub checked : ProgramIsChecked tree certificate program
+
+-- The inputs link to the program, which is checked so.
+pub record IsCheckedAs (main : List ℕ) (inputs : CheckInputs) (checked : Checked) : Type 0 where
+  pub links : link_inputs main inputs ≡ Ok checked.program
+  pub is : ProgramIsCheckedAs inputs.policy inputs.certificate checked.program checked.policy checked.accepted
 
 -- The inputs link to such a program.
 pub record IsChecked (main : List ℕ) (inputs : CheckInputs) : Type 0 where
