@@ -76,8 +76,8 @@ module _ (files : Files) (count : Count) (named : NamedCheck) (quiet : Rose coun
   ends_so answer (inr (stop, read, is)) = inr (is ∙ ap stopped (check_stops stop read))
 
   -- The answer is that to what the files are, or memory ran out.
-  pub check_says : (new : Files) (answer : Answer) → IsAnswer (λ (a : Answer). CarriesOut files new count (Check named) a) answer → (answer ≡ check_answer named.main inputs) ⊎ (answer ≡ answers.Memory)
-  check_says new answer is = by (says_of (λ (a : Answer). CarriesOut files new count (Check named) a) answer is) where
+  pub check_says : (new : Files) (answer : Answer) → IsAnswer (λ (a : Answer). CarriesOut (record { old = files; new = new; count = count }) (Check named) a) answer → (answer ≡ check_answer named.main inputs) ⊎ (answer ≡ answers.Memory)
+  check_says new answer is = by (says_of (λ (a : Answer). CarriesOut (record { old = files; new = new; count = count }) (Check named) a) answer is) where
     by : (Ends (ReadsCheck files count named) (check_answer named.main) answer × (new ≡ files)) ⊎ (answer ≡ answers.Memory) → (answer ≡ check_answer named.main inputs) ⊎ (answer ≡ answers.Memory)
     by (inl says) = ends_so answer says.0
     by (inr memory) = inr memory
@@ -96,21 +96,21 @@ verdict_decides program (Ok accepted) = inl refl
 verdict_decides program (Err fault) = inr (inl refl)
 
 pub check_decides : CheckDecides
-check_decides old new count named answer is quiet names = by (check_says old count named quiet names.told inputs listing policy certificate classes new answer is) where
+check_decides seen named answer is quiet names = by (check_says seen.old seen.count named quiet names.told inputs listing policy certificate classes seen.new answer is) where
   inputs : CheckInputs
   inputs = record { listing = names.listing; policy = names.policy; certificate = names.certificate; classes = names.classes }
 
-  listing : MayRead old named.listing listing_form names.listing
-  listing = may_read old named.listing listing_form names.listing names.listing_read
+  listing : MayRead seen.old named.listing listing_form names.listing
+  listing = may_read seen.old named.listing listing_form names.listing names.listing_read
 
-  policy : MayRead old named.policy (policy_form names.listing) names.policy
-  policy = may_read old named.policy (policy_form names.listing) names.policy names.policy_read
+  policy : MayRead seen.old named.policy (policy_form names.listing) names.policy
+  policy = may_read seen.old named.policy (policy_form names.listing) names.policy names.policy_read
 
-  certificate : MayRead old named.certificate (certificate_form (length names.policy.vars)) names.certificate
-  certificate = may_read old named.certificate (certificate_form (length names.policy.vars)) names.certificate names.certificate_read
+  certificate : MayRead seen.old named.certificate (certificate_form (length names.policy.vars)) names.certificate
+  certificate = may_read seen.old named.certificate (certificate_form (length names.policy.vars)) names.certificate names.certificate_read
 
-  classes : MayClasses old named.classes names.classes.files names.classes.total
-  classes = may_classes old named.classes names.classes.files names.classes.total names.classes_read
+  classes : MayClasses seen.old named.classes names.classes.files names.classes.total
+  classes = may_classes seen.old named.classes names.classes.files names.classes.total names.classes_read
 
   by : (answer ≡ check_answer named.main inputs) ⊎ (answer ≡ answers.Memory) → IsDecision (status_of answer)
   by (inl same) =

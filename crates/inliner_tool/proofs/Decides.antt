@@ -19,6 +19,7 @@ use Rattle.inliner_tool.specs.Inline.{Inlines, Refuses}
 use Rattle.inliner_tool.specs.Policy.{policy_answer}
 use Rattle.inliner_tool.specs.Race.{race_answer}
 use Rattle.inliner_tool.specs.Replay.{Replays, Tells, replay_answer}
+use Rattle.inliner_tool.specs.Seen.{Seen}
 use Rattle.inliner_tool.specs.Show.{show_answer}
 use Rattle.inliner_tool.specs.Tool.{CarriesOut, Ends, Says}
 use Rattle.inliner_tool.specs.Weaving.{Plans}
@@ -42,19 +43,23 @@ ends_so Reads judge read so answer other (inr (stop, reads, is)) = stopped_so Re
 -- ---- each command
 
 module _ (told : ToldAreRead) (contents : Contents) (count : Count) (quiet : Rose count.before count.now → ⊥) where
-  replays_so : (named : NamedReplay) (answer : Answer) → (answer ≡ answers.Memory → ⊥) → Replays (Some contents) count named answer → Gives contents (Replay named) answer
-  replays_so named answer other (inl (stop, reads, is)) =
+  -- the store tells these contents
+  abbrev telling : Files → Seen
+  telling new = record { old = Some contents; new = new; count = count }
+
+  replays_so : (named : NamedReplay) (new : Files) (answer : Answer) → (answer ≡ answers.Memory → ⊥) → Replays (telling new) named answer → Gives contents (Replay named) answer
+  replays_so named new answer other (inl (stop, reads, is)) =
       stopped_so _ (λ inputs. ComesTo (Tells named.main inputs) replay_answer) (replay_read contents named) (λ r. told.replay contents count named r quiet) answer other stop reads is
-  replays_so named answer other (inr (inputs, reads, step, tells, is)) =
+  replays_so named new answer other (inr (inputs, reads, step, tells, is)) =
       judged_so _ (λ inputs. ComesTo (Tells named.main inputs) replay_answer) (replay_read contents named) (λ r. told.replay contents count named r quiet) answer other inputs reads (step, tells, is)
 
-  refuses_so : (named : NamedInline) (answer : Answer) → (answer ≡ answers.Memory → ⊥) → Refuses (Some contents) count named answer → Gives contents (Inline named) answer
-  refuses_so named answer other (inl (stop, reads, is)) =
+  refuses_so : (named : NamedInline) (new : Files) (answer : Answer) → (answer ≡ answers.Memory → ⊥) → Refuses (telling new) named answer → Gives contents (Inline named) answer
+  refuses_so named new answer other (inl (stop, reads, is)) =
       stopped_so _ (λ inputs. ComesTo (Plans named inputs) inline_answer) (inline_read contents named) (λ r. told.inline contents count named r quiet) answer other stop reads is
-  refuses_so named answer other (inr (inputs, reads, refusal, plans, is)) =
+  refuses_so named new answer other (inr (inputs, reads, refusal, plans, is)) =
       judged_so _ (λ inputs. ComesTo (Plans named inputs) inline_answer) (inline_read contents named) (λ r. told.inline contents count named r quiet) answer other inputs reads (Err refusal, plans, is)
 
-  inlines_so : (named : NamedInline) (new : Files) (answer : Answer) → (answer ≡ answers.Memory → ⊥) → Inlines (Some contents) new count named answer → Gives contents (Inline named) answer
+  inlines_so : (named : NamedInline) (new : Files) (answer : Answer) → (answer ≡ answers.Memory → ⊥) → Inlines (telling new) named answer → Gives contents (Inline named) answer
   inlines_so named new (answers.Inlined accepted classes) other says =
       let ready = says.ready in
       let is : answers.Inlined accepted classes ≡ answers.Inlined ready.accepted ready.classes = rw (← says.so.0, ← says.so.1) refl in
@@ -62,37 +67,37 @@ module _ (told : ToldAreRead) (contents : Contents) (count : Count) (quiet : Ros
       (Ok ready, says.plans, is)
   inlines_so named new (answers.Unwritten name) other says = absurd (quiet says.so.1.rose)
   inlines_so named new answers.Memory other says = absurd (other refl)
-  inlines_so named new (answers.Accepted accepted) other says = refuses_so named (answers.Accepted accepted) other says.0
-  inlines_so named new (answers.Denied fault label) other says = refuses_so named (answers.Denied fault label) other says.0
-  inlines_so named new (answers.Shown text) other says = refuses_so named (answers.Shown text) other says.0
-  inlines_so named new (answers.Judged verdict) other says = refuses_so named (answers.Judged verdict) other says.0
-  inlines_so named new answers.RaceFree other says = refuses_so named answers.RaceFree other says.0
-  inlines_so named new (answers.Racy condition example) other says = refuses_so named (answers.Racy condition example) other says.0
-  inlines_so named new (answers.CellLimit first second n) other says = refuses_so named (answers.CellLimit first second n) other says.0
-  inlines_so named new (answers.Replayed text) other says = refuses_so named (answers.Replayed text) other says.0
-  inlines_so named new (answers.Input name fault) other says = refuses_so named (answers.Input name fault) other says.0
-  inlines_so named new (answers.Refused refusal) other says = refuses_so named (answers.Refused refusal) other says.0
-  inlines_so named new (answers.Unread name) other says = refuses_so named (answers.Unread name) other says.0
-  inlines_so named new answers.Usage other says = refuses_so named answers.Usage other says.0
+  inlines_so named new (answers.Accepted accepted) other says = refuses_so named new (answers.Accepted accepted) other says.0
+  inlines_so named new (answers.Denied fault label) other says = refuses_so named new (answers.Denied fault label) other says.0
+  inlines_so named new (answers.Shown text) other says = refuses_so named new (answers.Shown text) other says.0
+  inlines_so named new (answers.Judged verdict) other says = refuses_so named new (answers.Judged verdict) other says.0
+  inlines_so named new answers.RaceFree other says = refuses_so named new answers.RaceFree other says.0
+  inlines_so named new (answers.Racy condition example) other says = refuses_so named new (answers.Racy condition example) other says.0
+  inlines_so named new (answers.CellLimit first second n) other says = refuses_so named new (answers.CellLimit first second n) other says.0
+  inlines_so named new (answers.Replayed text) other says = refuses_so named new (answers.Replayed text) other says.0
+  inlines_so named new (answers.Input name fault) other says = refuses_so named new (answers.Input name fault) other says.0
+  inlines_so named new (answers.Refused refusal) other says = refuses_so named new (answers.Refused refusal) other says.0
+  inlines_so named new (answers.Unread name) other says = refuses_so named new (answers.Unread name) other says.0
+  inlines_so named new answers.Usage other says = refuses_so named new answers.Usage other says.0
 
-  carries_so : (named : NamedCommand) (new : Files) (answer : Answer) → (answer ≡ answers.Memory → ⊥) → CarriesOut (Some contents) new count named answer → Gives contents named answer
+  carries_so : (named : NamedCommand) (new : Files) (answer : Answer) → (answer ≡ answers.Memory → ⊥) → CarriesOut (telling new) named answer → Gives contents named answer
   carries_so (Check named) new answer other (ends, same) = ends_so _ (check_answer named.main) (check_read contents named) (λ r. told.check contents count named r quiet) answer other ends
   carries_so (Show named) new answer other (ends, same) = ends_so _ show_answer (show_read contents named) (λ r. told.show contents count named r quiet) answer other ends
   carries_so (Policy named) new answer other (ends, same) = ends_so _ policy_answer (policy_read contents named) (λ r. told.policy contents count named r quiet) answer other ends
   carries_so (Race named) new answer other (ends, same) = ends_so _ race_answer (race_read contents named) (λ r. told.race contents count named r quiet) answer other ends
   carries_so (Inline named) new answer other says = inlines_so named new answer other says
-  carries_so (Replay named) new answer other (says, same) = replays_so named answer other says
+  carries_so (Replay named) new answer other (says, same) = replays_so named new answer other says
 
   -- ---- the answer to words
 
-  command_so : (words : List (List ℕ)) (new : Files) (answer : Answer) → (answer ≡ answers.Memory → ⊥) → (named : NamedCommand) → IsCommand words named → CarriesOut (Some contents) new count named answer
+  command_so : (words : List (List ℕ)) (new : Files) (answer : Answer) → (answer ≡ answers.Memory → ⊥) → (named : NamedCommand) → IsCommand words named → CarriesOut (telling new) named answer
       → IsMeant contents words answer
   command_so words new answer other named is carries = record {
     command = λ again of. subst (λ (n : NamedCommand). Gives contents n answer) (command_once words named again is of) (carries_so named new answer other carries);
     usage = λ none. absurd (none named is);
   }
 
-  pub meant : (words : List (List ℕ)) (new : Files) (answer : Answer) → (answer ≡ answers.Memory → ⊥) → Says (Some contents) new count words answer → IsMeant contents words answer
+  pub meant : (words : List (List ℕ)) (new : Files) (answer : Answer) → (answer ≡ answers.Memory → ⊥) → Says (telling new) words answer → IsMeant contents words answer
   meant words new answers.Usage other (none, same) = record { command = λ named is. absurd (none named is); usage = λ of. refl }
   meant words new answers.Memory other says = absurd (other refl)
   meant words new (answers.Accepted accepted) other (named, is, so) = command_so words new (answers.Accepted accepted) other named is so

@@ -53,7 +53,7 @@ module _ (files : Files) (count : Count) (named : NamedRace) (quiet : Rose count
       subst (λ (a : Answer). IsDecision (status_of a)) (sym memory) (inr (inr refl))
 
 pub race_decides : RaceDecides
-race_decides old new count named answer is quiet names = by (says_of (CarriesOut old new count (Race named)) answer is) where
-  by : (Ends (ReadsRace old count named) race_answer answer × (new ≡ old)) ⊎ (answer ≡ answers.Memory) → IsDecision (status_of answer)
-  by (inl says) = ends_decide old count named quiet names answer says.0
+race_decides seen named answer is quiet names = by (says_of (CarriesOut seen (Race named)) answer is) where
+  by : (Ends (ReadsRace seen.old seen.count named) race_answer answer × (seen.new ≡ seen.old)) ⊎ (answer ≡ answers.Memory) → IsDecision (status_of answer)
+  by (inl says) = ends_decide seen.old seen.count named quiet names answer says.0
   by (inr memory) = subst (λ (a : Answer). IsDecision (status_of a)) (sym memory) (inr (inr refl))

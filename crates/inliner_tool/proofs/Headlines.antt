@@ -9,9 +9,9 @@ use Rattle.cert_format.specs.Fits.{SpellsCertificate}
 use Rattle.cert_format.specs.Spelling.{spell_head}
 use Rattle.class_linking.specs.Linking.{linked}
 use Rattle.command_words.specs.Words.{NamedCheck}
-use Rattle.input_files.specs.Forms.{Count}
 use Rattle.mon_store.specs.Store.{Files, HasFile}
 use Rattle.inliner_tool.specs.Headline.{Obeyed, mode_byte}
+use Rattle.inliner_tool.specs.Seen.{Seen}
 use Rattle.inliner_tool.specs.Tool.{Holds}
 use Rattle.inliner_tool.proofs.Blocks.{limit_by}
 
@@ -36,8 +36,8 @@ file_too P Q so (Some known) name is = some_too P Q so (known name) is
 
 -- ---- the headline
 
-pub obeyed : (files : Files) (count : Count) (named : NamedCheck) → Holds files count named → Obeyed files named
-obeyed files count named holds =
+pub obeyed : (seen : Seen) (named : NamedCheck) → Holds seen named → Obeyed seen.old named
+obeyed seen named holds =
     let inputs = holds.inputs in
     record {
       listing = inputs.listing;
@@ -45,7 +45,7 @@ obeyed files count named holds =
       policy = inputs.policy;
       policy_is = holds.spells.policy;
       mode = inputs.certificate.mode;
-      mode_is = file_too _ _ (λ bytes spells. mode_tells bytes _ inputs.certificate spells) files named.certificate holds.spells.certificate;
+      mode_is = file_too _ _ (λ bytes spells. mode_tells bytes _ inputs.certificate spells) seen.old named.certificate holds.spells.certificate;
       classes = inputs.classes.files;
       classes_are = holds.spells.classes;
       program = holds.checked.program;

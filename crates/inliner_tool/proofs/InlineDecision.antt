@@ -123,32 +123,32 @@ module _ (files : Files) (named : NamedInline) (names : NamesWoven files named) 
 
     -- ---- what is answered
 
-    refuses_decide : (answer : Answer) → Refuses files count named answer → IsWeaving answer
-    refuses_decide answer (inl (stop, read, is)) =
+    refuses_decide : (new : Files) (answer : Answer) → Refuses (record { old = files; new = new; count = count }) named answer → IsWeaving answer
+    refuses_decide new answer (inl (stop, read, is)) =
         let memory : answer ≡ answers.Memory = is ∙ ap stopped (inline_stops stop read) in
         subst IsWeaving (sym memory) tt
-    refuses_decide answer (inr (inputs, read, e, plans, is)) =
+    refuses_decide new answer (inr (inputs, read, e, plans, is)) =
         subst IsWeaving (sym is) (plan_fails e (subst (λ (i : InlineInputs). Plans named i (Err e)) (inputs_once inputs read) plans))
 
-    inlines_decide : (new : Files) (answer : Answer) → Inlines files new count named answer → IsWeaving answer
+    inlines_decide : (new : Files) (answer : Answer) → Inlines (record { old = files; new = new; count = count }) named answer → IsWeaving answer
     inlines_decide new (answers.Inlined accepted classes) says = tt
     inlines_decide new (answers.Unwritten name) says = absurd (quiet says.so.1.rose)
     inlines_decide new answers.Memory says = tt
-    inlines_decide new (answers.Accepted accepted) says = refuses_decide (answers.Accepted accepted) says.0
-    inlines_decide new (answers.Denied fault label) says = refuses_decide (answers.Denied fault label) says.0
-    inlines_decide new (answers.Shown text) says = refuses_decide (answers.Shown text) says.0
-    inlines_decide new (answers.Judged verdict) says = refuses_decide (answers.Judged verdict) says.0
-    inlines_decide new answers.RaceFree says = refuses_decide answers.RaceFree says.0
-    inlines_decide new (answers.Racy condition example) says = refuses_decide (answers.Racy condition example) says.0
-    inlines_decide new (answers.CellLimit first second n) says = refuses_decide (answers.CellLimit first second n) says.0
-    inlines_decide new (answers.Replayed text) says = refuses_decide (answers.Replayed text) says.0
-    inlines_decide new (answers.Input name fault) says = refuses_decide (answers.Input name fault) says.0
-    inlines_decide new (answers.Refused refusal) says = refuses_decide (answers.Refused refusal) says.0
-    inlines_decide new (answers.Unread name) says = refuses_decide (answers.Unread name) says.0
-    inlines_decide new answers.Usage says = refuses_decide answers.Usage says.0
+    inlines_decide new (answers.Accepted accepted) says = refuses_decide new (answers.Accepted accepted) says.0
+    inlines_decide new (answers.Denied fault label) says = refuses_decide new (answers.Denied fault label) says.0
+    inlines_decide new (answers.Shown text) says = refuses_decide new (answers.Shown text) says.0
+    inlines_decide new (answers.Judged verdict) says = refuses_decide new (answers.Judged verdict) says.0
+    inlines_decide new answers.RaceFree says = refuses_decide new answers.RaceFree says.0
+    inlines_decide new (answers.Racy condition example) says = refuses_decide new (answers.Racy condition example) says.0
+    inlines_decide new (answers.CellLimit first second n) says = refuses_decide new (answers.CellLimit first second n) says.0
+    inlines_decide new (answers.Replayed text) says = refuses_decide new (answers.Replayed text) says.0
+    inlines_decide new (answers.Input name fault) says = refuses_decide new (answers.Input name fault) says.0
+    inlines_decide new (answers.Refused refusal) says = refuses_decide new (answers.Refused refusal) says.0
+    inlines_decide new (answers.Unread name) says = refuses_decide new (answers.Unread name) says.0
+    inlines_decide new answers.Usage says = refuses_decide new answers.Usage says.0
 
 pub inline_decides : InlineDecides
-inline_decides old new count named answer is quiet names = by (says_of (λ (a : Answer). CarriesOut old new count (Inline named) a) answer is) where
-  by : Inlines old new count named answer ⊎ (answer ≡ answers.Memory) → IsWeaving answer
-  by (inl says) = inlines_decide old named names count quiet new answer says
+inline_decides seen named answer is quiet names = by (says_of (λ (a : Answer). CarriesOut seen (Inline named) a) answer is) where
+  by : Inlines seen named answer ⊎ (answer ≡ answers.Memory) → IsWeaving answer
+  by (inl says) = inlines_decide seen.old named names seen.count quiet seen.new answer says
   by (inr memory) = subst IsWeaving (sym memory) tt

@@ -6,6 +6,7 @@ pub mod Decides
 pub mod RunDecision
 pub mod Told
 pub mod ToldClasses
+mod CheckedAs
 mod TypedRuns
 mod Headlines
 mod Once

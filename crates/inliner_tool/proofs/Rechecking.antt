@@ -52,6 +52,7 @@ use Rattle.inliner_tool.specs.Check.{check_answer, is_judged, verdict_answer}
 use Rattle.inliner_tool.specs.Inline.{IsInlined}
 use Rattle.inliner_tool.specs.Programs.{link_step, program_of}
 use Rattle.inliner_tool.specs.Rechecking.{NamesWritten, WrittenIsAccepted, size_of, sizes_of}
+use Rattle.inliner_tool.specs.Seen.{Seen}
 use Rattle.inliner_tool.specs.Tool.{CarriesOut, IsAnswer, status_of}
 use Rattle.inliner_tool.specs.Weaving.{mode_for}
 use Rattle.inliner_tool.proofs.CheckDecision.{answers_verdict, check_says}
@@ -155,7 +156,13 @@ chosen_judged weaving policy mode e = by weaving e where
 
 -- ---- the whole
 
-module _ (law : LinkedAreNamed) (old new : Files) (count : Count) (named : NamedInline) (told : IsSome old) (inlined : IsInlined old new count named) (check : NamedCheck) (names : NamesWritten inlined check) where
+module _ (law : LinkedAreNamed) (seen : Seen) (named : NamedInline) (told : IsSome seen.old) (inlined : IsInlined seen named) (check : NamedCheck) (names : NamesWritten inlined check) where
+  abbrev old : Files
+  old = seen.old
+
+  abbrev new : Files
+  new = seen.new
+
   abbrev program : Program
   program = inlined.planned.rewoven.program
 
@@ -232,7 +239,7 @@ module _ (law : LinkedAreNamed) (old new : Files) (count : Count) (named : Named
       answers_verdict check.main inputs program links judged
       ∙ ap (verdict_answer program) (subst (λ p. verdict program p certificate ≡ Ok inlined.ready.accepted) inlined.planned.policy inlined.planned.rewoven.verdict)
 
-  pub accepted_again : (later : Files) (again : Count) (answer : Answer) → IsAnswer (λ (a : Answer). CarriesOut new later again (Check check) a) answer → (Rose again.before again.now → ⊥)
+  pub accepted_again : (later : Files) (again : Count) (answer : Answer) → IsAnswer (λ (a : Answer). CarriesOut (record { old = new; new = later; count = again }) (Check check) a) answer → (Rose again.before again.now → ⊥)
       → (status_of answer ≡ statuses.Done) ⊎ (status_of answer ≡ statuses.Memory)
   accepted_again later again answer is quiet =
       by (check_says new again check quiet told_new inputs (may_read new check.listing listing_form inlined.inputs.listing names.listing)
@@ -243,4 +250,6 @@ module _ (law : LinkedAreNamed) (old new : Files) (count : Count) (named : Named
       by (inr memory) = inr (ap status_of memory)
 
 pub written_is_accepted : LinkedAreNamed → WrittenIsAccepted
-written_is_accepted law old new count named told inlined check names later again answer is quiet = accepted_again law old new count named told inlined check names later again answer is quiet
+written_is_accepted law seen named told inlined check names again answer same is quiet =
+    accepted_again law seen named told inlined check names again.new again.count answer
+    (subst (λ (files : Files). IsAnswer (λ (a : Answer). CarriesOut (record { old = files; new = again.new; count = again.count }) (Check check) a) answer) same is) quiet

@@ -8,11 +8,10 @@ use Rattle.inliner_tool.specs.declared.refusal.Refusal.TheVariants as refusals
 use Rattle.inliner_tool.specs.declared.tool.Status.TheVariants as statuses
 use Rattle.inliner_tool.specs.Answers.{EndsWell}
 use Rattle.command_words.specs.Words.{NamedCheck}
-use Rattle.input_files.specs.Forms.{Count}
 use Rattle.mon_store.specs.Sink.{Appends}
-use Rattle.mon_store.specs.Store.{Files}
 use Rattle.inliner_tool.specs.declared.tool.Status.{Status}
 use Rattle.inliner_tool.specs.Replies.{answer_spelled}
+use Rattle.inliner_tool.specs.Seen.{Seen}
 use Rattle.inliner_tool.specs.Tool.{Answered, CheckedRuns, Holds, Replies, Says, refusal_status, status_of}
 
 refusal_ends : (refusal : Refusal) → refusal_status refusal ≡ statuses.Done → ⊥
@@ -45,8 +44,8 @@ ends_well answers.Usage is = absurd cc
 ends_well answers.Memory is = absurd cc
 
 -- A program that was checked runs as its certificate types it.
-pub checked_runs : (files : Files) (count : Count) (named : NamedCheck) → Holds files count named → CheckedRuns files count named
-checked_runs files count named h = record {
+pub checked_runs : (seen : Seen) (named : NamedCheck) → Holds seen named → CheckedRuns seen named
+checked_runs seen named h = record {
   inputs = h.inputs;
   read = h.read;
   program = h.checked.program;
@@ -87,13 +86,13 @@ never_sink_fault (answers.Unwritten name) is = absurd cc
 never_sink_fault answers.Usage is = absurd cc
 never_sink_fault answers.Memory is = absurd cc
 
-module _ (old new : Files) (count : Count) (words : List (List ℕ)) (text after : Option (List ℕ)) (rose : Type 0) (answer : Answer) (says : Says old new count words answer)
+module _ (seen : Seen) (words : List (List ℕ)) (text after : Option (List ℕ)) (rose : Type 0) (answer : Answer) (says : Says seen words answer)
     (printed : Appends text after (answer_spelled answer)) where
-  answered : (status : Status) → status ≡ status_of answer → (status ≡ statuses.Memory → ⊥) → Answered old new count words (λ answer. (status ≡ status_of answer) × Appends text after (answer_spelled answer))
+  answered : (status : Status) → status ≡ status_of answer → (status ≡ statuses.Memory → ⊥) → Answered seen words (λ answer. (status ≡ status_of answer) × Appends text after (answer_spelled answer))
   answered status same other = record { answer = answer; made = λ is. other (same ∙ ap status_of is); says = says; so = (same, printed) }
 
   -- What is replied where the text of an answer that is not of memory was put into the sink.
-  pub replied : (status : Status) → status ≡ status_of answer → (status ≡ statuses.Memory → ⊥) → Replies old new count words text after rose status
+  pub replied : (status : Status) → status ≡ status_of answer → (status ≡ statuses.Memory → ⊥) → Replies seen words text after rose status
   replied statuses.Done same other = answered statuses.Done same other
   replied statuses.Denied same other = answered statuses.Denied same other
   replied statuses.Usage same other = answered statuses.Usage same other

@@ -106,15 +106,15 @@ module _ (files : Files) (count : Count) (named : NamedReplay) (quiet : Rose cou
       classes_stop files count names.told quiet named.classes names.classes.files names.classes.total stop (may_classes files named.classes names.classes.files names.classes.total names.classes_read) third
   run_stops stop (inr (listing, first, inr (recorded, second, inr (classes, third, none)))) = absurd none
 
-  replays_decide : (answer : Answer) → Replays files count named answer → IsDecision (status_of answer)
-  replays_decide answer (inl (stop, read, is)) =
+  replays_decide : (new : Files) (answer : Answer) → Replays (record { old = files; new = new; count = count }) named answer → IsDecision (status_of answer)
+  replays_decide new answer (inl (stop, read, is)) =
       let memory : answer ≡ answers.Memory = is ∙ ap stopped (run_stops stop read) in
       subst (λ (a : Answer). IsDecision (status_of a)) (sym memory) (inr (inr refl))
-  replays_decide answer (inr (inputs, read, told, tells, is)) =
+  replays_decide new answer (inr (inputs, read, told, tells, is)) =
       subst (λ (a : Answer). IsDecision (status_of a)) (sym is) (told_decides inputs told (read_links inputs read) tells)
 
 pub replay_decides : ReplayDecides
-replay_decides old new count named answer is quiet names = by (says_of (CarriesOut old new count (Replay named)) answer is) where
-  by : (Replays old count named answer × (new ≡ old)) ⊎ (answer ≡ answers.Memory) → IsDecision (status_of answer)
-  by (inl says) = replays_decide old count named quiet names answer says.0
+replay_decides seen named answer is quiet names = by (says_of (CarriesOut seen (Replay named)) answer is) where
+  by : (Replays seen named answer × (seen.new ≡ seen.old)) ⊎ (answer ≡ answers.Memory) → IsDecision (status_of answer)
+  by (inl says) = replays_decide seen.old seen.count named quiet names seen.new answer says.0
   by (inr memory) = subst (λ (a : Answer). IsDecision (status_of a)) (sym memory) (inr (inr refl))

@@ -8,12 +8,14 @@ use Rattle.cert_checker.specs.declared.fault.CheckFault.{CheckFault}
 use Rattle.cert_checker.specs.declared.fault.CheckFault.TheVariants.{Shape, StateClass, Typing, Local}
 use Rattle.block_logic.specs.Accepted.{IsAccepted}
 use Rattle.block_logic.specs.Annotations.{annotations_of}
+use Rattle.block_logic.specs.Obeying.{EventsAreLocked}
 use Rattle.block_logic.specs.Outside.{LeavesBlocks}
 use Rattle.cert_checker.specs.Acceptance.{verdict}
 use Rattle.cert_checker.specs.Secure.{Secure}
 use Rattle.cert_format.specs.declared.certificate.Certificate.{Certificate}
 use Rattle.cert_format.specs.declared.certificate.Mode.{Mode}
 use Rattle.cert_format.specs.declared.certificate.Mode.TheVariants.{Hold, Release}
+use Rattle.conspec_automaton.specs.declared.policy.Policy.{Policy}
 use Rattle.conspec_automaton.specs.Building.{built}
 use Rattle.conspec_automaton.specs.Denying.{denies_only}
 use Rattle.conspec_tree.specs.declared.types.PolicyTree.{PolicyTree}
@@ -21,6 +23,7 @@ use Rattle.inliner_tool.specs.declared.answer.Answer.{Answer}
 use Rattle.inliner_tool.specs.declared.answer.Answer.TheVariants as answers
 use Rattle.input_files.specs.declared.check_inputs.CheckInputs.{CheckInputs}
 use Rattle.input_files.specs.Named.{IsPolicyOf}
+use Rattle.inliner_tool.specs.declared.check.Checked.{Checked}
 use Rattle.inliner_tool.specs.declared.refusal.Refusal.TheVariants as refusals
 use Rattle.inliner_tool.specs.Answers.{refused}
 use Rattle.inliner_tool.specs.Classes.{label_of}
@@ -67,14 +70,27 @@ link_inputs main inputs = program_of inputs.listing inputs.classes main Inlined
 abbrev pub check_answer : List ℕ → CheckInputs → Answer
 check_answer main inputs = linked_answer inputs.policy inputs.certificate (link_inputs main inputs)
 
--- The program is accepted with the certificate, and obeys the policy for every list of guest steps, as its mode promises; an
--- error that a Java machine throws in a block leads out of it; and the program runs as the certificate types it.
+-- The program is accepted with the certificate, and obeys the policy for every list of guest steps, as its mode promises; in mode
+-- hold each event with a clause is of the thread that holds the lock; an error that a Java machine throws in a block leads out of
+-- it; and the program runs as the certificate types it.
 pub record ProgramIsChecked (policy : PolicyTree) (certificate : Certificate) (program : Program) : Type 0 where
   pub accepted : IsAccepted program (built policy) certificate
   pub secure : Secure certificate.mode program (built policy)
+  pub locked : certificate.mode ≡ Hold → EventsAreLocked program (built policy)
   pub errors : LeavesBlocks program (built policy) (annotations_of certificate)
   pub read : IsPolicyOf program.listing policy
   pub runs : RunsTyped program certificate.typing
+
+-- It is checked so with the automaton of the policy, and the answer is that it was accepted as this.
+pub record ProgramIsCheckedAs (tree : PolicyTree) (certificate : Certificate) (program : Program) (policy : Policy) (accepted : Accepted) : Type 0 where
+  pub policy_is : policy ≡ built tree
+  pub answer : program_answer tree certificate program ≡ answers.Accepted accepted
+  pub checked : ProgramIsChecked tree certificate program
+
+-- The inputs link to the program, which is checked so.
+pub record IsCheckedAs (main : List ℕ) (inputs : CheckInputs) (checked : Checked) : Type 0 where
+  pub links : link_inputs main inputs ≡ Ok checked.program
+  pub is : ProgramIsCheckedAs inputs.policy inputs.certificate checked.program checked.policy checked.accepted
 
 -- The inputs link to such a program.
 pub record IsChecked (main : List ℕ) (inputs : CheckInputs) : Type 0 where

@@ -9,13 +9,14 @@ use Rattle.command_words.specs.Words.{Check, NamedCheck}
 use Rattle.conspec_tree.specs.declared.types.PolicyTree.{PolicyTree}
 use Rattle.mon_store.specs.Store.{Files, Rose}
 use Rattle.input_files.specs.declared.named.ReadClasses.{ReadClasses as Classes}
-use Rattle.input_files.specs.Forms.{Count, IsRead}
+use Rattle.input_files.specs.Forms.{IsRead}
 use Rattle.input_files.specs.Kinds.{certificate_form, listing_form, policy_form}
 use Rattle.input_files.specs.Named.{AreClasses}
 use Rattle.inliner_tool.specs.declared.answer.Answer.{Answer}
 use Rattle.inliner_tool.specs.Check.{is_judged}
 use Rattle.inliner_tool.specs.Decision.{IsDecision}
 use Rattle.inliner_tool.specs.Programs.{program_of}
+use Rattle.inliner_tool.specs.Seen.{Seen}
 use Rattle.inliner_tool.specs.Tool.{CarriesOut, IsAnswer, status_of}
 
 -- The files are told, and those of these names are a listing, a policy over it, a certificate for its variables and class files, in
@@ -37,6 +38,6 @@ pub record NamesChecked (files : Files) (named : NamedCheck) : Type 0 where
 -- What `check` answers to such files, without a fault of the store, is a decision.
 abbrev pub CheckDecides : Type 0
 CheckDecides =
-    (old new : Files) (count : Count) (named : NamedCheck) (answer : Answer)
-    → IsAnswer (λ answer. CarriesOut old new count (Check named) answer) answer
-    → (Rose count.before count.now → ⊥) → NamesChecked old named → IsDecision (status_of answer)
+    (seen : Seen) (named : NamedCheck) (answer : Answer)
+    → IsAnswer (λ answer. CarriesOut seen (Check named) answer) answer
+    → (Rose seen.count.before seen.count.now → ⊥) → NamesChecked seen.old named → IsDecision (status_of answer)

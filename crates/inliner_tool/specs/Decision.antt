@@ -5,11 +5,12 @@ use Rattle.api_listing.specs.declared.types.Listing.{Listing}
 use Rattle.conspec_tree.specs.declared.types.PolicyTree.{PolicyTree}
 use Rattle.mon_store.specs.Store.{Files, Rose}
 use Rattle.command_words.specs.Words.{NamedRace, Race}
-use Rattle.input_files.specs.Forms.{Count, IsRead}
+use Rattle.input_files.specs.Forms.{IsRead}
 use Rattle.input_files.specs.Kinds.{listing_form, policy_form}
 use Rattle.inliner_tool.specs.declared.answer.Answer.{Answer}
 use Rattle.inliner_tool.specs.declared.tool.Status.{Status}
 use Rattle.inliner_tool.specs.declared.tool.Status.TheVariants as statuses
+use Rattle.inliner_tool.specs.Seen.{Seen}
 use Rattle.inliner_tool.specs.Tool.{CarriesOut, IsAnswer, status_of}
 
 -- The files are told, and those of these names are a listing and a policy over it, in their grammars and limits.
@@ -27,6 +28,6 @@ IsDecision status = (status ≡ statuses.Done) ⊎ ((status ≡ statuses.Denied)
 -- What `race` answers to such files, without a fault of the store, is a decision.
 abbrev pub RaceDecides : Type 0
 RaceDecides =
-    (old new : Files) (count : Count) (named : NamedRace) (answer : Answer)
-    → IsAnswer (λ answer. CarriesOut old new count (Race named) answer) answer
-    → (Rose count.before count.now → ⊥) → NamesPolicy old named → IsDecision (status_of answer)
+    (seen : Seen) (named : NamedRace) (answer : Answer)
+    → IsAnswer (λ answer. CarriesOut seen (Race named) answer) answer
+    → (Rose seen.count.before seen.count.now → ⊥) → NamesPolicy seen.old named → IsDecision (status_of answer)

@@ -13,13 +13,14 @@ use Rattle.conspec_automaton.specs.Building.{built}
 use Rattle.conspec_tree.specs.declared.types.PolicyTree.{PolicyTree}
 use Rattle.mon_store.specs.Store.{Files, Rose}
 use Rattle.input_files.specs.declared.named.ReadClasses.{ReadClasses as Classes}
-use Rattle.input_files.specs.Forms.{Count, IsRead}
+use Rattle.input_files.specs.Forms.{IsRead}
 use Rattle.input_files.specs.Kinds.{listing_form, policy_form}
 use Rattle.input_files.specs.Named.{AreClasses}
 use Rattle.type_infer.specs.Untyped.{IsTypable}
 use Rattle.inliner_tool.specs.declared.answer.Answer.{Answer}
 use Rattle.inliner_tool.specs.declared.answer.Answer.TheVariants as answers
 use Rattle.inliner_tool.specs.declared.refusal.Refusal.TheVariants as refusals
+use Rattle.inliner_tool.specs.Seen.{Seen}
 use Rattle.inliner_tool.specs.Tool.{CarriesOut, IsAnswer}
 use Rattle.inliner_tool.specs.Weaving.{mode_for, original}
 
@@ -51,6 +52,6 @@ IsWeaving other = ⊥
 -- What `inline` answers to such files, without a fault of the store, is such an answer.
 abbrev pub InlineDecides : Type 0
 InlineDecides =
-    (old new : Files) (count : Count) (named : NamedInline) (answer : Answer)
-    → IsAnswer (λ answer. CarriesOut old new count (Inline named) answer) answer
-    → (Rose count.before count.now → ⊥) → NamesWoven old named → IsWeaving answer
+    (seen : Seen) (named : NamedInline) (answer : Answer)
+    → IsAnswer (λ answer. CarriesOut seen (Inline named) answer) answer
+    → (Rose seen.count.before seen.count.now → ⊥) → NamesWoven seen.old named → IsWeaving answer

@@ -1,4 +1,5 @@
 pub mod Answers
+pub mod Seen
 pub mod Classes
 pub mod Running
 pub mod Check

@@ -6,13 +6,14 @@ use Rattle.bytecode_model.specs.Files.{max_files}
 use Rattle.class_codec.specs.Spelling.{spelling}
 use Rattle.command_words.specs.InlineWords.{NamedInline}
 use Rattle.command_words.specs.Words.{Check, NamedCheck}
-use Rattle.mon_store.specs.Store.{Files, Rose}
-use Rattle.input_files.specs.Forms.{Count, IsRead}
+use Rattle.mon_store.specs.Store.{Rose}
+use Rattle.input_files.specs.Forms.{IsRead}
 use Rattle.input_files.specs.Kinds.{listing_form, policy_form}
 use Rattle.output_files.specs.Outputs.{certificate_name, class_name}
 use Rattle.inliner_tool.specs.declared.answer.Answer.{Answer}
 use Rattle.inliner_tool.specs.declared.tool.Status.TheVariants as statuses
 use Rattle.inliner_tool.specs.Inline.{IsInlined}
+use Rattle.inliner_tool.specs.Seen.{Seen}
 use Rattle.inliner_tool.specs.Tool.{CarriesOut, IsAnswer, status_of}
 
 -- how many bytes a class file has
@@ -25,9 +26,9 @@ sizes_of (class ∷ classes) = size_of class + sizes_of classes
 
 -- These words name what was written of the program, in its order, with the same main class, and a listing and a policy that are read
 -- as those of which it was woven; there are no more class files than may be given, and they are not too long.
-pub record NamesWritten {old new : Files} {count : Count} {named : NamedInline} (inlined : IsInlined old new count named) (check : NamedCheck) : Type 0 where
-  pub listing : IsRead new check.listing listing_form (Ok inlined.inputs.listing)
-  pub policy : IsRead new check.policy (policy_form inlined.inputs.listing) (Ok inlined.inputs.policy)
+pub record NamesWritten {seen : Seen} {named : NamedInline} (inlined : IsInlined seen named) (check : NamedCheck) : Type 0 where
+  pub listing : IsRead seen.new check.listing listing_form (Ok inlined.inputs.listing)
+  pub policy : IsRead seen.new check.policy (policy_form inlined.inputs.listing) (Ok inlined.inputs.policy)
   pub certificate : check.certificate ≡ certificate_name named.folder
   pub main : check.main ≡ named.main
   pub classes : check.classes ≡ map (class_name named.folder) inlined.planned.rewoven.program.classes
@@ -38,7 +39,7 @@ pub record NamesWritten {old new : Files} {count : Count} {named : NamedInline} 
 -- What `check` answers then, without a fault of the store, is yes, or memory ran out: its status is 0 or 7.
 abbrev pub WrittenIsAccepted : Type 0
 WrittenIsAccepted =
-    (old new : Files) (count : Count) (named : NamedInline) → IsSome old → (inlined : IsInlined old new count named)
-    → (check : NamedCheck) → NamesWritten inlined check → (later : Files) (again : Count) (answer : Answer)
-    → IsAnswer (λ answer. CarriesOut new later again (Check check) answer) answer → (Rose again.before again.now → ⊥)
+    (seen : Seen) (named : NamedInline) → IsSome seen.old → (inlined : IsInlined seen named)
+    → (check : NamedCheck) → NamesWritten inlined check → (again : Seen) (answer : Answer) → again.old ≡ seen.new
+    → IsAnswer (λ answer. CarriesOut again (Check check) answer) answer → (Rose again.count.before again.count.now → ⊥)
     → (status_of answer ≡ statuses.Done) ⊎ (status_of answer ≡ statuses.Memory)

@@ -1,6 +1,5 @@
 -- What the command `replay` tells of a recorded run. (docs/COMMANDS.md)
 use Rattle.std.specs.Prelude.{◌≡◌, ◌⊎◌, ℕ, List, length, Option, Some, None, Result, Ok, Err}
-use Rattle.mon_store.specs.Store.{Files}
 use Rattle.bytecode_model.specs.declared.program.Program.{Program}
 use Rattle.bytecode_model.specs.declared.program.Side.TheVariants.{Inlined}
 use Rattle.cert_format.specs.declared.typing.Typing.{Typing}
@@ -18,7 +17,7 @@ use Rattle.guest_step.specs.Ending.{end_of}
 use Rattle.guest_step.specs.Replaying.{replayed}
 use Rattle.input_files.specs.declared.files.Stop.{Stop}
 use Rattle.input_files.specs.declared.replay_inputs.ReplayInputs.{ReplayInputs}
-use Rattle.input_files.specs.Forms.{Count, Then}
+use Rattle.input_files.specs.Forms.{Then}
 use Rattle.input_files.specs.ReplayInputs.{ReadsReplay}
 use Rattle.inliner_tool.specs.declared.answer.Answer.{Answer}
 use Rattle.inliner_tool.specs.declared.answer.Answer.TheVariants as answers
@@ -27,6 +26,7 @@ use Rattle.inliner_tool.specs.declared.refusal.Refusal.TheVariants as refusals
 use Rattle.inliner_tool.specs.Answers.{refused, stopped}
 use Rattle.inliner_tool.specs.Programs.{Equals, Step, Types, program_of}
 use Rattle.inliner_tool.specs.Running.{RunsTyped}
+use Rattle.inliner_tool.specs.Seen.{Seen}
 
 -- ---- a run
 
@@ -71,10 +71,10 @@ replay_answer (Ok text) = answers.Replayed text
 replay_answer (Err refusal) = refused refusal
 
 -- The files are read, and this is told of what they are; or the reading of them stops, and this says where.
-abbrev pub Replays : Files → Count → NamedReplay → Answer → Type 0
-Replays files count named answer =
-    ((stop : Stop) × ReadsReplay files count named (Err stop) × (answer ≡ stopped stop))
-    ⊎ ((inputs : ReplayInputs) × ReadsReplay files count named (Ok inputs) × (told : Step (List ℕ)) × Tells named.main inputs told × (answer ≡ replay_answer told))
+abbrev pub Replays : Seen → NamedReplay → Answer → Type 0
+Replays seen named answer =
+    ((stop : Stop) × ReadsReplay seen.old seen.count named (Err stop) × (answer ≡ stopped stop))
+    ⊎ ((inputs : ReplayInputs) × ReadsReplay seen.old seen.count named (Ok inputs) × (told : Step (List ℕ)) × Tells named.main inputs told × (answer ≡ replay_answer told))
 
 -- ---- the run
 
@@ -86,7 +86,7 @@ pub record InputsRun (main : List ℕ) (inputs : ReplayInputs) : Type 0 where
   pub runs : RunsTyped program typing
 
 -- The named files link to such a program.
-pub record ReplayedRuns (files : Files) (count : Count) (named : NamedReplay) : Type 0 where
+pub record ReplayedRuns (seen : Seen) (named : NamedReplay) : Type 0 where
   pub inputs : ReplayInputs
-  pub read : ReadsReplay files count named (Ok inputs)
+  pub read : ReadsReplay seen.old seen.count named (Ok inputs)
   pub run : InputsRun named.main inputs

@@ -9,12 +9,13 @@ use Rattle.command_words.specs.Words.{Replay}
 use Rattle.event_record.specs.declared.reading.Record.{Record}
 use Rattle.mon_store.specs.Store.{Files, Rose}
 use Rattle.input_files.specs.declared.named.ReadClasses.{ReadClasses as Classes}
-use Rattle.input_files.specs.Forms.{Count, IsRead}
+use Rattle.input_files.specs.Forms.{IsRead}
 use Rattle.input_files.specs.Kinds.{listing_form, record_form}
 use Rattle.input_files.specs.Named.{AreClasses}
 use Rattle.inliner_tool.specs.declared.answer.Answer.{Answer}
 use Rattle.inliner_tool.specs.Decision.{IsDecision}
 use Rattle.inliner_tool.specs.Programs.{program_of}
+use Rattle.inliner_tool.specs.Seen.{Seen}
 use Rattle.inliner_tool.specs.Tool.{CarriesOut, IsAnswer, status_of}
 use Rattle.type_infer.specs.Untyped.{IsTypable}
 
@@ -35,6 +36,6 @@ pub record NamesRun (files : Files) (named : NamedReplay) : Type 0 where
 -- What `replay` answers to such files, without a fault of the store, is a decision.
 abbrev pub ReplayDecides : Type 0
 ReplayDecides =
-    (old new : Files) (count : Count) (named : NamedReplay) (answer : Answer)
-    → IsAnswer (λ answer. CarriesOut old new count (Replay named) answer) answer
-    → (Rose count.before count.now → ⊥) → NamesRun old named → IsDecision (status_of answer)
+    (seen : Seen) (named : NamedReplay) (answer : Answer)
+    → IsAnswer (λ answer. CarriesOut seen (Replay named) answer) answer
+    → (Rose seen.count.before seen.count.now → ⊥) → NamesRun seen.old named → IsDecision (status_of answer)

@@ -1,7 +1,6 @@
 -- What the top call answers, and what it prints. (docs/COMMANDS.md)
 use Rattle.std.specs.Prelude.{◌≡◌, ◌≢◌, ◌⊎◌, ℕ, List, Option, Result, Ok, Err}
 use Rattle.bytecode_model.specs.declared.program.Program.{Program}
-use Rattle.mon_store.specs.Store.{Files}
 use Rattle.mon_store.specs.Sink.{Appends, AppendsFront}
 use Rattle.conspec_automaton.specs.declared.running.Verdict.{Verdict}
 use Rattle.conspec_automaton.specs.declared.running.Verdict.TheVariants as verdicts
@@ -13,7 +12,6 @@ use Rattle.inliner_tool.specs.declared.refusal.Refusal.{Refusal}
 use Rattle.inliner_tool.specs.declared.refusal.Refusal.TheVariants as refusals
 use Rattle.inliner_tool.specs.declared.tool.Status.{Status}
 use Rattle.inliner_tool.specs.declared.tool.Status.TheVariants as statuses
-use Rattle.input_files.specs.Forms.{Count}
 use Rattle.input_files.specs.CheckInputs.{ReadsCheck}
 use Rattle.input_files.specs.Named.{IsPolicyOf}
 use Rattle.input_files.specs.Spelled.{CheckSpelled}
@@ -26,6 +24,7 @@ use Rattle.inliner_tool.specs.Policy.{policy_answer}
 use Rattle.inliner_tool.specs.Race.{race_answer}
 use Rattle.inliner_tool.specs.Replay.{Replays}
 use Rattle.inliner_tool.specs.Running.{RunsTyped}
+use Rattle.inliner_tool.specs.Seen.{Seen}
 use Rattle.inliner_tool.specs.Show.{show_answer}
 use Rattle.inliner_tool.specs.Answers.{stopped}
 use Rattle.inliner_tool.specs.Replies.{answer_spelled}
@@ -35,16 +34,16 @@ use Rattle.command_words.specs.Words.{NamedCheck, NamedCommand, Check, Show, Pol
 
 -- The words name files that are texts of a listing, a policy, a certificate and class files, and spell them; these link to a program
 -- that is accepted, and obeys the policy for every list of guest steps.
-pub record Holds (files : Files) (count : Count) (named : NamedCheck) : Type 0 where
+pub record Holds (seen : Seen) (named : NamedCheck) : Type 0 where
   pub inputs : CheckInputs
-  pub read : ReadsCheck files count named (Ok inputs)
-  pub spells : CheckSpelled files named inputs
+  pub read : ReadsCheck seen.old seen.count named (Ok inputs)
+  pub spells : CheckSpelled seen.old named inputs
   pub checked : IsChecked named.main inputs
 
 -- The named files link to a program that runs as their certificate types it, and have a policy that was read over its listing.
-pub record CheckedRuns (files : Files) (count : Count) (named : NamedCheck) : Type 0 where
+pub record CheckedRuns (seen : Seen) (named : NamedCheck) : Type 0 where
   pub inputs : CheckInputs
-  pub read : ReadsCheck files count named (Ok inputs)
+  pub read : ReadsCheck seen.old seen.count named (Ok inputs)
   pub program : Program
   pub links : link_inputs named.main inputs ≡ Ok program
   pub policy : IsPolicyOf program.listing inputs.policy
@@ -58,13 +57,13 @@ Ends {A = A} Reads judge answer =
     ((inputs : A) × Reads (Ok inputs) × (answer ≡ judge inputs)) ⊎ ((stop : Stop) × Reads (Err stop) × (answer ≡ stopped stop))
 
 -- What a command answers, and what stands in the store then.
-abbrev pub CarriesOut : Files → Files → Count → NamedCommand → Answer → Type 0
-CarriesOut old new count (Check named) answer = Ends (ReadsCheck old count named) (check_answer named.main) answer × (new ≡ old)
-CarriesOut old new count (Show named) answer = Ends (ReadsShow old count named) show_answer answer × (new ≡ old)
-CarriesOut old new count (Policy named) answer = Ends (ReadsPolicy old count named) policy_answer answer × (new ≡ old)
-CarriesOut old new count (Race named) answer = Ends (ReadsRace old count named) race_answer answer × (new ≡ old)
-CarriesOut old new count (Inline named) answer = Inlines old new count named answer
-CarriesOut old new count (Replay named) answer = Replays old count named answer × (new ≡ old)
+abbrev pub CarriesOut : Seen → NamedCommand → Answer → Type 0
+CarriesOut seen (Check named) answer = Ends (ReadsCheck seen.old seen.count named) (check_answer named.main) answer × (seen.new ≡ seen.old)
+CarriesOut seen (Show named) answer = Ends (ReadsShow seen.old seen.count named) show_answer answer × (seen.new ≡ seen.old)
+CarriesOut seen (Policy named) answer = Ends (ReadsPolicy seen.old seen.count named) policy_answer answer × (seen.new ≡ seen.old)
+CarriesOut seen (Race named) answer = Ends (ReadsRace seen.old seen.count named) race_answer answer × (seen.new ≡ seen.old)
+CarriesOut seen (Inline named) answer = Inlines seen named answer
+CarriesOut seen (Replay named) answer = Replays seen named answer × (seen.new ≡ seen.old)
 
 -- It is such an answer, or memory ran out.
 abbrev pub IsAnswer : (Answer → Type 0) → Answer → Type 0
@@ -73,10 +72,10 @@ IsAnswer P answers.Usage = ⊥
 IsAnswer P answer = P answer
 
 -- When the top call gives an answer: each comes where, and only where, its own case holds; but want of memory is free.
-abbrev pub Says : Files → Files → Count → List (List ℕ) → Answer → Type 0
-Says old new count words answers.Usage = ((named : NamedCommand) → IsCommand words named → ⊥) × (new ≡ old)
-Says old new count words answers.Memory = Unit {0}
-Says old new count words answer = (named : NamedCommand) × IsCommand words named × CarriesOut old new count named answer
+abbrev pub Says : Seen → List (List ℕ) → Answer → Type 0
+Says seen words answers.Usage = ((named : NamedCommand) → IsCommand words named → ⊥) × (seen.new ≡ seen.old)
+Says seen words answers.Memory = Unit {0}
+Says seen words answer = (named : NamedCommand) × IsCommand words named × CarriesOut seen named answer
 
 -- ---- status and output
 
@@ -113,15 +112,15 @@ status_of answers.Usage = statuses.Usage
 status_of answers.Memory = statuses.Memory
 
 -- There is an answer whose case holds, other than that memory ran out, and of which this is so.
-pub record Answered (old new : Files) (count : Count) (words : List (List ℕ)) (P : Answer → Type 0) : Type 0 where
+pub record Answered (seen : Seen) (words : List (List ℕ)) (P : Answer → Type 0) : Type 0 where
   pub answer : Answer
   pub made : answer ≢ answers.Memory
-  pub says : Says old new count words answer
+  pub says : Says seen words answer
   pub so : P answer
 
 -- The status of a call, and what became of the sink's text. A fault of the sink takes the place of the status that would
 -- have come; its text may then have a front of the output. Without memory nothing is printed.
-abbrev pub Replies : Files → Files → Count → List (List ℕ) → Option (List ℕ) → Option (List ℕ) → Type 0 → Status → Type 0
-Replies old new count words text after rose statuses.Memory = after ≡ text
-Replies old new count words text after rose statuses.SinkFault = rose × Answered old new count words (λ answer. AppendsFront text after (answer_spelled answer))
-Replies old new count words text after rose status = Answered old new count words (λ answer. (status ≡ status_of answer) × Appends text after (answer_spelled answer))
+abbrev pub Replies : Seen → List (List ℕ) → Option (List ℕ) → Option (List ℕ) → Type 0 → Status → Type 0
+Replies seen words text after rose statuses.Memory = after ≡ text
+Replies seen words text after rose statuses.SinkFault = rose × Answered seen words (λ answer. AppendsFront text after (answer_spelled answer))
+Replies seen words text after rose status = Answered seen words (λ answer. (status ≡ status_of answer) × Appends text after (answer_spelled answer))

@@ -1,14 +1,16 @@
 //! The command `check`: its inputs, what they link to, and what is answered.
 
-ghost use Rattle.std.specs.Prelude.{◌≡◌, ◌≤◌, IfOk, IsTrue, Ok};
+ghost use Rattle.std.specs.Prelude.{◌≡◌, ◌≤◌, IfErr, IfOk, IsTrue, Ok};
 ghost use Rattle.block_logic.specs.Meaning.{Promised};
 ghost use Rattle.conspec_automaton.specs.Building.{built};
 ghost use Rattle.bytecode_model.specs.declared.program.Program.{Program};
 ghost use Rattle.command_words.specs.Words.{Check, check_named};
+ghost use Rattle.inliner_tool.specs.Seen.{seen};
 ghost use Rattle.inliner_tool.specs.Answers.{EndsWell, Is, stopped};
 ghost use Rattle.inliner_tool.specs.Check.{
   IsChecked,
-  ProgramIsChecked,
+  IsCheckedAs,
+  ProgramIsCheckedAs,
   check_answer,
   faulty_class,
   denied_answer,
@@ -23,7 +25,6 @@ ghost use Rattle.inliner_tool.specs.Programs.{Equals, Step, UnlessMemory};
 ghost use Rattle.inliner_tool.specs.Running.{IsLinkedProgram};
 ghost use Rattle.inliner_tool.specs.Tool.{CarriesOut, Holds, IsAnswer};
 ghost use Rattle.input_files.specs.CheckInputs.{AreSound};
-ghost use Rattle.input_files.specs.Forms.{since};
 ghost use Rattle.input_files.specs.Named.{IsPolicyOf};
 
 use crate::answer::{Answer, refused, stopped};
@@ -32,10 +33,10 @@ use crate::programs::program_of;
 use crate::refusal::Refusal;
 use crate::running::linked_programs_run_typed;
 use bytecode_model::{Program, Side};
-use cert_checker::{CheckFault, check};
+use cert_checker::{Accepted, CheckFault, check};
 use cert_format::{Certificate, Mode};
 use command_words::CheckWords;
-use conspec_automaton::{build, denies_only};
+use conspec_automaton::{Policy, build, denies_only};
 use conspec_parse::kinds_are_told;
 use conspec_tree::PolicyTree;
 use input_files::{CheckInputs, read_check};
@@ -44,12 +45,19 @@ use mon_store::Store;
 use std::alloc::Global;
 use type_lattice::Indexed;
 
+/// A program that was accepted, the policy, and what it was accepted as.
+#[derive(Drop)]
+pub struct Checked {
+    pub program: Indexed,
+    pub policy: Policy,
+    pub accepted: Accepted,
+}
+
 /// The answer to `check`.
 pub fn answer_check<S: Store>(alloc: Global, words: &CheckWords, store: &mut S) -> Answer
-    ensures says { IsAnswer (λ answer. CarriesOut (S.files store.old) (S.files store.new)
-        (since (S.faults store.old) (S.faults store.new) (S.last store.new)) (Check (check_named words.now)) answer) result }
+    ensures says { IsAnswer (λ answer. CarriesOut (seen S.files S.faults S.last store.old store.new) (Check (check_named words.now)) answer) result }
     ensures holds { EndsWell result
-        → Holds (S.files store.old) (since (S.faults store.old) (S.faults store.new) (S.last store.new)) (check_named words.now) }
+        → Holds (seen S.files S.faults S.last store.old store.new) (check_named words.now) }
     ensures files { S.files store.new ≡ S.files store.old }
     ensures faults { S.faults store.old ≤ S.faults store.new }
 {
@@ -65,6 +73,29 @@ fn check_answer(alloc: Global, inputs: CheckInputs, main: &Bytes) -> Answer
     ensures is { Is result (check_answer main.now inputs) }
     ensures checked { EndsWell result → IsChecked main.now inputs }
 {
+    match inputs_checked(alloc, inputs, main) {
+        Ok(
+            Checked {
+                program,
+                policy,
+                accepted,
+            },
+        ) => {
+            drop(policy);
+            drop(program);
+            Answer::Accepted(accepted)
+        }
+        Err(answer) => answer,
+    }
+}
+
+/// Links the class files of these inputs and checks the program: what was accepted, or what is answered instead.
+fn inputs_checked(alloc: Global, inputs: CheckInputs, main: &Bytes) -> Result<Checked, Answer>
+    requires { AreSound inputs }
+    ensures checked { IfOk result (IsCheckedAs main.now inputs) }
+    ensures answer { IfErr result (λ answer. Is answer (check_answer main.now inputs)) }
+    ensures no { IfErr result (λ answer. EndsWell answer → ⊥) }
+{
     let CheckInputs {
         listing,
         policy,
@@ -72,59 +103,67 @@ fn check_answer(alloc: Global, inputs: CheckInputs, main: &Bytes) -> Answer
         classes,
     } = inputs;
     let linked = program_of(alloc, listing, classes, main, Side::Inlined);
-    let answer = linked_answer(alloc, linked, &policy, &certificate);
+    let checked = linked_checked(alloc, linked, &policy, &certificate);
     drop(certificate);
     drop(policy);
-    answer
+    checked
 }
 
-/// What is answered to a check of what class files link to.
-fn linked_answer(
+/// The same of what class files link to.
+fn linked_checked(
     alloc: Global,
     linked: Result<Indexed, Refusal>,
     policy: &PolicyTree,
     certificate: &Certificate,
-) -> Answer
+) -> Result<Checked, Answer>
     requires linked { IfOk linked IsLinkedProgram }
     requires policy { IfOk linked (λ program. IsPolicyOf program.listing policy.now) }
-    ensures is { (step : Step Program) → UnlessMemory (Equals step) linked
-        → Is result (linked_answer policy.now certificate.now step) }
-    ensures checked { EndsWell result
-        → (program : Program) × ((linked ≡ Ok program) × ProgramIsChecked policy.now certificate.now program) }
+    ensures program { IfOk result (λ checked. linked ≡ Ok checked.program) }
+    ensures checked { IfOk result (λ checked. ProgramIsCheckedAs policy.now certificate.now checked.program checked.policy checked.accepted) }
+    ensures answer { (step : Step Program) → UnlessMemory (Equals step) linked
+        → IfErr result (λ answer. Is answer (linked_answer policy.now certificate.now step)) }
+    ensures no { IfErr result (λ answer. EndsWell answer → ⊥) }
 {
     match linked {
-        Ok(program) => {
-            let answer = program_answer(alloc, &program, policy, certificate);
-            drop(program);
-            answer
-        }
-        Err(refusal) => refused(refusal),
+        Ok(program) => match program_checked(alloc, &program, policy, certificate) {
+            Ok((policy, accepted)) => Ok(Checked {
+                program,
+                policy,
+                accepted,
+            }),
+            Err(answer) => {
+                drop(program);
+                Err(answer)
+            }
+        },
+        Err(refusal) => Err(refused(refusal)),
     }
 }
 
-/// What is answered to a check of a linked program.
-fn program_answer(
+/// The policy, and what the program was accepted as, of a linked program; or what is answered instead.
+fn program_checked(
     alloc: Global,
     program: &Indexed,
     policy: &PolicyTree,
     certificate: &Certificate,
-) -> Answer
+) -> Result<(Policy, Accepted), Answer>
     requires linked { IsLinkedProgram program.now }
     requires policy { IsPolicyOf program.now.listing policy.now }
-    ensures is { Is result (program_answer policy.now certificate.now program.now) }
-    ensures checked { EndsWell result → ProgramIsChecked policy.now certificate.now program.now }
+    ensures checked { IfOk result (λ r. ProgramIsCheckedAs policy.now certificate.now program.now r.0 r.1) }
+    ensures answer { IfErr result (λ answer. Is answer (program_answer policy.now certificate.now program.now)) }
+    ensures no { IfErr result (λ answer. EndsWell answer → ⊥) }
 {
     if !is_judged(certificate.mode, policy) {
-        return Answer::Refused(Refusal::NotBuilt);
+        return Err(Answer::Refused(Refusal::NotBuilt));
     }
     let Ok(policy) = build(alloc, policy) else {
-        return Answer::Memory;
+        return Err(Answer::Memory);
     };
     kinds_are_told();
     linked_programs_run_typed();
     match check(program, &policy, certificate) {
-        Ok(accepted) => Answer::Accepted(accepted),
-        Err(fault) => denied(alloc, program.program(), fault),
+        Ok(accepted) => Ok((policy, accepted)),
+        Err(fault) => Err(denied(alloc, program.program(), fault)),
     }
 }
 

@@ -26,6 +26,7 @@ ghost use Rattle.output_files.specs.Outputs.{is_written, outputs_of};
 ghost use Rattle.cert_maker.specs.Told.{FitsTyping, told};
 ghost use Rattle.woven_linking.specs.Program.{HaveRoom, program_with};
 ghost use Rattle.woven_typing.specs.Framing.{typing_of};
+ghost use Rattle.inliner_tool.specs.Seen.{seen};
 ghost use Rattle.inliner_tool.specs.Expected.{IsExpected, WovenHasBlocks, WovenIsExpected};
 ghost use Rattle.inliner_tool.specs.Policy.{IsSoundFor};
 ghost use Rattle.inliner_tool.specs.Programs.{Equals, UnlessMemory};
@@ -44,7 +45,7 @@ ghost use Rattle.inliner_tool.specs.Weaving.{
   splice_refusal,
   weave_step,
 };
-ghost use Rattle.input_files.specs.Forms.{Then, since};
+ghost use Rattle.input_files.specs.Forms.{Then};
 ghost use Rattle.inliner_tool.specs.Inline.{Begins, IsInlined, Outputs};
 ghost use Rattle.inliner_tool.specs.Answers.{EndsWell};
 ghost use Rattle.inliner_tool.specs.InlineDecision.{InlineDecides};
@@ -100,12 +101,9 @@ pub struct Given {
 
 /// The answer to `inline`.
 pub fn answer_inline<S: Store>(alloc: Global, words: &InlineWords, store: &mut S) -> Answer
-    ensures says { IsAnswer (λ answer. CarriesOut (S.files store.old) (S.files store.new)
-        (since (S.faults store.old) (S.faults store.new) (S.last store.new)) (Inline (inline_named words.now)) answer) result }
-    ensures inlined { EndsWell result → IsInlined (S.files store.old) (S.files store.new)
-        (since (S.faults store.old) (S.faults store.new) (S.last store.new)) (inline_named words.now) }
-    ensures files { Begins (S.files store.old) (S.files store.new)
-        (since (S.faults store.old) (S.faults store.new) (S.last store.new)) (inline_named words.now) }
+    ensures says { IsAnswer (λ answer. CarriesOut (seen S.files S.faults S.last store.old store.new) (Inline (inline_named words.now)) answer) result }
+    ensures inlined { EndsWell result → IsInlined (seen S.files S.faults S.last store.old store.new) (inline_named words.now) }
+    ensures files { Begins (seen S.files S.faults S.last store.old store.new) (inline_named words.now) }
     ensures faults { S.faults store.old ≤ S.faults store.new }
 {
     match read_inline(alloc, store, words) {
@@ -121,8 +119,7 @@ pub fn answer_inline<S: Store>(alloc: Global, words: &InlineWords, store: &mut S
 
 /// The answer once all is ready to be written.
 fn write_out<S: Store>(alloc: Global, ready: Ready, store: &mut S) -> Answer
-    ensures writes { Outputs (S.files store.old) (S.files store.new)
-        (since (S.faults store.old) (S.faults store.new) (S.last store.new)) ready result }
+    ensures writes { Outputs (seen S.files S.faults S.last store.old store.new) ready result }
     ensures faults { S.faults store.old ≤ S.faults store.new }
 {
     match write_all(alloc, store, ready.outputs.as_slice()) {

@@ -2,10 +2,10 @@
 
 ghost use Rattle.std.specs.Prelude.{◌≡◌, ◌≤◌};
 ghost use Rattle.command_words.specs.Words.{Policy, policy_named};
+ghost use Rattle.inliner_tool.specs.Seen.{seen};
 ghost use Rattle.inliner_tool.specs.Answers.{Is, stopped};
 ghost use Rattle.inliner_tool.specs.Policy.{policy_answer};
 ghost use Rattle.inliner_tool.specs.Tool.{CarriesOut, IsAnswer};
-ghost use Rattle.input_files.specs.Forms.{since};
 ghost use Rattle.input_files.specs.PolicyInputs.{IsOfListing};
 
 use crate::answer::{Answer, stopped};
@@ -18,8 +18,7 @@ use std::alloc::Global;
 
 /// The answer to `policy`.
 pub fn answer_policy<S: Store>(alloc: Global, words: &PolicyWords, store: &mut S) -> Answer
-    ensures says { IsAnswer (λ answer. CarriesOut (S.files store.old) (S.files store.new)
-        (since (S.faults store.old) (S.faults store.new) (S.last store.new)) (Policy (policy_named words.now)) answer) result }
+    ensures says { IsAnswer (λ answer. CarriesOut (seen S.files S.faults S.last store.old store.new) (Policy (policy_named words.now)) answer) result }
     ensures files { S.files store.new ≡ S.files store.old }
     ensures faults { S.faults store.old ≤ S.faults store.new }
 {

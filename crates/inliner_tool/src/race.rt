@@ -3,11 +3,11 @@
 ghost use Rattle.std.specs.Prelude.{◌≡◌, ◌≤◌};
 ghost use Rattle.command_words.specs.Words.{Race, race_named};
 ghost use Rattle.conspec_tree.specs.Tree.{IsPolicyTree};
+ghost use Rattle.inliner_tool.specs.Seen.{seen};
 ghost use Rattle.inliner_tool.specs.Answers.{Is, stopped};
 ghost use Rattle.inliner_tool.specs.Decision.{RaceDecides};
 ghost use Rattle.inliner_tool.specs.Race.{fault_answer, race_answer, verdict_answer};
 ghost use Rattle.inliner_tool.specs.Tool.{CarriesOut, IsAnswer};
-ghost use Rattle.input_files.specs.Forms.{since};
 
 use crate::answer::{Answer, stopped};
 use command_words::RaceWords;
@@ -21,8 +21,7 @@ use std::alloc::Global;
 
 /// The answer to `race`.
 pub fn answer_race<S: Store>(alloc: Global, words: &RaceWords, store: &mut S) -> Answer
-    ensures says { IsAnswer (λ answer. CarriesOut (S.files store.old) (S.files store.new)
-        (since (S.faults store.old) (S.faults store.new) (S.last store.new)) (Race (race_named words.now)) answer) result }
+    ensures says { IsAnswer (λ answer. CarriesOut (seen S.files S.faults S.last store.old store.new) (Race (race_named words.now)) answer) result }
     ensures files { S.files store.new ≡ S.files store.old }
     ensures faults { S.faults store.old ≤ S.faults store.new }
 {

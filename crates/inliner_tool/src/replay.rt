@@ -5,13 +5,14 @@ ghost use Rattle.cert_format.specs.declared.typing.Typing.{Typing};
 ghost use Rattle.command_words.specs.ReplayWords.{replay_named};
 ghost use Rattle.command_words.specs.Words.{Replay};
 ghost use Rattle.guest_model.specs.Ready.{IsReady};
+ghost use Rattle.inliner_tool.specs.Seen.{seen};
 ghost use Rattle.inliner_tool.specs.Answers.{EndsWell};
 ghost use Rattle.inliner_tool.specs.Programs.{Equals, Types, UnlessMemory};
 ghost use Rattle.inliner_tool.specs.Replay.{InputsRun, ReplayedRuns, Tells, end_told, run_text, steps_told};
 ghost use Rattle.inliner_tool.specs.ReplayDecision.{ReplayDecides};
 ghost use Rattle.inliner_tool.specs.Running.{IsLinkedProgram, RunsTyped};
 ghost use Rattle.inliner_tool.specs.Tool.{CarriesOut, IsAnswer};
-ghost use Rattle.input_files.specs.Forms.{Then, since};
+ghost use Rattle.input_files.specs.Forms.{Then};
 ghost use Rattle.input_files.specs.ReplayInputs.{ReplaySound};
 
 use crate::answer::{Answer, refused, stopped};
@@ -32,10 +33,9 @@ use type_lattice::Indexed;
 
 /// The answer to `replay`.
 pub fn answer_replay<S: Store>(alloc: Global, words: &ReplayWords, store: &mut S) -> Answer
-    ensures says { IsAnswer (λ answer. CarriesOut (S.files store.old) (S.files store.new)
-        (since (S.faults store.old) (S.faults store.new) (S.last store.new)) (Replay (replay_named words.now)) answer) result }
+    ensures says { IsAnswer (λ answer. CarriesOut (seen S.files S.faults S.last store.old store.new) (Replay (replay_named words.now)) answer) result }
     ensures runs { EndsWell result
-        → ReplayedRuns (S.files store.old) (since (S.faults store.old) (S.faults store.new) (S.last store.new)) (replay_named words.now) }
+        → ReplayedRuns (seen S.files S.faults S.last store.old store.new) (replay_named words.now) }
     ensures files { S.files store.new ≡ S.files store.old }
     ensures faults { S.faults store.old ≤ S.faults store.new }
 {

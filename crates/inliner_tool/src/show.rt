@@ -4,11 +4,11 @@ ghost use Rattle.std.specs.Prelude.{◌≡◌, ◌≤◌};
 ghost use Rattle.std.specs.List.{AllByRecursion};
 ghost use Rattle.class_codec.specs.Fits.{CanSpell};
 ghost use Rattle.command_words.specs.Words.{Show, show_named};
+ghost use Rattle.inliner_tool.specs.Seen.{seen};
 ghost use Rattle.inliner_tool.specs.Answers.{Is, stopped};
 ghost use Rattle.inliner_tool.specs.Programs.{Equals, UnlessMemory};
 ghost use Rattle.inliner_tool.specs.Show.{show_answer, show_refusal, text_shown};
 ghost use Rattle.inliner_tool.specs.Tool.{CarriesOut, IsAnswer};
-ghost use Rattle.input_files.specs.Forms.{since};
 
 use crate::answer::{Answer, refused, stopped};
 use crate::classes::within_total;
@@ -23,8 +23,7 @@ use std::alloc::Global;
 
 /// The answer to `show`.
 pub fn answer_show<S: Store>(alloc: Global, words: &ShowWords, store: &mut S) -> Answer
-    ensures says { IsAnswer (λ answer. CarriesOut (S.files store.old) (S.files store.new)
-        (since (S.faults store.old) (S.faults store.new) (S.last store.new)) (Show (show_named words.now)) answer) result }
+    ensures says { IsAnswer (λ answer. CarriesOut (seen S.files S.faults S.last store.old store.new) (Show (show_named words.now)) answer) result }
     ensures files { S.files store.new ≡ S.files store.old }
     ensures faults { S.faults store.old ≤ S.faults store.new }
 {

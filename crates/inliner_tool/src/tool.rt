@@ -4,6 +4,7 @@ ghost use Rattle.std.specs.Prelude.{◌≡◌, ◌≢◌, ◌≤◌, Some};
 ghost use Rattle.command_words.specs.InlineWords.{IsInline, NamedInline};
 ghost use Rattle.command_words.specs.ReplayWords.{IsReplay, NamedReplay};
 ghost use Rattle.command_words.specs.Words.{IsCheck, NamedCheck};
+ghost use Rattle.inliner_tool.specs.Seen.{seen};
 ghost use Rattle.inliner_tool.specs.Answers.{EndsWell};
 ghost use Rattle.inliner_tool.specs.Decides.{Decides, GivesOnce};
 ghost use Rattle.inliner_tool.specs.Headline.{Obeyed};
@@ -12,7 +13,6 @@ ghost use Rattle.inliner_tool.specs.Replay.{ReplayedRuns};
 ghost use Rattle.inliner_tool.specs.Status.{code_of};
 ghost use Rattle.inliner_tool.specs.Tool.{CheckedRuns, Holds, Replies, Says, judged_status, refusal_status, status_of};
 ghost use Rattle.input_files.specs.Contents.{Contents};
-ghost use Rattle.input_files.specs.Forms.{since};
 ghost use Rattle.mon_store.specs.Store.{Rose};
 
 use crate::answer::Answer;
@@ -90,23 +90,22 @@ pub fn run_tool<S: Store, K: Sink>(
 
     // It is accepted with the certificate.
     ensures accepted { (named : NamedCheck) → IsCheck words.now named → result ≡ Status.Done
-        → Holds (S.files store.old) (since (S.faults store.old) (S.faults store.new) (S.last store.new)) named }
+        → Holds (seen S.files S.faults S.last store.old store.new) named }
 
     // That program, and one whose run is replayed, runs as its types say: after every list of steps no operand is missing and none is
     // of a wrong kind, a step is made exactly where the rules enable it, and the events are well formed for the policies of its
     // listing.
     ensures runs { (named : NamedCheck) → IsCheck words.now named → result ≡ Status.Done
-        → CheckedRuns (S.files store.old) (since (S.faults store.old) (S.faults store.new) (S.last store.new)) named }
+        → CheckedRuns (seen S.files S.faults S.last store.old store.new) named }
     ensures replay_runs { (named : NamedReplay) → IsReplay words.now named → result ≡ Status.Done
-        → ReplayedRuns (S.files store.old) (since (S.faults store.old) (S.faults store.new) (S.last store.new)) named }
+        → ReplayedRuns (seen S.files S.faults S.last store.old store.new) named }
 
     // Where weaving ends well, what is written is the program with its blocks, and is accepted with its certificate.
     ensures inlined { (named : NamedInline) → IsInline words.now named → result ≡ Status.Done
-        → IsInlined (S.files store.old) (S.files store.new) (since (S.faults store.old) (S.faults store.new) (S.last store.new)) named }
+        → IsInlined (seen S.files S.faults S.last store.old store.new) named }
 
     // The answer that its case gives, and the output for it.
-    ensures answer { Replies (S.files store.old) (S.files store.new)
-        (since (S.faults store.old) (S.faults store.new) (S.last store.new)) words.now
+    ensures answer { Replies (seen S.files S.faults S.last store.old store.new) words.now
         (K.text out.old) (K.text out.new) (Rose (K.faults out.old) (K.faults out.new)) result }
 
     // Where the store tells its files, and neither it nor the sink has a fault, status and output are those that the command's
@@ -116,8 +115,7 @@ pub fn run_tool<S: Store, K: Sink>(
         → result ≢ Status.Memory → Decides contents words.now (K.text out.old) (K.text out.new) result }
 
     // What stands.
-    ensures files { Leaves (S.files store.old) (S.files store.new)
-        (since (S.faults store.old) (S.faults store.new) (S.last store.new)) words.now }
+    ensures files { Leaves (seen S.files S.faults S.last store.old store.new) words.now }
     ensures faults { S.faults store.old ≤ S.faults store.new }
     ensures sink_faults { K.faults out.old ≤ K.faults out.new }
 {
@@ -144,16 +142,14 @@ pub fn answers_are_one()
 
 /// The answer to the words, over the store's files.
 fn answer_to<S: Store>(alloc: Global, words: &[Bytes], store: &mut S) -> Answer
-    ensures says { Says (S.files store.old) (S.files store.new)
-        (since (S.faults store.old) (S.faults store.new) (S.last store.new)) words.now result }
+    ensures says { Says (seen S.files S.faults S.last store.old store.new) words.now result }
     ensures holds { (named : NamedCheck) → IsCheck words.now named → EndsWell result
-        → Holds (S.files store.old) (since (S.faults store.old) (S.faults store.new) (S.last store.new)) named }
+        → Holds (seen S.files S.faults S.last store.old store.new) named }
     ensures replay_runs { (named : NamedReplay) → IsReplay words.now named → EndsWell result
-        → ReplayedRuns (S.files store.old) (since (S.faults store.old) (S.faults store.new) (S.last store.new)) named }
+        → ReplayedRuns (seen S.files S.faults S.last store.old store.new) named }
     ensures inlined { (named : NamedInline) → IsInline words.now named → EndsWell result
-        → IsInlined (S.files store.old) (S.files store.new) (since (S.faults store.old) (S.faults store.new) (S.last store.new)) named }
-    ensures files { Leaves (S.files store.old) (S.files store.new)
-        (since (S.faults store.old) (S.faults store.new) (S.last store.new)) words.now }
+        → IsInlined (seen S.files S.faults S.last store.old store.new) named }
+    ensures files { Leaves (seen S.files S.faults S.last store.old store.new) words.now }
     ensures faults { S.faults store.old ≤ S.faults store.new }
 {
     match command_of(words) {

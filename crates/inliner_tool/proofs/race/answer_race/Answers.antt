@@ -11,5 +11,5 @@ returns-in-Ok-clause-says g c =
     let files : Files = g.S.Store.files c.args.store.now in
     let new : Files = g.S.Store.files c.read_race.new.store in
     let count : Count = since (g.S.Store.faults c.args.store.now) (g.S.Store.faults c.read_race.new.store) (g.S.Store.last c.read_race.new.store) in
-    race_says c.in-Ok.inputs c.race_answer-answer.result (λ answer. CarriesOut files new count (Race (race_named c.args.words.now)) answer) c.race_answer-answer.ensures
+    race_says c.in-Ok.inputs c.race_answer-answer.result (λ answer. CarriesOut (record { old = files; new = new; count = count }) (Race (race_named c.args.words.now)) answer) c.race_answer-answer.ensures
     (λ e. (inl (c.in-Ok.inputs, c.in-Ok.ensures.read, e), c.in-Ok.ensures.files))

@@ -11,13 +11,13 @@ use Rattle.inliner_tool.proofs.tool.run_tool.Goals as goal
 
 pub returns-in-Ok-put-clause-headline : goal.returns-in-Ok-put-clause-headline
 returns-in-Ok-put-clause-headline g c = λ named is done.
-    obeyed _ _ named (c.answer_to-answer.ensures.holds named is (ends_well c.answer_to-answer.result (sym c.status_of-status.ensures ∙ done)))
+    obeyed _ named (c.answer_to-answer.ensures.holds named is (ends_well c.answer_to-answer.result (sym c.status_of-status.ensures ∙ done)))
 
 pub returns-in-Ok-put-clause-accepted : goal.returns-in-Ok-put-clause-accepted
 returns-in-Ok-put-clause-accepted g c = λ named is done. c.answer_to-answer.ensures.holds named is (ends_well c.answer_to-answer.result (sym c.status_of-status.ensures ∙ done))
 
 pub returns-in-Ok-put-clause-runs : goal.returns-in-Ok-put-clause-runs
-returns-in-Ok-put-clause-runs g c = λ named is done. checked_runs _ _ named (c.answer_to-answer.ensures.holds named is (ends_well c.answer_to-answer.result (sym c.status_of-status.ensures ∙ done)))
+returns-in-Ok-put-clause-runs g c = λ named is done. checked_runs _ named (c.answer_to-answer.ensures.holds named is (ends_well c.answer_to-answer.result (sym c.status_of-status.ensures ∙ done)))
 
 pub returns-in-Ok-put-clause-replay_runs : goal.returns-in-Ok-put-clause-replay_runs
 returns-in-Ok-put-clause-replay_runs g c = λ named is done. c.answer_to-answer.ensures.replay_runs named is (ends_well c.answer_to-answer.result (sym c.status_of-status.ensures ∙ done))
@@ -48,7 +48,7 @@ returns-in-Ok-put-clause-decides g c = λ contents told quiet sink other.
     record {
       answer = c.answer_to-answer.result;
       meant = meant c.told_files_are_read.ensures contents count quiet c.args.words.now new c.answer_to-answer.result (λ is. other (c.status_of-status.ensures ∙ ap status_of is))
-          (subst (λ (f : Files). Says f new count c.args.words.now c.answer_to-answer.result) told c.answer_to-answer.ensures.says);
+          (subst (λ (f : Files). Says (record { old = f; new = new; count = count }) c.args.words.now c.answer_to-answer.result) told c.answer_to-answer.ensures.says);
       status_is = c.status_of-status.ensures;
       printed = subst (Appends (g.K.Sink.text c.args.out.now) (g.K.Sink.text c.put.new.self)) (c.as_slice.ensures ∙ c.in-Ok.ensures) c.in-Ok-put.ensures.ok;
     }
@@ -57,7 +57,7 @@ pub returns-in-Ok-put-clause-answer : goal.returns-in-Ok-put-clause-answer
 returns-in-Ok-put-clause-answer g c =
     let new : Files = g.S.Store.files c.answer_to-answer.new.store in
     let count : Count = since (g.S.Store.faults c.args.store.now) (g.S.Store.faults c.answer_to-answer.new.store) (g.S.Store.last c.answer_to-answer.new.store) in
-    replied (g.S.Store.files c.args.store.now) new count c.args.words.now (g.K.Sink.text c.args.out.now) (g.K.Sink.text c.put.new.self) _ c.answer_to-answer.result c.answer_to-answer.ensures.says
+    replied (record { old = g.S.Store.files c.args.store.now; new = new; count = count }) c.args.words.now (g.K.Sink.text c.args.out.now) (g.K.Sink.text c.put.new.self) _ c.answer_to-answer.result c.answer_to-answer.ensures.says
     (subst (Appends (g.K.Sink.text c.args.out.now) (g.K.Sink.text c.put.new.self)) (c.as_slice.ensures ∙ c.in-Ok.ensures) c.in-Ok-put.ensures.ok)
     c.status_of-status.result c.status_of-status.ensures
     (λ memory.

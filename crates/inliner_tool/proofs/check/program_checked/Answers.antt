@@ -1,16 +1,19 @@
-use Rattle.std.proofs.Common.{◌≡◌, true, ap, sym, subst}
+use Rattle.std.proofs.Common.{◌≡◌, ◌∙◌, true, ap, sym, subst}
 use Rattle.std.specs.Prelude.{is_ok}
 use Rattle.std.specs.List.{AllByRecursion}
 use Rattle.block_logic.specs.Accepted.{IsAccepted}
 use Rattle.block_logic.specs.Meaning.{Promised}
-use Rattle.block_logic.specs.Obeying.{FitsListing}
 use Rattle.block_logic.specs.Annotations.{annotations_of}
+use Rattle.block_logic.specs.Obeying.{EventsAreLocked, FitsListing}
 use Rattle.block_logic.specs.Outside.{LeavesBlocks}
 use Rattle.cert_checker.specs.Secure.{Secure}
+use Rattle.cert_format.specs.declared.certificate.Mode.TheVariants as modes
 use Rattle.conspec_automaton.specs.Building.{built}
 use Rattle.conspec_automaton.specs.declared.policy.Policy.{Policy}
+use Rattle.cert_checker.specs.Acceptance.{verdict}
+use Rattle.inliner_tool.proofs.CheckedAs.{judged_answer}
 use Rattle.inliner_tool.proofs.Listed.{fits_listing}
-use Rattle.inliner_tool.proofs.check.program_answer.Goals as goal
+use Rattle.inliner_tool.proofs.check.program_checked.Goals as goal
 
 pub check-requires-clause-policy : goal.check-requires-clause-policy
 check-requires-clause-policy c = (c.in-Ok.ensures.sound c.args.program.now.listing c.requires.policy.sound).0
@@ -25,18 +28,23 @@ check-requires-clause-listed c =
 
 pub returns-in-Ok-check-clause-checked : goal.returns-in-Ok-check-clause-checked
 returns-in-Ok-check-clause-checked c =
-    λ done.
     let program = c.args.program.now in
     let certificate = c.args.certificate.now in
     let is : c.in-Ok.policy ≡ built c.args.policy.now = c.in-Ok.ensures.is in
     let ok : is_ok c.check.result ≡ true = ap is_ok c.in-Ok-check.is in
     let promised = subst (Promised certificate.mode) (sym is) (c.is_judged.ensures.promised c.if-not-is_judged.false) in
     record {
-      accepted = subst (λ (p : Policy). IsAccepted program p certificate) is (c.check.ensures.ok.0 ok);
-      secure = subst (Secure certificate.mode program) is (c.check.ensures.secure ok promised);
-      read = c.requires.policy;
-      runs = c.linked_programs_run_typed.ensures program certificate.typing c.requires.linked (c.check.ensures.ok.0 ok).typed;
-      errors = subst (λ (p : Policy). LeavesBlocks program p (annotations_of certificate)) is (c.check.ensures.leaves_blocks ok);
+      policy_is = is;
+      answer = judged_answer c.args.policy.now certificate program c.in-Ok-check.accepted (sym c.is_judged.ensures.is ∙ c.if-not-is_judged.false)
+          (ap (λ (p : Policy). verdict program p certificate) (sym is) ∙ sym c.check.ensures.exact ∙ c.in-Ok-check.is);
+      checked = record {
+        accepted = subst (λ (p : Policy). IsAccepted program p certificate) is (c.check.ensures.ok.0 ok);
+        secure = subst (Secure certificate.mode program) is (c.check.ensures.secure ok promised);
+        read = c.requires.policy;
+        runs = c.linked_programs_run_typed.ensures program certificate.typing c.requires.linked (c.check.ensures.ok.0 ok).typed;
+        locked = subst (λ (p : Policy). certificate.mode ≡ modes.Hold → EventsAreLocked program p) is (c.check.ensures.locked ok);
+        errors = subst (λ (p : Policy). LeavesBlocks program p (annotations_of certificate)) is (c.check.ensures.leaves_blocks ok);
+      };
     }
 
 pub check-requires-clause-sound : goal.check-requires-clause-sound
