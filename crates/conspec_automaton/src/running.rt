@@ -89,6 +89,7 @@ fn update(policy: &Policy, state: &mut State, event: &Event, updates: &[Update])
     }
 }
 
+/// Makes one update. None reads the event so far.
 fn update_once(state: &mut State, event: &Event, update: Update)
     requires there { target update < length state.old }
     requires fits { SumFits (moment state.old event.now) update }
