@@ -1,5 +1,5 @@
 -- What a command answers to told files, without a fault of the store, is what its definition gives.
-use Rattle.std.proofs.Common.{◌≡◌, ℕ, List, Some, Result, Ok, Err, inl, inr, refl, sym, ap, subst, ◌∙◌}
+use Rattle.std.proofs.Common.{◌≡◌, ℕ, List, Some, Result, Ok, Err, inl, inr, refl, sym, subst}
 use Rattle.command_words.specs.ReplayWords.{NamedReplay}
 use Rattle.command_words.specs.InlineWords.{NamedInline}
 use Rattle.command_words.specs.Words.{Check, Inline, IsCommand, NamedCommand, Policy, Race, Replay, Show}

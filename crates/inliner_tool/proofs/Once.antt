@@ -1,21 +1,20 @@
 -- Of a command but `inline` its definition gives one answer to the same files.
-use Rattle.std.proofs.Common.{◌≡◌, ◌⊎◌, inl, inr, ℕ, ◌+◌, ◌<◌, ◌≤◌, List, length, Option, Some, None, Result, Ok, Err, refl, sym, ap, subst, ◌∙◌, arith}
+use Rattle.std.proofs.Common.{◌≡◌, ◌⊎◌, inl, inr, ℕ, ◌+◌, ◌<◌, ◌≤◌, List, length, Option, Some, Result, Ok, Err, refl, sym, ap, subst, ◌∙◌, arith}
 use Rattle.std.specs.Prelude.{slice_get}
 use Rattle.bytecode_model.specs.declared.program.LinkedClass.{LinkedClass}
 use Rattle.bytecode_model.specs.declared.program.Method.{Method}
 use Rattle.bytecode_model.specs.declared.program.Program.{Program}
 use Rattle.cert_format.specs.declared.typing.Typing.{Typing}
-use Rattle.command_words.specs.Words.{Check, Inline, NamedCommand, Policy, Race, Replay, Show}
+use Rattle.command_words.specs.Words.{Check, Inline, Policy, Race, Replay, Show}
 use Rattle.input_files.specs.declared.files.Stop.{Stop}
 use Rattle.input_files.specs.declared.replay_inputs.ReplayInputs.{ReplayInputs}
-use Rattle.input_files.specs.Contents.{Contents, check_read, policy_read, race_read, replay_read, show_read}
-use Rattle.type_infer.specs.Untyped.{AreMet, CanBeMet, CannotBeMet, IsUntypedAt, StandsBefore}
+use Rattle.input_files.specs.Contents.{check_read, policy_read, race_read, replay_read, show_read}
+use Rattle.type_infer.specs.Untyped.{CanBeMet, IsUntypedAt, StandsBefore}
 use Rattle.inliner_tool.specs.declared.answer.Answer.{Answer}
 use Rattle.inliner_tool.specs.declared.refusal.Refusal.{Refusal}
 use Rattle.inliner_tool.specs.declared.refusal.Refusal.TheVariants as refusals
-use Rattle.inliner_tool.specs.Answers.{stopped}
 use Rattle.inliner_tool.specs.Classes.{label_of}
-use Rattle.inliner_tool.specs.Decides.{ComesTo, Gives, GivesOnce, IsNoInline, Judged}
+use Rattle.inliner_tool.specs.Decides.{ComesTo, GivesOnce, Judged}
 use Rattle.inliner_tool.specs.Programs.{Step, Types}
 use Rattle.inliner_tool.specs.Replay.{Tells, link_run, replay_answer, steps_told}
 use Rattle.inliner_tool.proofs.RunDecision.{types_are_found}

@@ -1,6 +1,5 @@
 //! How programs run that were accepted or are replayed.
 
-ghost use Rattle.std.specs.Prelude.{◌≡◌};
 ghost use Rattle.inliner_tool.specs.Running.{LinkedRunTyped};
 
 use conspec_parse::kinds_are_told;

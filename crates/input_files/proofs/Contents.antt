@@ -1,5 +1,5 @@
 -- What is read of told files, without a fault of the store, is what they are.
-use Rattle.std.proofs.Common.{◌≡◌, ◌⊎◌, inl, inr, ℕ, ◌<◌, ◌≤◌, nat_lt, Bool, true, false, cond, List, [], ◌∷◌, ◌++◌, length, Option, Some, None, Result, Ok, Err, refl, sym, ap, subst, ◌∙◌, arith}
+use Rattle.std.proofs.Common.{◌≡◌, inl, inr, ℕ, ◌<◌, ◌≤◌, nat_lt, Bool, true, false, cond, List, [], ◌∷◌, ◌++◌, length, Option, Some, None, Result, Ok, Err, refl, sym, ap, subst, ◌∙◌, arith}
 use Rattle.std.proofs.lemmas.Bool.Decides.{nat_tests}
 use Rattle.std.specs.Prelude.{IsSomeAnd}
 use Rattle.class_codec.specs.declared.tree.ClassFile.{ClassFile}
@@ -12,7 +12,7 @@ use Rattle.input_files.specs.declared.files.Stop.TheVariants as stops
 use Rattle.input_files.specs.declared.forms.ReadClass.{ReadClass}
 use Rattle.input_files.specs.declared.named.ReadClasses.{ReadClasses as Classes}
 use Rattle.input_files.specs.Contents.{Contents, bytes_read, classes_read, file_read, named, stop_at}
-use Rattle.input_files.specs.Forms.{Count, Form, IsNoMemory, IsRead, IsRefused, IsTooLong, ReadsForm, Then, Yields}
+use Rattle.input_files.specs.Forms.{Count, Form, IsNoMemory, IsRead, IsRefused, ReadsForm, Then, Yields}
 use Rattle.input_files.specs.Kinds.{class_form}
 use Rattle.input_files.specs.Named.{AreClasses, ReadsClasses, StopsAmong, told_sum}
 use Rattle.input_files.specs.Told.{IsSo, ToldAreRead}

@@ -1,8 +1,5 @@
 -- That what is read of told files, without a fault of the store, is what these are, want of memory aside. (docs/COMMANDS.md)
-use Rattle.std.specs.Prelude.{◌≡◌, ◌≢◌, Some, Result, Ok, Err}
-use Rattle.command_words.specs.InlineWords.{NamedInline}
-use Rattle.command_words.specs.ReplayWords.{NamedReplay}
-use Rattle.command_words.specs.Words.{NamedCheck, NamedPolicy, NamedRace, NamedShow}
+use Rattle.std.specs.Prelude.{◌≡◌, Some, Result, Ok, Err}
 use Rattle.mon_store.specs.Store.{Files, Rose}
 use Rattle.input_files.specs.declared.check_inputs.CheckInputs.{CheckInputs}
 use Rattle.input_files.specs.declared.files.Stop.{Stop}

@@ -1,6 +1,5 @@
 //! What is read of files that a store tells.
 
-ghost use Rattle.std.specs.Prelude.{◌≡◌};
 ghost use Rattle.input_files.specs.Told.{ToldAreRead};
 
 /// Where the store tells its files and has no fault, what is read of the files of a command is a function of them, want of memory
