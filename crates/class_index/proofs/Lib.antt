@@ -1,6 +1,6 @@
 pub mod Aside
 pub mod Declaring
-pub mod NothingLeft
+pub mod Unasked
 pub mod Numbering
 pub mod Owning
 pub mod FieldSearch

@@ -1,43 +1,43 @@
 -- Interfaces that ask for methods of the library. (docs/LINKING.md)
-use Rattle.std.specs.Prelude.{◌≡◌, ℕ, Bool, ◌&&◌, ◌||◌, bytes_eq, List, [], None}
-use Rattle.std.specs.BTreeSet.{BTreeSet}
+use Rattle.std.specs.Prelude.{◌≡◌, ℕ, Bool, false, ◌&&◌, List, map, Option, Some, slice_get}
+use Rattle.std.specs.BTreeMap.{BTreeMap, get}
+use Rattle.std.specs.Cmp.Lexicographic.{slice_cmp}
 use Rattle.std.specs.List.{list_any}
-use Rattle.mon_base.specs.declared.method.MethodId.{MethodId}
+use Rattle.std.specs.Option.{option_map_or}
+use Rattle.std.specs.Ordering.{nat_cmp}
 use Rattle.class_codec.specs.declared.tree.Const.{Const}
 use Rattle.class_codec.specs.declared.tree.Member.{Member}
 use Rattle.class_codec.specs.declared.tree.ClassFile.{ClassFile}
-use Rattle.api_listing.specs.declared.types.ListedMethod.{ListedMethod}
 use Rattle.api_listing.specs.declared.types.Listing.{Listing}
-use Rattle.api_listing.specs.BuiltIn.{MethodRow, method_rows}
-use Rattle.api_listing.specs.Seen.{has_id}
-use Rattle.bytecode_model.specs.Heads.{desc_of, is_interface, name_of}
-use Rattle.bytecode_model.specs.LeftMethods.{is_asked, left_in}
+use Rattle.bytecode_model.specs.Conditions.{id_of, is_of_library}
+use Rattle.bytecode_model.specs.Heads.{is_interface}
+use Rattle.bytecode_model.specs.LeftMethods.{asked_by_named, is_asked}
+use Rattle.bytecode_model.specs.Members.{in_class}
+use Rattle.bytecode_model.specs.SearchOrder.{Name}
 
--- one of the methods has the name and the descriptor, in whatever class
-abbrev pub is_listed_name : List ListedMethod → List ℕ → List ℕ → Bool
-is_listed_name methods name desc = list_any (λ (m : ListedMethod). bytes_eq m.id.name name && bytes_eq m.id.desc desc) methods
+-- an interface asks for the method, and the library has it in this class
+abbrev pub is_asked_of : Listing → Name → List Const → Member → Bool
+is_asked_of listing class pool member = is_asked pool member && is_of_library listing (id_of class pool member)
 
-abbrev pub is_row_name : List MethodRow → List ℕ → List ℕ → Bool
-is_row_name rows name desc = list_any (λ (r : MethodRow). bytes_eq r.1 name && bytes_eq r.2 desc) rows
+-- the file is of an interface that asks for a method of the class
+abbrev pub asks_of : Listing → Name → ClassFile → Bool
+asks_of listing class file = is_interface file.flags && list_any (is_asked_of listing class file.pool) file.methods
 
-abbrev pub is_library_name : List ListedMethod → List ℕ → List ℕ → Bool
-is_library_name methods name desc = is_listed_name methods name desc || is_row_name method_rows name desc
+-- for classes of the library, whether each file is of such an interface
+abbrev pub Asked : Type 0
+Asked = BTreeMap Name (List Bool)
 
--- a name and a descriptor in no class
-abbrev pub key : List ℕ → List ℕ → MethodId
-key name desc = record { class = []; name = name; desc = desc }
+abbrev pub AreAsked : List ClassFile → Listing → Asked → Type 0
+AreAsked files listing asked = (class : Name) (flags : List Bool) → get (slice_cmp nat_cmp) asked class ≡ Some flags → flags ≡ map (asks_of listing class) files
 
--- The set has the names and descriptors of the methods.
-abbrev pub AreListedNames : BTreeSet MethodId → List ListedMethod → Type 0
-AreListedNames names methods = (name desc : List ℕ) → has_id names (key name desc) ≡ is_listed_name methods name desc
+-- whether the flag at a place is set, if there is one
+abbrev pub is_set_at : List Bool → Option ℕ → Bool
+is_set_at flags place = option_map_or (λ (at : ℕ). option_map_or (λ (b : Bool). b) (slice_get flags at) false) place false
 
--- an interface asks for the method, and some class of the library has one of its name and descriptor
-abbrev pub is_asked_of_library : List ListedMethod → List Const → Member → Bool
-is_asked_of_library methods pool member = is_asked pool member && is_library_name methods (name_of pool member) (desc_of pool member)
+-- The given interface of this name, if there is one, asks for no method of the class.
+abbrev pub AsksNothing : List ClassFile → Listing → Name → Name → Type 0
+AsksNothing files listing interface class = list_any (λ id. is_of_library listing (in_class id class)) (asked_by_named files interface) ≡ false
 
-abbrev pub asks_library : List ListedMethod → ClassFile → Bool
-asks_library methods file = is_interface file.flags && list_any (is_asked_of_library methods file.pool) file.methods
-
--- No class leaves a method to the library.
-abbrev pub NothingIsLeft : List ClassFile → Listing → Type 0
-NothingIsLeft files listing = (class : List ℕ) → left_in files listing class ≡ None
+-- No interface of the files does.
+abbrev pub IsUnasked : List ClassFile → Listing → Name → Type 0
+IsUnasked files listing class = (interface : Name) → AsksNothing files listing interface class

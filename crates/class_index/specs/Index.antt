@@ -1,5 +1,5 @@
 -- Ordered maps made once, from which each look-up gives what a plain scan gives. (docs/LINKING.md)
-use Rattle.std.specs.Prelude.{◌≡◌, ℕ, Bool, false, List, length, Option, Vec}
+use Rattle.std.specs.Prelude.{◌≡◌, ℕ, List, length, Option, Vec}
 use Rattle.std.specs.BTreeMap.{BTreeMap, get}
 use Rattle.std.specs.BTreeSet.{BTreeSet}
 use Rattle.std.specs.Global.{Global}
@@ -22,7 +22,7 @@ use Rattle.bytecode_model.specs.Operands.{literals_of}
 use Rattle.class_index.specs.Library.{is_owner, AreShared}
 use Rattle.class_index.specs.Nearest.{AreVersions}
 use Rattle.class_index.specs.InterfaceFields.{AreInterfaceFields}
-use Rattle.class_index.specs.Asking.{NothingIsLeft}
+use Rattle.class_index.specs.Asking.{AreAsked, Asked}
 use Rattle.bytecode_model.specs.SearchOrder.{is_one_of}
 use Rattle.bytecode_model.specs.Places.{ClassesPlaced}
 
@@ -60,7 +60,7 @@ pub record Given : Type 0 where
   pub files : List ClassFile
   pub listing : Listing
 
-pub record IsIndex (files : List ClassFile) (listing : Listing) (classes : List ListedClass) (methods fields : BTreeMap MethodId Found) (near_methods near_fields : Nearest) (of_interfaces : BTreeSet MethodId) (library : BTreeSet MethodId) (owners : BTreeSet (List ℕ)) (shared : Shared) (given : BTreeMap (Vec ℕ Global) ℕ) (asks : Bool) (literals : List (List ℕ)) : Type 0 where
+pub record IsIndex (files : List ClassFile) (listing : Listing) (classes : List ListedClass) (methods fields : BTreeMap MethodId Found) (near_methods near_fields : Nearest) (of_interfaces : BTreeSet MethodId) (library : BTreeSet MethodId) (owners : BTreeSet (List ℕ)) (shared : Shared) (given : BTreeMap (Vec ℕ Global) ℕ) (asked : Asked) (literals : List (List ℕ)) : Type 0 where
   pub all : classes ≡ all_classes listing files
   pub methods_found : AreFirst (methods_declared files listing) methods
   pub fields_found : AreFirst (fields_declared files listing) fields
@@ -71,5 +71,5 @@ pub record IsIndex (files : List ClassFile) (listing : Listing) (classes : List 
   pub owned : (q : List ℕ) → has_name owners q ≡ is_owner listing.methods q
   pub lists : AreShared owners classes shared
   pub placed : ClassesPlaced given (heads_of files)
-  pub unasked : asks ≡ false → NothingIsLeft files listing
+  pub asks : AreAsked files listing asked
   pub texts : literals ≡ literals_of files

@@ -1,89 +1,123 @@
-//! Interfaces of the files that ask for methods which some class of the library has. Where there is none, no class leaves a method
-//! to the library.
+//! Interfaces of the files that ask for methods of the library. Where none above a class asks for a method of a class above it,
+//! the class leaves none to the library.
 
-ghost use Rattle.std.specs.Prelude.{◌≡◌, ◌||◌, ◌&&◌, ℕ, List, bytes_eq, IfOk, OnOk};
+ghost use Rattle.std.specs.Prelude.{◌≡◌, ◌++◌, ◌∷◌, [], map, IfOk, OnOk};
 ghost use Rattle.std.specs.List.{list_any};
-ghost use Rattle.api_listing.specs.BuiltIn.{method_rows};
+ghost use Rattle.mon_base.specs.declared.method.MethodId.{MethodId};
+ghost use Rattle.api_listing.specs.Listing.{has_method};
 ghost use Rattle.api_listing.specs.Seen.{has_id};
-ghost use Rattle.bytecode_model.specs.Conditions.{is_run};
 ghost use Rattle.bytecode_model.specs.LeftMethods.{is_asked};
-ghost use Rattle.class_index.specs.Asking.{asks_library, is_asked_of_library, is_library_name, is_row_name, key, AreListedNames};
+ghost use Rattle.class_index.specs.Asking.{asks_of, is_asked_of, is_set_at, AreAsked};
 
+use crate::library::is_of_library;
 use crate::members::id_of;
-use crate::numbers::key_of;
-use api_listing::{ListedMethod, METHODS};
+use api_listing::Listing;
 use bytecode_model::{is_interface, is_static, is_text, text_at};
 use class_codec::{ClassFile, Const, Member};
-use mon_base::{MethodId, NoMemory};
+use mon_base::{Bytes, List, MethodId, NoMemory};
 use std::alloc::Global;
-use std::collections::BTreeSet;
+use std::collections::{BTreeMap, BTreeSet};
 
-/// Whether one of the files is of an interface that asks for a method which some class of the library has.
-pub fn any_asks_library(
+/// For classes of the library, whether each file is of an interface that asks for a method of the class.
+pub type Asked = BTreeMap<Bytes, List<bool>>;
+
+/// Adds what the files ask of these classes of the library.
+pub fn add_asked(
     alloc: Global,
     files: &[ClassFile],
-    listed: &[ListedMethod],
-) -> Result<bool, NoMemory>
-    ensures { IfOk result (λ asks. asks ≡ list_any (asks_library listed.now) files.now) }
+    listing: &Listing,
+    methods: &BTreeSet<MethodId>,
+    asked: &mut Asked,
+    classes: &[Bytes],
+) -> Result<(), NoMemory>
+    requires methods { (q : MethodId) → has_id methods.now q ≡ has_method listing.now.methods q }
+    requires asked { AreAsked files.now listing.now asked.old }
+    ensures { OnOk result (AreAsked files.now listing.now asked.new) }
 {
-    let names = listed_names(alloc, listed)?;
-    any_asks(alloc, &names, listed, files)
-}
-
-/// The names and descriptors of the methods.
-fn listed_names(alloc: Global, methods: &[ListedMethod]) -> Result<BTreeSet<MethodId>, NoMemory>
-    ensures { IfOk result (λ names. AreListedNames names methods.now) }
-{
-    let mut names = BTreeSet::new(alloc);
-    for method in methods {
-        add_key(alloc, &mut names, &method.id)?;
+    for class in classes {
+        if !asked.contains_key(class) {
+            add_class(alloc, files, listing, methods, asked, class)?;
+        }
     }
-    Ok(names)
-}
-
-/// Adds the name and the descriptor.
-fn add_key(alloc: Global, names: &mut BTreeSet<MethodId>, id: &MethodId) -> Result<(), NoMemory>
-    ensures { OnOk result ((name desc : List ℕ) → has_id names.new (key name desc)
-        ≡ ((bytes_eq id.now.name name && bytes_eq id.now.desc desc) || has_id names.old (key name desc))) }
-{
-    names.insert(key_of(alloc, &id.name, &id.desc)?)?;
     Ok(())
 }
 
-/// Whether one of the files is of such an interface, where these are the names of the methods.
-fn any_asks(
+fn add_class(
     alloc: Global,
-    names: &BTreeSet<MethodId>,
-    listed: &[ListedMethod],
     files: &[ClassFile],
-) -> Result<bool, NoMemory>
-    requires { AreListedNames names.now listed.now }
-    ensures { IfOk result (λ asks. asks ≡ list_any (asks_library listed.now) files.now) }
+    listing: &Listing,
+    methods: &BTreeSet<MethodId>,
+    asked: &mut Asked,
+    class: &Bytes,
+) -> Result<(), NoMemory>
+    requires methods { (q : MethodId) → has_id methods.now q ≡ has_method listing.now.methods q }
+    requires asked { AreAsked files.now listing.now asked.old }
+    ensures { OnOk result (AreAsked files.now listing.now asked.new) }
 {
+    let flags = flags_of(alloc, files, listing, methods, class)?;
+    asked.insert(class.copy(alloc)?, flags)?;
+    Ok(())
+}
+
+/// Whether each file is of an interface that asks for a method of the class.
+fn flags_of(
+    alloc: Global,
+    files: &[ClassFile],
+    listing: &Listing,
+    methods: &BTreeSet<MethodId>,
+    class: &Bytes,
+) -> Result<List<bool>, NoMemory>
+    requires { (q : MethodId) → has_id methods.now q ≡ has_method listing.now.methods q }
+    ensures { IfOk result (λ flags. flags ≡ map (asks_of listing.now class.now) files.now) }
+{
+    let mut flags = List::new(alloc);
     let mut left = files;
     while let [file, rest @ ..] = left {
-        if is_interface(file.flags) && asks(alloc, names, listed, file)? {
-            return Ok(true);
-        }
+        flags.push(asks_of(alloc, listing, methods, class, file)?)?;
         left = rest;
     }
-    Ok(false)
+    Ok(flags)
 }
 
-/// Whether one of the methods of the file is asked of the library.
-fn asks(
+fn asks_of(
     alloc: Global,
-    names: &BTreeSet<MethodId>,
-    listed: &[ListedMethod],
+    listing: &Listing,
+    methods: &BTreeSet<MethodId>,
+    class: &Bytes,
     file: &ClassFile,
 ) -> Result<bool, NoMemory>
-    requires { AreListedNames names.now listed.now }
-    ensures { IfOk result (λ asks. asks ≡ list_any (is_asked_of_library listed.now file.now.pool) file.now.methods) }
+    requires { (q : MethodId) → has_id methods.now q ≡ has_method listing.now.methods q }
+    ensures { IfOk result (λ asks. asks ≡ asks_of listing.now class.now file.now) }
 {
-    let pool = file.pool.as_slice();
-    let mut left = file.methods.as_slice();
+    if !is_interface(file.flags) {
+        return Ok(false);
+    }
+    let members = file.methods.as_slice();
+    any_asked(
+        alloc,
+        listing,
+        methods,
+        class,
+        file.pool.as_slice(),
+        members,
+    )
+}
+
+/// Whether one of the methods is asked of the class.
+fn any_asked(
+    alloc: Global,
+    listing: &Listing,
+    methods: &BTreeSet<MethodId>,
+    class: &Bytes,
+    pool: &[Const],
+    members: &[Member],
+) -> Result<bool, NoMemory>
+    requires { (q : MethodId) → has_id methods.now q ≡ has_method listing.now.methods q }
+    ensures { IfOk result (λ asked. asked ≡ list_any (is_asked_of listing.now class.now pool.now) members.now) }
+{
+    let mut left = members;
     while let [member, rest @ ..] = left {
-        if is_asked_of_library(alloc, names, listed, pool, member)? {
+        if is_asked_of(alloc, listing, methods, class, pool, member)? {
             return Ok(true);
         }
         left = rest;
@@ -91,21 +125,23 @@ fn asks(
     Ok(false)
 }
 
-fn is_asked_of_library(
+fn is_asked_of(
     alloc: Global,
-    names: &BTreeSet<MethodId>,
-    listed: &[ListedMethod],
+    listing: &Listing,
+    methods: &BTreeSet<MethodId>,
+    class: &Bytes,
     pool: &[Const],
     member: &Member,
 ) -> Result<bool, NoMemory>
-    requires { AreListedNames names.now listed.now }
-    ensures { IfOk result (λ asked. asked ≡ is_asked_of_library listed.now pool.now member.now) }
+    requires { (q : MethodId) → has_id methods.now q ≡ has_method listing.now.methods q }
+    ensures { IfOk result (λ asked. asked ≡ is_asked_of listing.now class.now pool.now member.now) }
 {
     if !is_asked(pool, member) {
         return Ok(false);
     }
     let (name, desc) = (text_at(pool, member.name), text_at(pool, member.desc));
-    is_library_name(alloc, names, listed, name, desc)
+    let id = id_of(alloc, class.as_slice(), name, desc)?;
+    Ok(is_of_library(listing, methods, &id))
 }
 
 /// Whether an interface asks for the method: one of objects, other than the `run ()V` of a thread.
@@ -117,36 +153,22 @@ pub fn is_asked(pool: &[Const], member: &Member) -> bool
     !is_static(member.flags) && !(is_text(name, "run") && is_text(desc, "()V"))
 }
 
-/// Whether some class of the library has a method of the name and the descriptor.
-fn is_library_name(
-    alloc: Global,
-    names: &BTreeSet<MethodId>,
-    listed: &[ListedMethod],
-    name: &[u8],
-    desc: &[u8],
-) -> Result<bool, NoMemory>
-    requires { AreListedNames names.now listed.now }
-    ensures { IfOk result (λ is. is ≡ is_library_name listed.now name.now desc.now) }
+/// Whether one of the flags is set.
+pub fn any_set(flags: &[bool]) -> bool
+    ensures { result ≡ list_any (λ b. b) flags.now }
 {
-    let key = id_of(alloc, b"".as_slice(), name, desc)?;
-    Ok(names.contains(&key) || is_built_in_name(name, desc))
+    flags.iter().any(|flag| *flag)
 }
 
-/// Whether some class has a built-in method of the name and the descriptor.
-fn is_built_in_name(name: &[u8], desc: &[u8]) -> bool
-    ensures { result ≡ is_row_name method_rows name.now desc.now }
+/// Whether the flag at the place is set, if there is one.
+pub fn is_set_at(flags: &[bool], place: Option<usize>) -> bool
+    ensures { result ≡ is_set_at flags.now place }
 {
-    is_row_name(METHODS.as_slice(), name, desc)
-}
-
-/// Whether one of the rows has the name and the descriptor.
-fn is_row_name(rows: &[(&str, &str, &str, bool)], name: &[u8], desc: &[u8]) -> bool
-    ensures { result ≡ list_any (λ r. bytes_eq r.1.now name.now && bytes_eq r.2.now desc.now) rows.now }
-{
-    for (_, named, described, _) in rows {
-        if named.as_bytes() == name && described.as_bytes() == desc {
-            return true;
-        }
+    match place {
+        Some(at) => match flags.get(at) {
+            Some(flag) => *flag,
+            None => false,
+        },
+        None => false,
     }
-    false
 }

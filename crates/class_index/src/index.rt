@@ -11,28 +11,26 @@ ghost use Rattle.api_listing.specs.Nearest.{names_of};
 ghost use Rattle.bytecode_model.specs.LeftMethods.{given_interface, is_open_to_all, offers, offers_at};
 ghost use Rattle.bytecode_model.specs.Places.{ClassesPlaced};
 ghost use Rattle.bytecode_model.specs.SearchOrder.{search_order, superclasses};
-ghost use Rattle.class_index.specs.Asking.{NothingIsLeft};
+ghost use Rattle.class_index.specs.Asking.{AreAsked, AsksNothing, IsUnasked};
 ghost use Rattle.class_index.specs.InterfaceFields.{AreInterfaceFields};
 ghost use Rattle.bytecode_model.specs.Members.{field_of, fields_declared, method_of, methods_declared};
-ghost use Rattle.bytecode_model.specs.Conditions.{is_of_library, is_run};
-ghost use Rattle.api_listing.specs.BuiltIn.{is_built_in};
+ghost use Rattle.bytecode_model.specs.Conditions.{is_of_library};
 ghost use Rattle.bytecode_model.specs.Operands.{known_in, literals_of, place_of};
 ghost use Rattle.class_index.specs.Index.{found_in, AreFirst, declared_of};
 ghost use Rattle.class_index.specs.Library.{is_owner, AreShared, OverridesAs};
 ghost use Rattle.class_index.specs.Nearest.{AreVersions};
 
-use crate::asking::any_asks_library;
+use crate::asking::{Asked, add_asked, any_set, is_set_at};
 use crate::classes::Classes;
 use crate::declared::{first_declared, listed_methods, owners_of};
 use crate::interface_fields::interface_fields;
-use crate::library::{Shared, owners_above, shared_of};
+use crate::library::{Shared, is_of_library, owners_above, owners_among, shared_of};
 use crate::members::{field_of, method_of};
 use crate::nearest::{Nearest, nearest_of};
 use crate::search::{search_order, superclasses};
-use api_listing::{ListedClass, ListedMethod, Listing, is_built_in};
+use api_listing::{ListedClass, ListedMethod, Listing};
 use bytecode_model::{
-    ByName, Found, Literals, MemberKind, Target, class_places, is_interface, is_public, is_text,
-    noted,
+    ByName, Found, Literals, MemberKind, Target, class_places, is_interface, is_public, noted,
 };
 use class_codec::ClassFile;
 use mon_base::{Bytes, List, MethodId, NoMemory};
@@ -53,11 +51,11 @@ pub struct Index<'a> {
     given: Given,
 }
 
-/// Where the files' classes stand, and whether an interface among them asks for a method that some class of the library has.
+/// Where the files' classes stand, and what interfaces among them ask of the classes of the library above them.
 #[derive(Drop)]
 struct Given {
     places: ByName<usize>,
-    asks: bool,
+    asked: Asked,
 }
 
 /// What is declared, and which class declares it nearest.
@@ -87,7 +85,7 @@ impl<'a> Model for Index<'a> {
 
     ghost invariant = { λ i. IsIndex i.files.now i.listing.now i.classes.now i.members.methods i.members.fields
         i.members.near_methods i.members.near_fields i.members.of_interfaces i.library.methods i.library.owners i.library.shared
-        i.given.places i.given.asks i.literals.now };
+        i.given.places i.given.asked i.literals.now };
 }
 
 impl<'a> Index<'a> {
@@ -111,7 +109,7 @@ impl<'a> Index<'a> {
     {
         let library = library_of(alloc, classes, heads, listing.methods.as_slice())?;
         let members = members_of(alloc, classes, files, listing)?;
-        let given = given_of(alloc, files, heads, listing)?;
+        let given = given_of(alloc, classes, files, heads, listing, &library)?;
         Ok(Index {
             files,
             listing,
@@ -215,18 +213,42 @@ impl<'a> Index<'a> {
         }
     }
 
-    /// Whether a given interface asks for a method that some class of the library has: else no class leaves one to the library.
-    pub fn asks_library(&self) -> bool
-        ensures { result ≡ false → NothingIsLeft self.now.files self.now.listing }
+    /// Whether a given interface may ask for a method that the library has in this class.
+    pub fn may_be_asked(&self, class: &Bytes) -> bool
+        ensures { result ≡ false → IsUnasked self.now.files self.now.listing class.now }
     {
-        self.given.asks
+        match self.given.asked.get(class) {
+            Some(flags) => any_set(flags.as_slice()),
+            None => true,
+        }
+    }
+
+    /// Whether the given interface of this name, if there is one, may ask for a method that the library has in the class.
+    pub fn may_ask(&self, interface: &Bytes, class: &Bytes) -> bool
+        ensures { result ≡ false → AsksNothing self.now.files self.now.listing interface.now class.now }
+    {
+        match self.given.asked.get(class) {
+            Some(flags) => is_set_at(
+                flags.as_slice(),
+                noted(&self.given.places, interface.as_slice()),
+            ),
+            None => true,
+        }
+    }
+
+    /// Those of the classes that may have methods of the library.
+    pub fn library_among(&self, alloc: Global, classes: &[Bytes]) -> Result<List<Bytes>, NoMemory>
+        ensures { IfOk result (λ some. OverridesAs self.now.listing some classes.now) }
+    {
+        let some = owners_among(alloc, &self.library.owners, classes)?;
+        Ok(some)
     }
 
     /// Whether the library declares the method in this very class. That a Thread or a Runnable runs counts for nothing.
     pub fn is_of_library(&self, id: &MethodId) -> bool
         ensures { result ≡ is_of_library self.now.listing id.now }
     {
-        self.library.methods.contains(id) || is_built_in_but_run(id)
+        is_of_library(self.listing, &self.library.methods, id)
     }
 
     /// The place of a text among the literals. No memory holds more texts than a number of 32 bits counts.
@@ -311,20 +333,47 @@ fn library_of(
     })
 }
 
-/// Where the classes of the files stand, and whether an interface among them asks for a method of the library.
+/// Where the classes of the files stand, and what interfaces among them ask of the classes of the library above them.
 fn given_of(
     alloc: Global,
+    classes: &Classes,
     files: &[ClassFile],
     heads: &[ListedClass],
     listing: &Listing,
+    library: &Library,
 ) -> Result<Given, NoMemory>
     requires heads { heads.now ≡ heads_of files.now }
+    requires methods { (q : MethodId) → has_id library.now.methods q ≡ has_method listing.now.methods q }
+    requires shared { AreShared library.now.owners classes.now library.now.shared }
     ensures places { IfOk result (λ given. ClassesPlaced given.places (heads_of files.now)) }
-    ensures asks { IfOk result (λ given. given.asks ≡ false → NothingIsLeft files.now listing.now) }
+    ensures asked { IfOk result (λ given. AreAsked files.now listing.now given.asked) }
 {
     let places = class_places(alloc, heads)?;
-    let asks = any_asks_library(alloc, files, listing.methods.as_slice())?;
-    Ok(Given { places, asks })
+    let asked = asked_above(alloc, classes, files, heads, listing, library)?;
+    Ok(Given { places, asked })
+}
+
+/// What interfaces among the files ask of the classes of the library above these classes.
+fn asked_above(
+    alloc: Global,
+    classes: &Classes,
+    files: &[ClassFile],
+    given: &[ListedClass],
+    listing: &Listing,
+    library: &Library,
+) -> Result<Asked, NoMemory>
+    requires methods { (q : MethodId) → has_id library.now.methods q ≡ has_method listing.now.methods q }
+    requires shared { AreShared library.now.owners classes.now library.now.shared }
+    ensures { IfOk result (AreAsked files.now listing.now) }
+{
+    let (owners, shared) = (&library.owners, &library.shared);
+    let mut asked = BTreeMap::new(alloc);
+    for class in given {
+        let above = owners_above(alloc, classes, owners, shared, &class.name)?;
+        let names = above.as_slice();
+        add_asked(alloc, files, listing, &library.methods, &mut asked, names)?;
+    }
+    Ok(asked)
 }
 
 /// Whether the target is a public method of objects, of a class of the files that is no interface.
@@ -347,16 +396,4 @@ fn offers_at(file: &ClassFile, index: usize) -> bool
         Some(method) => is_public(method.flags) && !is_interface(file.flags),
         None => false,
     }
-}
-
-fn is_built_in_but_run(id: &MethodId) -> bool
-    ensures { result ≡ (is_built_in id.now.class id.now.name id.now.desc && not (is_run id.now.name id.now.desc)) }
-{
-    is_built_in(id.class.as_slice(), id.name.as_slice(), id.desc.as_slice()) && !is_run(id)
-}
-
-fn is_run(id: &MethodId) -> bool
-    ensures { result ≡ is_run id.now.name id.now.desc }
-{
-    is_text(id.name.as_slice(), "run") && is_text(id.desc.as_slice(), "()V")
 }

@@ -2,18 +2,23 @@
 //! which the way up leads to one class by nothing but steps: by classes that may have none, and whose interfaces are
 //! quiet.
 
-ghost use Rattle.std.specs.Prelude.{◌≡◌, ◌+◌, ◌++◌, ◌∷◌, [], ℕ, List, length, IfOk, IfSome, OnOk};
+ghost use Rattle.std.specs.Prelude.{◌≡◌, ◌+◌, ◌++◌, ◌∷◌, ◌&&◌, [], not, ℕ, List, length, IfOk, IfSome, OnOk};
 ghost use Rattle.std.specs.List.{filter};
 ghost use Rattle.api_listing.specs.declared.types.ListedClass.{ListedClass};
+ghost use Rattle.mon_base.specs.declared.method.MethodId.{MethodId};
+ghost use Rattle.api_listing.specs.BuiltIn.{is_built_in};
+ghost use Rattle.api_listing.specs.Listing.{has_method};
+ghost use Rattle.api_listing.specs.Seen.{has_id};
+ghost use Rattle.bytecode_model.specs.Conditions.{is_of_library, is_run};
 ghost use Rattle.bytecode_model.specs.SearchOrder.{search_order};
 ghost use Rattle.class_index.specs.Library.{may_own, owners_up, AreQuiet, AreShared, IsShared, Owners};
 
 use crate::classes::Classes;
 use crate::quiet::{are_among, may_own, quiet_of};
 use crate::search::{add_copy, add_names, search_order};
-use api_listing::ListedClass;
-use bytecode_model::{ByName, note, noted};
-use mon_base::{Bytes, List, NoMemory};
+use api_listing::{ListedClass, Listing, is_built_in};
+use bytecode_model::{ByName, is_text, note, noted};
+use mon_base::{Bytes, List, MethodId, NoMemory};
 use std::alloc::Global;
 use std::collections::{BTreeMap, BTreeSet};
 
@@ -256,7 +261,7 @@ fn known_above<'a>(classes: &Classes, shared: &'a Shared, name: &Bytes) -> Optio
 }
 
 /// Those of the classes that may have methods of the library.
-fn owners_among(
+pub fn owners_among(
     alloc: Global,
     owners: &BTreeSet<Bytes>,
     order: &[Bytes],
@@ -270,6 +275,26 @@ fn owners_among(
         left = rest;
     }
     Ok(some)
+}
+
+/// Whether the library declares the method in this very class. That a Thread or a Runnable runs counts for nothing.
+pub fn is_of_library(listing: &Listing, methods: &BTreeSet<MethodId>, id: &MethodId) -> bool
+    requires { (q : MethodId) → has_id methods.now q ≡ has_method listing.now.methods q }
+    ensures { result ≡ is_of_library listing.now id.now }
+{
+    methods.contains(id) || is_built_in_but_run(id)
+}
+
+fn is_built_in_but_run(id: &MethodId) -> bool
+    ensures { result ≡ (is_built_in id.now.class id.now.name id.now.desc && not (is_run id.now.name id.now.desc)) }
+{
+    is_built_in(id.class.as_slice(), id.name.as_slice(), id.desc.as_slice()) && !is_run(id)
+}
+
+fn is_run(id: &MethodId) -> bool
+    ensures { result ≡ is_run id.now.name id.now.desc }
+{
+    is_text(id.name.as_slice(), "run") && is_text(id.desc.as_slice(), "()V")
 }
 
 fn add_owner(

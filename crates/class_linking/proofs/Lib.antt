@@ -9,6 +9,7 @@ pub mod Whole
 pub mod Constants
 pub mod Parts
 pub mod Nearest
+mod NothingLeft
 mod LinkedMembers
 mod LinkedOperands
 mod LinkedCalls

@@ -44,8 +44,9 @@ pub fn methods_linked(
     let class = copy_class(alloc, file.pool.as_slice(), file.this_class)?;
     let order = index.library_above(alloc, &class)?;
     let mut known = Known::new(alloc, file.pool.len())?;
-    let methods = each_linked(alloc, index, order.as_slice(), file, &class, &mut known)?;
-    nothing_left(alloc, index, file, &class)?;
+    let order = order.as_slice();
+    let methods = each_linked(alloc, index, order, file, &class, &mut known)?;
+    nothing_left(alloc, index, order, file, &class)?;
     Ok(methods)
 }
 
@@ -53,14 +54,16 @@ pub fn methods_linked(
 fn nothing_left(
     alloc: Global,
     index: &Index,
+    order: &[Bytes],
     file: &ClassFile,
     class: &Bytes,
 ) -> Result<(), LinkFault>
-    requires { class.now ≡ (head_of file.now).name }
+    requires class { class.now ≡ (head_of file.now).name }
+    requires order { OverridesAs index.now.listing order.now (search_order (all_classes index.now.listing index.now.files) class.now) }
     ensures { Answers LinkFault.Memory result
         (nothing_left class.now (left_to_library index.now.files index.now.listing (head_of file.now))) }
 {
-    match left_to_library(alloc, index, file, class)? {
+    match left_to_library(alloc, index, order, file, class)? {
         Some(name) => Err(LinkFault::Overrides {
             class: class.copy(alloc)?,
             name,
