@@ -55,7 +55,8 @@ pub struct Checked {
 
 /// The answer to `check`.
 pub fn answer_check<S: Store>(alloc: Global, words: &CheckWords, store: &mut S) -> Answer
-    ensures says { IsAnswer (λ answer. CarriesOut (seen S.files S.faults S.last store.old store.new) (Check (check_named words.now)) answer) result }
+    ensures says { IsAnswer (λ answer. CarriesOut (seen S.files S.faults S.last store.old store.new)
+        (Check (check_named words.now)) answer) result }
     ensures holds { EndsWell result
         → Holds (seen S.files S.faults S.last store.old store.new) (check_named words.now) }
     ensures files { S.files store.new ≡ S.files store.old }
@@ -119,7 +120,8 @@ fn linked_checked(
     requires linked { IfOk linked IsLinkedProgram }
     requires policy { IfOk linked (λ program. IsPolicyOf program.listing policy.now) }
     ensures program { IfOk result (λ checked. linked ≡ Ok checked.program) }
-    ensures checked { IfOk result (λ checked. ProgramIsCheckedAs policy.now certificate.now checked.program checked.policy checked.accepted) }
+    ensures checked { IfOk result (λ checked.
+        ProgramIsCheckedAs policy.now certificate.now checked.program checked.policy checked.accepted) }
     ensures answer { (step : Step Program) → UnlessMemory (Equals step) linked
         → IfErr result (λ answer. Is answer (linked_answer policy.now certificate.now step)) }
     ensures no { IfErr result (λ answer. EndsWell answer → ⊥) }

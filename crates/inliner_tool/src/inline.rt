@@ -60,7 +60,7 @@ use block_template::{PolicyPlan, plans_are_good};
 use bytecode_model::{LinkedClass, Program, Side};
 use cert_checker::{Accepted, check};
 use cert_format::{CertLong, Certificate, Mode, Typing};
-use cert_maker::{make, woven_is_accepted};
+use cert_maker::{make, told, told_is_typed, woven_is_accepted};
 use class_codec::ClassFile;
 use class_linking::{linked_is_in_order, linked_operands_are_right, linked_programs_are_named};
 use class_weaving::Woven;
@@ -74,7 +74,6 @@ use mon_store::{Output, Store, WriteFault, write_all};
 use offset_patch::SpliceFault;
 use policy_weaving::inline;
 use std::alloc::Global;
-use cert_maker::{told, told_is_typed};
 use type_lattice::Indexed;
 use woven_linking::{original_is_free, program_with, woven_files_link, woven_program_is_linked};
 use woven_typing::{
@@ -101,7 +100,8 @@ pub struct Given {
 
 /// The answer to `inline`.
 pub fn answer_inline<S: Store>(alloc: Global, words: &InlineWords, store: &mut S) -> Answer
-    ensures says { IsAnswer (λ answer. CarriesOut (seen S.files S.faults S.last store.old store.new) (Inline (inline_named words.now)) answer) result }
+    ensures says { IsAnswer (λ answer. CarriesOut (seen S.files S.faults S.last store.old store.new)
+        (Inline (inline_named words.now)) answer) result }
     ensures inlined { EndsWell result → IsInlined (seen S.files S.faults S.last store.old store.new) (inline_named words.now) }
     ensures files { Begins (seen S.files S.faults S.last store.old store.new) (inline_named words.now) }
     ensures faults { S.faults store.old ≤ S.faults store.new }

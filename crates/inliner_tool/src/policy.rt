@@ -18,7 +18,8 @@ use std::alloc::Global;
 
 /// The answer to `policy`.
 pub fn answer_policy<S: Store>(alloc: Global, words: &PolicyWords, store: &mut S) -> Answer
-    ensures says { IsAnswer (λ answer. CarriesOut (seen S.files S.faults S.last store.old store.new) (Policy (policy_named words.now)) answer) result }
+    ensures says { IsAnswer (λ answer. CarriesOut (seen S.files S.faults S.last store.old store.new)
+        (Policy (policy_named words.now)) answer) result }
     ensures files { S.files store.new ≡ S.files store.old }
     ensures faults { S.faults store.old ≤ S.faults store.new }
 {

@@ -21,7 +21,8 @@ use std::alloc::Global;
 
 /// The answer to `race`.
 pub fn answer_race<S: Store>(alloc: Global, words: &RaceWords, store: &mut S) -> Answer
-    ensures says { IsAnswer (λ answer. CarriesOut (seen S.files S.faults S.last store.old store.new) (Race (race_named words.now)) answer) result }
+    ensures says { IsAnswer (λ answer. CarriesOut (seen S.files S.faults S.last store.old store.new)
+        (Race (race_named words.now)) answer) result }
     ensures files { S.files store.new ≡ S.files store.old }
     ensures faults { S.faults store.old ≤ S.faults store.new }
 {

@@ -33,7 +33,8 @@ use type_lattice::Indexed;
 
 /// The answer to `replay`.
 pub fn answer_replay<S: Store>(alloc: Global, words: &ReplayWords, store: &mut S) -> Answer
-    ensures says { IsAnswer (λ answer. CarriesOut (seen S.files S.faults S.last store.old store.new) (Replay (replay_named words.now)) answer) result }
+    ensures says { IsAnswer (λ answer. CarriesOut (seen S.files S.faults S.last store.old store.new)
+        (Replay (replay_named words.now)) answer) result }
     ensures runs { EndsWell result
         → ReplayedRuns (seen S.files S.faults S.last store.old store.new) (replay_named words.now) }
     ensures files { S.files store.new ≡ S.files store.old }

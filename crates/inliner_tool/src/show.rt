@@ -23,7 +23,8 @@ use std::alloc::Global;
 
 /// The answer to `show`.
 pub fn answer_show<S: Store>(alloc: Global, words: &ShowWords, store: &mut S) -> Answer
-    ensures says { IsAnswer (λ answer. CarriesOut (seen S.files S.faults S.last store.old store.new) (Show (show_named words.now)) answer) result }
+    ensures says { IsAnswer (λ answer. CarriesOut (seen S.files S.faults S.last store.old store.new)
+        (Show (show_named words.now)) answer) result }
     ensures files { S.files store.new ≡ S.files store.old }
     ensures faults { S.faults store.old ≤ S.faults store.new }
 {

@@ -42,7 +42,8 @@ fn certified<S: Store>(
     ensures read { ReadsBefore (S.files store.old) (since (S.faults store.old) (S.faults store.new) (S.last store.new))
         (check_named words.now).certificate (certificate_form vars) (check_named words.now).classes result }
     ensures fits { IfOk result (λ r. AllByRecursion CanSpell r.1.files) }
-    ensures certificate { IfOk result (λ r. HasFile (S.files store.old) words.now.certificate.now (λ bytes. SpellsCertificate bytes vars r.0)) }
+    ensures certificate { IfOk result (λ r. HasFile (S.files store.old) words.now.certificate.now
+        (λ bytes. SpellsCertificate bytes vars r.0)) }
     ensures classes { IfOk result (λ r. AreSpelled (S.files store.old) words.now.classes.now r.1.files) }
     ensures files { S.files store.new ≡ S.files store.old }
     ensures faults { S.faults store.old ≤ S.faults store.new }

@@ -6,7 +6,8 @@ ghost use Rattle.mon_base.specs.Answer.{Answers};
 ghost use Rattle.conspec_automaton.specs.Racing.{IsRaceFree, IsRaceFreeFor, all_pairs};
 ghost use Rattle.conspec_automaton.specs.Sound.{IsPolicy};
 ghost use Rattle.conspec_automaton.specs.Trying.{is_small, point_count};
-ghost use Rattle.race_free_check.specs.Deciding.{AreClausesOf, broken_in, all_small, decided, decided_for, judged, second_place, small_or_told};
+ghost use Rattle.race_free_check.specs.Deciding.{AreClausesOf, broken_in, all_small, decided, decided_for, judged};
+ghost use Rattle.race_free_check.specs.Deciding.{second_place, small_or_told};
 ghost use Rattle.race_free_check.specs.Limit.{AllHaveFewPoints, TellsLimit};
 ghost use Rattle.race_free_check.specs.Shown.{ShowsRace};
 
