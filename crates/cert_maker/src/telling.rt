@@ -110,7 +110,7 @@ fn frame_told(
 }
 
 /// The locals as they are told.
-#[tactic(auto, using(crate::proofs::Trimming::trimmed_stays))]
+#[tactic(auto, using(crate::proofs::ToldTrimming::trimmed_stays))]
 fn locals_told(
     alloc: Global,
     before: &[Option<FrameType>],
