@@ -16,8 +16,9 @@ use Rattle.guest_model.specs.Runs.{exec, start_of, trace}
 use Rattle.guest_model.specs.Stepping.{changed, doing_stepped}
 use Rattle.guest_model.proofs.Always.{EachChangeKeeps, holds_always}
 use Rattle.guest_model.proofs.Options.{and_then_of, some_is}
-use Rattle.block_logic.specs.Fitting.{Fits, IsClient, IsKept, IsLocked, IsOwner, IsUnlocked, held_locks, locked_by}
-use Rattle.block_logic.proofs.Composing.{Moves, StepLaws, Takes, client_keeps, client_moves, locked_after, owner_keeps, owner_moves, unlocked_after}
+use Rattle.block_logic.specs.Agreement.{Part}
+use Rattle.block_logic.specs.Fitting.{AreOthers, Fits, IsClient, IsKept, IsLocked, IsOwner, IsUnlocked, held_locks, locked_by}
+use Rattle.block_logic.proofs.Composing.{Moves, StepLaws, Takes, client_keeps, client_moves, holder_keeps, own_part, owner_moves}
 use Rattle.block_logic.proofs.Steps.{ChangesClient, ChangesOwner, StartsWell}
 
 -- what is done unless the program was stopped
@@ -49,37 +50,51 @@ module _ (program : Program) (policy : Policy) (annotations : Annotations) (laws
     abbrev Now : Type 0
     Now = IsKept program policy annotations (applied step.thread machine change) (seen ++ option_to_list change.event)
 
+    abbrev Unlocked : Type 0
+    Unlocked = IsUnlocked program policy annotations machine fits.recorded fits.fields fits.among
+
+    abbrev Locked : Type 0
+    Locked = IsLocked program policy annotations machine fits.recorded fits.fields fits.among
+
+    -- the part of the thread
+    pub part : (p : Part) × (slice_get fits.among step.thread ≡ Some p)
+    part = own_part program policy annotations laws machine fits.world step.thread thread change there seen fits.among fits.each
+
     module _ (followed : IsFollowed policy seen) where
+      client : ChangesClient program policy annotations (world_of machine) change → Unlocked ⊎ ((l : Locked) × (l.owner ≢ step.thread)) → Now
+      client c lock = client_keeps program policy annotations laws machine seen fits step.thread thread change there followed c lock
+
+      holder : (p : Part) → slice_get fits.among step.thread ≡ Some p → ChangesOwner program policy annotations step.thread fits.recorded p change
+          → AreOthers program policy annotations (λ n. n ≢ step.thread) machine.threads fits.among → Now
+      holder p is c others = holder_keeps program policy annotations laws machine seen fits step.thread thread change there followed p is c others
+
       -- Nobody held the lock.
-      from_unlocked : (u : IsUnlocked program policy annotations machine seen fits.fields) → Moves program policy annotations laws machine step.thread change → Now
-      from_unlocked u (inl c) =
-          client_keeps program policy annotations laws machine fits.world step.thread thread change there seen c fits.fields followed fits.there
-          (inl (unlocked_after program policy annotations laws machine fits.world step.thread thread change there seen c fits.fields u))
+      from_unlocked : (u : Unlocked) → Moves program policy annotations laws machine step.thread change → Now
+      from_unlocked u (inl c) = client c (inl u)
       from_unlocked u (inr t) =
-          let c = laws.taking_steps machine t.a t.next change t.site seen fits.fields u.state t.acts t.free u.free u.ranged u.led u.variables fits.there t.stepped in
-          owner_keeps program policy annotations laws machine fits.world step.thread thread change there seen
-          (subst (λ (n : ℕ). ChangesOwner program policy annotations n seen change) t.is c) (λ n other differ e. u.threads n other e)
+          let clear = (u.threads step.thread thread part.0 tt there part.1).clear in
+          let c = laws.taking_steps machine t.a t.next change t.site fits.recorded fits.fields part.0 t.acts t.free clear u.free fits.ranged u.variables fits.there t.stepped in
+          holder part.0 part.1 (subst (λ (n : ℕ). ChangesOwner program policy annotations n fits.recorded part.0 change) t.is c) (λ n other p differ. u.threads n other p tt)
 
       -- One thread held it: the one that steps, or another.
-      from_own : (l : IsLocked program policy annotations machine seen fits.fields) → l.owner ≡ step.thread → Now
+      from_own : (l : Locked) → l.owner ≡ step.thread → Now
       from_own l same =
           let at_step : slice_get machine.threads step.thread ≡ Some l.thread = rw same at l.there in
           let is : l.thread ≡ thread = some_is l.thread thread (sym at_step ∙ there) in
           let locked : held_locks program machine.monitors ≡ locked_by program step.thread = rw same at l.locked in
-          let owner : IsOwner program policy annotations seen fits.fields thread = subst (IsOwner program policy annotations seen fits.fields) is l.owns in
-          owner_keeps program policy annotations laws machine fits.world step.thread thread change there seen
-          (owner_moves program policy annotations laws machine fits.world step.thread thread change thread.doing step.choice seen fits.fields owner locked fits.there made)
-          (λ n other differ e. l.others n other (λ number. differ (number ∙ same)) e)
+          let part_there : slice_get fits.among step.thread ≡ Some l.part = rw same at l.part_there in
+          let owner : IsOwner program policy annotations fits.recorded fits.fields thread l.part = subst (λ (t : Thread). IsOwner program policy annotations fits.recorded fits.fields t l.part) is l.owns in
+          holder l.part part_there
+          (owner_moves program policy annotations laws machine fits.world step.thread thread change fits.recorded fits.fields l.part fits.ranged thread.doing step.choice owner locked fits.there made)
+          (λ n other p differ. l.others n other p (λ number. differ (number ∙ same)))
 
-      from_other : (l : IsLocked program policy annotations machine seen fits.fields) → l.owner ≢ step.thread → Now
+      from_other : (l : Locked) → l.owner ≢ step.thread → Now
       from_other l differ =
-          let client = l.others step.thread thread (λ number. differ (sym number)) there in
-          let c = client_changes l.owner l.locked differ (moves client) in
-          client_keeps program policy annotations laws machine fits.world step.thread thread change there seen c fits.fields followed fits.there
-          (inr (locked_after program policy annotations laws machine fits.world step.thread thread change there seen c fits.fields l differ))
+          let is_client = (l.others step.thread thread part.0 (λ number. differ (sym number)) there part.1).client in
+          client (client_changes l.owner l.locked differ (moves is_client)) (inr (l, differ))
 
-      keeps : IsUnlocked program policy annotations machine seen fits.fields ⊎ IsLocked program policy annotations machine seen fits.fields → Now
-      keeps (inl u) = from_unlocked u (moves (u.threads step.thread thread there))
+      keeps : Unlocked ⊎ Locked → Now
+      keeps (inl u) = from_unlocked u (moves (u.threads step.thread thread part.0 tt there part.1).client)
       keeps (inr l) =
           elim (cases_eq l.owner step.thread) [
             | inl same ↦ from_own l same

@@ -6,7 +6,7 @@ pub mod Tests
 pub mod Told
 pub mod RulesHold
 pub mod Leaving
-pub mod SameEvents
+pub mod Agreement
 pub mod Threads
 pub mod Composing
 pub mod Keeping

@@ -27,7 +27,7 @@ use Rattle.block_logic.specs.Fitting.{Fits, IsKept, IsLocked, IsUnlocked, held_l
 use Rattle.block_logic.specs.Meaning.{IsJudged}
 use Rattle.block_logic.specs.Obeying.{AcceptedObeys, IsObeying, LockIsHeld, LockOrders}
 use Rattle.block_logic.proofs.Composing.{Moves, StepLaws}
-use Rattle.block_logic.proofs.Keeping.{IsMade, always_kept, client_changes, is_made, moves}
+use Rattle.block_logic.proofs.Keeping.{IsMade, always_kept, client_changes, is_made, moves, part}
 use Rattle.block_logic.proofs.Steps.{ChangesClient, StartsWell, TakingIsUnseen}
 use Rattle.block_logic.proofs.Tests.{it_is_there}
 
@@ -104,16 +104,17 @@ module _ (program : Program) (policy : Policy) (annotations : Annotations) (laws
 
   -- A step of another thread than the one that holds the lock.
   module _ (machine : Machine) (events : List Event) (step : Step) (owner : ℕ) (locked : held_locks program machine.monitors ≡ locked_by program owner) (differ : step.thread ≢ owner) where
-    unlocked_not : (fields : List Value) → IsUnlocked program policy annotations machine events fields → ⊥
-    unlocked_not fields u = let free = u.free in absurd cc
+    unlocked_not : (fits : Fits program policy annotations machine events) → IsUnlocked program policy annotations machine fits.recorded fits.fields fits.among → ⊥
+    unlocked_not fits u = let free = u.free in absurd cc
 
     other_changes : (change : Change) (m : IsMade program policy annotations laws machine step change) (fits : Fits program policy annotations machine events)
-        → IsUnlocked program policy annotations machine events fits.fields ⊎ IsLocked program policy annotations machine events fits.fields
+        → IsUnlocked program policy annotations machine fits.recorded fits.fields fits.among ⊎ IsLocked program policy annotations machine fits.recorded fits.fields fits.among
         → ChangesClient program policy annotations (world_of machine) change
-    other_changes change m fits (inl u) = absurd (unlocked_not fits.fields u)
+    other_changes change m fits (inl u) = absurd (unlocked_not fits u)
     other_changes change m fits (inr l) =
         let same : l.owner ≡ owner = one_owner program l.owner owner (sym l.locked ∙ locked) in
-        let client = l.others step.thread m.thread (λ number. differ (number ∙ same)) m.there in
+        let own = part program policy annotations laws machine events fits step m.thread change m.there m.made in
+        let client = (l.others step.thread m.thread own.0 (λ number. differ (number ∙ same)) m.there own.1).client in
         client_changes program policy annotations laws machine events fits step m.thread change m.there m.made owner locked (λ number. differ (sym number))
         (moves program policy annotations laws machine events fits step m.thread change m.there m.made client)
 
@@ -142,16 +143,18 @@ module _ (program : Program) (policy : Policy) (annotations : Annotations) (laws
         absurd cc
 
     holder : (m : IsMade program policy annotations laws machine step change) (fits : Fits program policy annotations machine events)
-        → IsUnlocked program policy annotations machine events fits.fields ⊎ IsLocked program policy annotations machine events fits.fields
+        → IsUnlocked program policy annotations machine fits.recorded fits.fields fits.among ⊎ IsLocked program policy annotations machine fits.recorded fits.fields fits.among
         → held_locks program machine.monitors ≡ locked_by program step.thread
     holder m fits (inl u) =
+        let own = part program policy annotations laws machine events fits step m.thread change m.there m.made in
         absurd (not_free u.free
-        (moves program policy annotations laws machine events fits step m.thread change m.there m.made (u.threads step.thread m.thread m.there)))
+        (moves program policy annotations laws machine events fits step m.thread change m.there m.made (u.threads step.thread m.thread own.0 tt m.there own.1).client))
     holder m fits (inr l) =
         elim (cases_eq l.owner step.thread) [
           | inl same ↦ subst (λ (n : ℕ). held_locks program machine.monitors ≡ locked_by program n) same l.locked
           | inr differ ↦
-              let client = l.others step.thread m.thread (λ number. differ (sym number)) m.there in
+              let own = part program policy annotations laws machine events fits step m.thread change m.there m.made in
+              let client = (l.others step.thread m.thread own.0 (λ number. differ (sym number)) m.there own.1).client in
               absurd (not_client
               (client_changes program policy annotations laws machine events fits step m.thread change m.there m.made l.owner l.locked differ
               (moves program policy annotations laws machine events fits step m.thread change m.there m.made client)))

@@ -31,7 +31,8 @@ use Rattle.guest_model.specs.Finding.{Given}
 use Rattle.guest_model.specs.Layout.{constant_bytes, first_value, is_of_references, starting_value, statics_of, two_bytes, value_of_constant, value_told}
 use Rattle.guest_model.specs.Runs.{first_heap, initialisers}
 use Rattle.guest_model.proofs.Options.{IfThere, all_append, all_map, if_either, if_mapped, if_none, if_some, if_then, is_there, map_of, some_is, there_or}
-use Rattle.block_logic.specs.Fitting.{IsClient, IsCleanObject, state_of}
+use Rattle.block_logic.specs.Agreement.{Clear, Part}
+use Rattle.block_logic.specs.Fitting.{AreOthers, IsClient, IsCleanObject, state_of}
 use Rattle.block_logic.specs.Meaning.{AreClean, IsClean}
 use Rattle.block_logic.specs.Obeying.{IsObeying}
 use Rattle.block_logic.specs.State.{class_fault, field_name, field_type, has_no_more, has_none, is_field_of, is_first, names_first, state_at, tells_first, wrong_field}
@@ -201,10 +202,10 @@ module _ (program : Program) (policy : Policy) (annotations : Annotations) (o : 
 
   -- ---- the start
 
-  one_thread : (begun : Thread) → IsClient program policy annotations begun → (number : ℕ) (thread : Thread) → slice_get (begun ∷ []) number ≡ Some thread
-      → IsClient program policy annotations thread
-  one_thread begun client zero thread e = subst (IsClient program policy annotations) (some_is begun thread e) client
-  one_thread begun client (suc number) thread e = absurd cc
+  one_thread : (begun : Thread) → IsClient program policy annotations begun → AreOthers program policy annotations (λ number. Unit {0}) (begun ∷ []) (Clear ∷ [])
+  one_thread begun client zero thread part meant e is =
+      record { client = subst (IsClient program policy annotations) (some_is begun thread e) client; clear = sym (some_is Clear part is) }
+  one_thread begun client (suc number) thread part meant e is = absurd cc
 
   -- a thread that begins methods does not hold the lock
   pub starts_well : ((to_begin : List Given) → IsClient program policy annotations (rests program to_begin)) → StartsWell program policy annotations
@@ -214,12 +215,10 @@ module _ (program : Program) (policy : Policy) (annotations : Annotations) (o : 
         world = record { heap = heap_clean program; statics = λ class fields differ e. statics_clean program class fields e };
         fields = map values.Int (initial policy);
         there = variables_there;
-        lock = inl (record {
-          free = refl;
-          state = initial policy;
-          ranged = firsts_in_range policy.maxint policy.vars o.good.vars;
-          led = refl;
-          variables = refl;
-          threads = one_thread (rests program to_begin) (rests_client to_begin);
-        });
+        recorded = initial policy;
+        ranged = firsts_in_range policy.maxint policy.vars o.good.vars;
+        among = Clear ∷ [];
+        each = refl;
+        agree = refl;
+        lock = inl (record { free = refl; variables = refl; threads = one_thread (rests program to_begin) (rests_client to_begin) });
       }

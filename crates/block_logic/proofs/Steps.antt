@@ -1,6 +1,5 @@
 -- What the steps of threads change, by whether the thread holds the lock.
-use Rattle.std.specs.Prelude.{◌≡◌, ◌≢◌, ◌⊎◌, ℕ, false, true, IfSome, List, [], ◌++◌, Option, Some, None, slice_get}
-use Rattle.std.specs.Option.{option_to_list}
+use Rattle.std.specs.Prelude.{◌≡◌, ◌≢◌, ◌⊎◌, ℕ, false, true, IfSome, List, [], Option, Some, None, slice_get}
 use Rattle.api_listing.specs.declared.events.Event.{Event}
 use Rattle.insn_codec.specs.declared.insn.Insn.{Insn}
 use Rattle.bytecode_model.specs.declared.program.Program.{Program}
@@ -11,7 +10,6 @@ use Rattle.cert_format.specs.declared.note.Note.TheVariants as notes
 use Rattle.cert_format.specs.declared.note.Site.{Site}
 use Rattle.conspec_automaton.specs.declared.policy.Policy.{Policy}
 use Rattle.conspec_automaton.specs.Next.{Values, has_clause}
-use Rattle.conspec_automaton.specs.Obeys.{IsFollowed}
 use Rattle.conspec_automaton.specs.Range.{in_range}
 use Rattle.guest_heap.specs.declared.thread.Thread.{Thread}
 use Rattle.guest_heap.specs.declared.value.Value.{Value}
@@ -21,8 +19,10 @@ use Rattle.guest_model.specs.Changes.{Change, World, world_of}
 use Rattle.guest_model.specs.Places.{insn_at}
 use Rattle.guest_model.specs.Runs.{start_of}
 use Rattle.guest_model.specs.Stepping.{Acting, call_stepped, insn_stepped}
-use Rattle.block_logic.specs.Fitting.{AreBelow, AreOwnerCall, ArePassed, Fits, IsClient, IsClientCall, IsCleanWorld, IsOwner, held_locks, locked_by, state_of}
-use Rattle.block_logic.specs.Meaning.{AreState, IsFrame, IsFree, Leads, Owns, note_of}
+use Rattle.block_logic.specs.Agreement.{Part, Turns, clause_event}
+use Rattle.block_logic.specs.Agreement as parts
+use Rattle.block_logic.specs.Fitting.{AreBelow, AreOwnerCall, ArePassed, Fits, IsClient, IsClientCall, IsCleanWorld, IsOther, IsOwner, held_locks, locked_by, state_of}
+use Rattle.block_logic.specs.Meaning.{AreState, IsFrame, IsFree, Owns, note_of}
 use Rattle.conspec_automaton.specs.Next.{has_clauses}
 
 module _ (program : Program) (policy : Policy) (annotations : Annotations) where
@@ -62,38 +62,38 @@ module _ (program : Program) (policy : Policy) (annotations : Annotations) where
   -- ---- a thread that takes, holds or leaves the lock
 
   -- The step leaves the lock with its thread, which is as its note says.
-  pub record StaysOwner (number : ℕ) (seen : List Event) (change : Change) : Type 0 where
+  pub record StaysOwner (number : ℕ) (change : Change) (recorded : Values) (part : Part) : Type 0 where
     pub locks : held_locks program change.world.monitors ≡ locked_by program number
     pub fields : List Value
     pub variables : slice_get change.world.statics (state_of program policy annotations) ≡ Some fields
-    pub owns : IsOwner program policy annotations (seen ++ option_to_list change.event) fields change.thread
+    pub owns : IsOwner program policy annotations recorded fields change.thread part
 
-  -- It gives the lock up, and the variables are the state after the events.
-  pub record GivesUp (seen : List Event) (change : Change) : Type 0 where
+  -- It gives the lock up, and the variables are the state that is recorded.
+  pub record GivesUp (change : Change) (recorded : Values) (part : Part) : Type 0 where
     pub locks : held_locks program change.world.monitors ≡ []
-    pub state : Values
-    pub ranged : in_range policy state ≡ true
-    pub led : Leads policy (seen ++ option_to_list change.event) state
     pub fields : List Value
     pub variables : slice_get change.world.statics (state_of program policy annotations) ≡ Some fields
-    pub are : AreState fields state
-    pub client : IsClient program policy annotations change.thread
+    pub are : AreState fields recorded
+    pub other : IsOther program policy annotations change.thread part
 
-  -- What a step of the thread that holds the lock, or takes it, changes; unless it stops the program.
-  pub record ChangesOwner (number : ℕ) (seen : List Event) (change : Change) : Type 0 where
+  -- What a step of the thread that holds the lock, or takes it, changes; and where it is then, unless it stops the program.
+  pub record ChangesOwner (number : ℕ) (recorded : Values) (part : Part) (change : Change) : Type 0 where
     pub begins : change.begins ≡ None
-    pub followed : IsFollowed policy (seen ++ option_to_list change.event)
+    pub now : Values
+    pub ranged : in_range policy now ≡ true
+    pub due : Part
+    pub turns : Turns policy recorded part (clause_event policy change.event) now due
     pub goes : change.stops ≡ None
-        → IsCleanWorld program (state_of program policy annotations) change.world × (StaysOwner number seen change ⊎ GivesUp seen change)
+        → IsCleanWorld program (state_of program policy annotations) change.world × (StaysOwner number change now due ⊎ GivesUp change now due)
 
   -- The lock is taken where nobody holds it.
   abbrev pub TakingSteps : Type 0
   TakingSteps =
-      (machine : Machine) (a : Acting) (next : Insn × Target) (change : Change) (site : Site) (seen : List Event) (fields : List Value) (state : Values)
-      → Acts machine a next (notes.Taking site) → IsFree program policy a.frame (notes.Taking site)
-      → held_locks program machine.monitors ≡ [] → in_range policy state ≡ true → Leads policy seen state → AreState fields state
+      (machine : Machine) (a : Acting) (next : Insn × Target) (change : Change) (site : Site) (recorded : Values) (fields : List Value) (part : Part)
+      → Acts machine a next (notes.Taking site) → IsFree program policy a.frame (notes.Taking site) → part ≡ parts.Clear
+      → held_locks program machine.monitors ≡ [] → in_range policy recorded ≡ true → AreState fields recorded
       → slice_get machine.statics (state_of program policy annotations) ≡ Some fields
-      → insn_stepped program machine a next ≡ Some change → ChangesOwner a.number seen change
+      → insn_stepped program machine a next ≡ Some change → ChangesOwner a.number recorded part change
 
   -- The library sees nothing of the step that takes it.
   abbrev pub TakingIsUnseen : Type 0
@@ -112,22 +112,22 @@ module _ (program : Program) (policy : Policy) (annotations : Annotations) where
   -- An instruction of a block that holds the lock.
   abbrev pub OwnerSteps : Type 0
   OwnerSteps =
-      (machine : Machine) (a : Acting) (next : Insn × Target) (change : Change) (note : Note) (seen : List Event) (fields : List Value)
-      → Acts machine a next note → Owns program policy annotations.held seen fields a.frame note
+      (machine : Machine) (a : Acting) (next : Insn × Target) (change : Change) (note : Note) (recorded : Values) (fields : List Value) (part : Part)
+      → Acts machine a next note → Owns program policy annotations.held recorded fields a.frame note part → in_range policy recorded ≡ true
       → held_locks program machine.monitors ≡ locked_by program a.number
       → slice_get machine.statics (state_of program policy annotations) ≡ Some fields
-      → insn_stepped program machine a next ≡ Some change → ChangesOwner a.number seen change
+      → insn_stepped program machine a next ≡ Some change → ChangesOwner a.number recorded part change
 
   -- An answer to a call that was granted.
   abbrev pub OwnerAnswers : Type 0
   OwnerAnswers =
       (world : World) (number : ℕ) (thread : Thread) (method : ℕ) (receiver : Option Value) (arguments : List Value) (choice : Choice) (change : Change)
-      (seen : List Event) (fields : List Value)
+      (recorded : Values) (fields : List Value) (part : Part)
       → IsCleanWorld program (state_of program policy annotations) world → has_clauses policy method ≡ true
-      → AreOwnerCall program policy annotations seen fields method thread.frames → ArePassed program receiver arguments
+      → AreOwnerCall program policy annotations recorded fields method thread.frames part → ArePassed program receiver arguments → in_range policy recorded ≡ true
       → held_locks program world.monitors ≡ locked_by program number
       → slice_get world.statics (state_of program policy annotations) ≡ Some fields
-      → call_stepped program world number thread method receiver arguments choice ≡ Some change → ChangesOwner number seen change
+      → call_stepped program world number thread method receiver arguments choice ≡ Some change → ChangesOwner number recorded part change
 
   -- ---- the start
 

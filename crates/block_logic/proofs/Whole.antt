@@ -3,12 +3,12 @@ use Rattle.bytecode_model.specs.declared.program.Program.{Program}
 use Rattle.block_logic.specs.Annotations.{Annotations}
 use Rattle.conspec_automaton.specs.declared.policy.Policy.{Policy}
 use Rattle.block_logic.specs.Obeying.{IsObeying}
+use Rattle.block_logic.proofs.Agreement.{SeenIsEnough}
 use Rattle.block_logic.proofs.Client.Answers.{client_answers}
 use Rattle.block_logic.proofs.Client.Steps.{client_steps}
 use Rattle.block_logic.proofs.Composing.{StepLaws}
 use Rattle.block_logic.proofs.Obeyed.{Proved}
 use Rattle.block_logic.proofs.Owner.Answers.{owner_answers}
-use Rattle.block_logic.proofs.Owner.Granted.{SeenIsEnough}
 use Rattle.block_logic.proofs.Owner.Steps.{owner_steps}
 use Rattle.block_logic.proofs.Owner.Taking.{taking_is_unseen, taking_steps, taking_waits}
 use Rattle.block_logic.proofs.Ruled.{BeginsOpen, OpenIsFree, RulesHold}
@@ -34,8 +34,9 @@ module _ (program : Program) (policy : Policy) (annotations : Annotations) (o : 
     client_answers = client_answers program policy annotations o ruled begin free;
     taking_steps = taking_steps program policy annotations o ruled;
     taking_waits = taking_waits program policy annotations o ruled;
-    owner_steps = owner_steps program policy annotations o ruled free seen;
+    owner_steps = owner_steps program policy annotations o ruled free;
     owner_answers = owner_answers program policy annotations o ruled;
+    seen_is_enough = seen;
   }
 
   pub unseen : TakingIsUnseen program policy annotations

@@ -1,5 +1,5 @@
 -- When a machine is as the notes of its threads say, and what of it is no part of any block. (docs/CERTIFICATES.md)
-use Rattle.std.specs.Prelude.{◌≡◌, ◌≢◌, ◌⊎◌, ℕ, true, false, IfSome, List, [], ◌∷◌, filter, Option, Some, None, slice_get}
+use Rattle.std.specs.Prelude.{◌≡◌, ◌≢◌, ◌⊎◌, ℕ, true, false, IfSome, List, [], ◌∷◌, filter, length, Option, Some, None, slice_get}
 use Rattle.std.specs.List.{AllByRecursion}
 use Rattle.api_listing.specs.declared.events.Event.{Event}
 use Rattle.insn_codec.specs.declared.insn.Insn.{Insn}
@@ -11,8 +11,8 @@ use Rattle.cert_format.specs.declared.note.Note.{Note}
 use Rattle.cert_format.specs.declared.note.Note.TheVariants as notes
 use Rattle.cert_format.specs.declared.note.Site.{Site}
 use Rattle.conspec_automaton.specs.declared.policy.Policy.{Policy}
-use Rattle.conspec_automaton.specs.Next.{Values, has_clauses}
-use Rattle.conspec_automaton.specs.Obeys.{IsFollowed}
+use Rattle.conspec_automaton.specs.Next.{Values, has_clauses, initial, next}
+use Rattle.conspec_automaton.specs.Obeys.{IsFollowed, spoken}
 use Rattle.conspec_automaton.specs.Range.{in_range}
 use Rattle.guest_heap.specs.declared.frame.Frame.{Frame}
 use Rattle.guest_heap.specs.declared.object.Monitor.{Monitor}
@@ -27,8 +27,10 @@ use Rattle.guest_model.specs.declared.machine.Machine.{Machine}
 use Rattle.guest_model.specs.Changes.{World, world_of}
 use Rattle.guest_model.specs.Places.{insn_at}
 use Rattle.block_logic.specs.Accepted.{rules_of}
+use Rattle.block_logic.specs.Agreement.{Agree, Part, all_granted, all_owed}
+use Rattle.block_logic.specs.Agreement as parts
 use Rattle.block_logic.specs.Clauses.{needs}
-use Rattle.block_logic.specs.Meaning.{AreClean, AreState, IsBelow, IsClean, IsFrame, IsFree, Leads, Owns, lock_of, note_of}
+use Rattle.block_logic.specs.Meaning.{AreClean, AreState, IsBelow, IsClean, IsFrame, IsFree, Owns, lock_of, note_of}
 use Rattle.block_logic.specs.Operands.{calls}
 
 -- ---- what all share
@@ -98,70 +100,84 @@ IsClientDoing program policy annotations frames doings.Ended = Unit {0}
 abbrev pub IsClient : Program → Policy → Annotations → Thread → Type 0
 IsClient program policy annotations thread = IsClientDoing program policy annotations thread.frames thread.doing
 
+-- It has begun nothing with the automaton.
+pub record IsOther (program : Program) (policy : Policy) (annotations : Annotations) (thread : Thread) (part : Part) : Type 0 where
+  pub client : IsClient program policy annotations thread
+  pub clear : part ≡ parts.Clear
+
 -- ---- the thread that holds the lock
 
-pub record IsOwnerFrame (program : Program) (policy : Policy) (annotations : Annotations) (seen : List Event) (fields : List Value) (frame : Frame) : Type 0 where
+pub record IsOwnerFrame (program : Program) (policy : Policy) (annotations : Annotations) (recorded : Values) (fields : List Value) (frame : Frame) (part : Part) : Type 0 where
   pub well : IsFrame program frame
   pub note : Note
   pub told : note_of program annotations frame ≡ Some note
-  pub owns : Owns program policy annotations.held seen fields frame note
+  pub owns : Owns program policy annotations.held recorded fields frame note part
 
-abbrev pub AreOwnerFrames : Program → Policy → Annotations → List Event → List Value → List Frame → Type 0
-AreOwnerFrames program policy annotations seen fields [] = ⊥
-AreOwnerFrames program policy annotations seen fields (frame ∷ below) =
-    IsOwnerFrame program policy annotations seen fields frame × AreBelow program policy annotations below
+abbrev pub AreOwnerFrames : Program → Policy → Annotations → Values → List Value → List Frame → Part → Type 0
+AreOwnerFrames program policy annotations recorded fields [] part = ⊥
+AreOwnerFrames program policy annotations recorded fields (frame ∷ below) part =
+    IsOwnerFrame program policy annotations recorded fields frame part × AreBelow program policy annotations below
 
--- It is in a call that was granted, and that led to the state of the variables.
-pub record IsOwnerCall (program : Program) (policy : Policy) (annotations : Annotations) (seen : List Event) (fields : List Value) (method : ℕ) (frame : Frame) : Type 0 where
+-- It is in a call that was granted and made; the variables are the state that is recorded.
+pub record IsOwnerCall (program : Program) (policy : Policy) (annotations : Annotations) (recorded : Values) (fields : List Value) (method : ℕ) (frame : Frame) (part : Part) : Type 0 where
   pub hold : holds_round annotations.held method ≡ true
   pub well : IsFrame program frame
   pub site : Site
   pub of : site.method ≡ method
   pub at_call : IsAtCall program annotations method (notes.Granted site true (needs policy method) false) frame
-  pub state : Values
-  pub ranged : in_range policy state ≡ true
-  pub led : Leads policy seen state
-  pub variables : AreState fields state
+  pub clear : part ≡ parts.Clear
+  pub variables : AreState fields recorded
 
-abbrev pub AreOwnerCall : Program → Policy → Annotations → List Event → List Value → ℕ → List Frame → Type 0
-AreOwnerCall program policy annotations seen fields method [] = ⊥
-AreOwnerCall program policy annotations seen fields method (frame ∷ below) =
-    IsOwnerCall program policy annotations seen fields method frame × AreBelow program policy annotations below
+abbrev pub AreOwnerCall : Program → Policy → Annotations → Values → List Value → ℕ → List Frame → Part → Type 0
+AreOwnerCall program policy annotations recorded fields method [] part = ⊥
+AreOwnerCall program policy annotations recorded fields method (frame ∷ below) part =
+    IsOwnerCall program policy annotations recorded fields method frame part × AreBelow program policy annotations below
 
-abbrev pub IsOwnerDoing : Program → Policy → Annotations → List Event → List Value → List Frame → Doing → Type 0
-IsOwnerDoing program policy annotations seen fields frames doings.Running = AreOwnerFrames program policy annotations seen fields frames
-IsOwnerDoing program policy annotations seen fields frames (doings.InCall method receiver arguments) =
-    (has_clauses policy method ≡ true) × AreOwnerCall program policy annotations seen fields method frames × ArePassed program receiver arguments
-IsOwnerDoing program policy annotations seen fields frames doings.Ended = ⊥
+abbrev pub IsOwnerDoing : Program → Policy → Annotations → Values → List Value → List Frame → Doing → Part → Type 0
+IsOwnerDoing program policy annotations recorded fields frames doings.Running part = AreOwnerFrames program policy annotations recorded fields frames part
+IsOwnerDoing program policy annotations recorded fields frames (doings.InCall method receiver arguments) part =
+    (has_clauses policy method ≡ true) × AreOwnerCall program policy annotations recorded fields method frames part × ArePassed program receiver arguments
+IsOwnerDoing program policy annotations recorded fields frames doings.Ended part = ⊥
 
-abbrev pub IsOwner : Program → Policy → Annotations → List Event → List Value → Thread → Type 0
-IsOwner program policy annotations seen fields thread = IsOwnerDoing program policy annotations seen fields thread.frames thread.doing
+abbrev pub IsOwner : Program → Policy → Annotations → Values → List Value → Thread → Part → Type 0
+IsOwner program policy annotations recorded fields thread part = IsOwnerDoing program policy annotations recorded fields thread.frames thread.doing part
 
 -- ---- the machine
 
--- Nobody holds the lock: the variables are the state after the events so far.
-pub record IsUnlocked (program : Program) (policy : Policy) (annotations : Annotations) (machine : Machine) (seen : List Event) (fields : List Value) : Type 0 where
+-- All threads but those that are left out are no owners of the lock.
+abbrev pub AreOthers : Program → Policy → Annotations → (ℕ → Type 0) → List Thread → List Part → Type 0
+AreOthers program policy annotations IsMeant threads among =
+    (number : ℕ) (thread : Thread) (part : Part) → IsMeant number → slice_get threads number ≡ Some thread → slice_get among number ≡ Some part
+    → IsOther program policy annotations thread part
+
+-- Nobody holds the lock: the variables are the state that is recorded.
+pub record IsUnlocked (program : Program) (policy : Policy) (annotations : Annotations) (machine : Machine) (recorded : Values) (fields : List Value) (among : List Part) : Type 0 where
   pub free : held_locks program machine.monitors ≡ []
-  pub state : Values
-  pub ranged : in_range policy state ≡ true
-  pub led : Leads policy seen state
-  pub variables : AreState fields state
-  pub threads : (number : ℕ) (thread : Thread) → slice_get machine.threads number ≡ Some thread → IsClient program policy annotations thread
+  pub variables : AreState fields recorded
+  pub threads : AreOthers program policy annotations (λ number. Unit {0}) machine.threads among
 
 -- One thread holds it.
-pub record IsLocked (program : Program) (policy : Policy) (annotations : Annotations) (machine : Machine) (seen : List Event) (fields : List Value) : Type 0 where
+pub record IsLocked (program : Program) (policy : Policy) (annotations : Annotations) (machine : Machine) (recorded : Values) (fields : List Value) (among : List Part) : Type 0 where
   pub owner : ℕ
   pub locked : held_locks program machine.monitors ≡ locked_by program owner
   pub thread : Thread
   pub there : slice_get machine.threads owner ≡ Some thread
-  pub owns : IsOwner program policy annotations seen fields thread
-  pub others : (number : ℕ) (other : Thread) → number ≢ owner → slice_get machine.threads number ≡ Some other → IsClient program policy annotations other
+  pub part : Part
+  pub part_there : slice_get among owner ≡ Some part
+  pub owns : IsOwner program policy annotations recorded fields thread part
+  pub others : AreOthers program policy annotations (λ number. number ≢ owner) machine.threads among
 
+-- The machine is as its notes say, and what the monitor has recorded agrees with the events so far.
 pub record Fits (program : Program) (policy : Policy) (annotations : Annotations) (machine : Machine) (seen : List Event) : Type 0 where
   pub world : IsCleanWorld program (state_of program policy annotations) (world_of machine)
   pub fields : List Value
   pub there : slice_get machine.statics (state_of program policy annotations) ≡ Some fields
-  pub lock : IsUnlocked program policy annotations machine seen fields ⊎ IsLocked program policy annotations machine seen fields
+  pub recorded : Values
+  pub ranged : in_range policy recorded ≡ true
+  pub among : List Part
+  pub each : length among ≡ length machine.threads
+  pub agree : Agree (next policy) (initial policy) (spoken policy seen) recorded (all_granted among) (all_owed among)
+  pub lock : IsUnlocked program policy annotations machine recorded fields among ⊎ IsLocked program policy annotations machine recorded fields among
 
 -- The events obey, and until the program is stopped the machine is as the notes say.
 pub record IsKept (program : Program) (policy : Policy) (annotations : Annotations) (machine : Machine) (seen : List Event) : Type 0 where

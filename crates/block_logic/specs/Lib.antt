@@ -8,6 +8,7 @@ pub mod Lent
 pub mod Notes
 pub mod State
 pub mod Accepted
+pub mod Agreement
 pub mod Meaning
 pub mod Fitting
 pub mod Obeying

@@ -29,9 +29,7 @@ use Rattle.conspec_automaton.specs.declared.policy.Branch.{Branch}
 use Rattle.conspec_automaton.specs.declared.policy.Clause.{Clause}
 use Rattle.conspec_automaton.specs.declared.policy.Policy.{Policy}
 use Rattle.conspec_automaton.specs.Denying.{DeniesOnly}
-use Rattle.conspec_automaton.specs.Next.{Values, argument, holds, initial, is_taken, moment, next, returned}
-use Rattle.conspec_automaton.specs.Obeys.{IsFollowed, after, spoken}
-use Rattle.conspec_automaton.specs.Range.{in_range}
+use Rattle.conspec_automaton.specs.Next.{Values, argument, holds, is_taken, moment, returned}
 use Rattle.conspec_automaton.specs.Sight.{sight_of}
 use Rattle.guest_heap.specs.declared.frame.Frame.{Frame}
 use Rattle.guest_heap.specs.declared.value.Value.{Value}
@@ -40,6 +38,8 @@ use Rattle.guest_frames.specs.Values.{are_one}
 use Rattle.guest_model.specs.Parts.{number_in}
 use Rattle.guest_model.specs.Places.{class_index, insn_at, method_at}
 use Rattle.block_logic.specs.Accepted.{notes_in, notes_told}
+use Rattle.block_logic.specs.Agreement.{Part}
+use Rattle.block_logic.specs.Agreement as parts
 use Rattle.block_logic.specs.Clauses.{clause_at, clause_of, is_of_phase, needs}
 use Rattle.block_logic.specs.Operands.{calls, has_clause, state_name}
 use Rattle.block_logic.specs.Standing.{in_phase, is_before, takes_for_call}
@@ -104,21 +104,10 @@ pub record IsBelow (program : Program) (policy : Policy) (annotations : Annotati
 
 -- ---- events
 
--- The clause events so far are accepted, and lead to the state.
-abbrev pub Leads : Policy → List Event → Values → Type 0
-Leads policy seen state = after (next policy) (initial policy) (spoken policy seen) ≡ Some state
-
 -- The event is one that the clause of the site is for.
 pub record IsEventOf (site : Site) (event : Event) : Type 0 where
   pub method : (sight_of event).method ≡ site.method
   pub phase : is_of_phase site.phase (sight_of event).phase ≡ true
-
--- The clause events so far are accepted but for the last, which is a return, or an exception, of the site; without it they lead to the state.
-pub record Pends (policy : Policy) (site : Site) (seen : List Event) (state : Values) (event : Event) : Type 0 where
-  pub earlier : List Event
-  pub is : spoken policy seen ≡ earlier ++ event ∷ []
-  pub led : after (next policy) (initial policy) earlier ≡ Some state
-  pub of : IsEventOf site event
 
 -- ---- what locals tell of events
 
@@ -158,11 +147,11 @@ AreTerms program state event list held = map (term_value program state event) li
 
 -- ---- a check
 
--- What is due is not done yet: a call is not made, or a return is the last event.
-abbrev pub IsDue : Policy → Site → Phase8 → List Event → Values → Event → Type 0
-IsDue policy site Before seen state event = Leads policy seen state × IsEventOf site event
-IsDue policy site After seen state event = Pends policy site seen state event
-IsDue policy site Exceptional seen state event = Pends policy site seen state event
+-- A call that is checked is not granted yet, and a return that is checked is owed.
+abbrev pub IsDue : Phase8 → Event → Part → Type 0
+IsDue Before event part = part ≡ parts.Clear
+IsDue After event part = part ≡ parts.Owed event
+IsDue Exceptional event part = part ≡ parts.Owed event
 
 -- The first branches fail, and of the next one so many atoms hold.
 pub record IsTried (state : Values) (event : Event) (branches : List Branch) (failed holding : ℕ) : Type 0 where
@@ -171,36 +160,35 @@ pub record IsTried (state : Values) (event : Event) (branches : List Branch) (fa
   pub hold : (b : Branch) → slice_get branches failed ≡ Some b → (holding ≤ length b.atoms)
       × ((j : ℕ) (atom : Atom) → j < holding → slice_get b.atoms j ≡ Some atom → holds (moment state event) atom ≡ true)
 
--- The lock is held, and the check is made so far; the variables are those of `map`, and `list` stands on the stack, the last on top.
-pub record MeansHeld (program : Program) (policy : Policy) (seen : List Event) (fields : List Value) (frame : Frame)
-    (site : Site) (failed holding : ℕ) (list map : List Term) : Type 0 where
+-- The lock is held, and the check is made so far, in the recorded state; the variables are those of `map`, and `list` stands on the
+-- stack, the last on top.
+pub record MeansHeld (program : Program) (policy : Policy) (recorded : Values) (fields : List Value) (frame : Frame)
+    (site : Site) (failed holding : ℕ) (list map : List Term) (part : Part) : Type 0 where
   pub clause : Clause
   pub there : clause_of policy site ≡ Some clause
-  pub state : Values
-  pub ranged : in_range policy state ≡ true
   pub event : Event
-  pub due : IsDue policy site site.phase seen state event
+  pub of : IsEventOf site event
+  pub due : IsDue site.phase event part
   pub told : TellsIn clause site.phase site.base frame.locals event
-  pub tried : IsTried state event clause.branches failed holding
-  pub variables : AreTerms program state event map fields
+  pub tried : IsTried recorded event clause.branches failed holding
+  pub variables : AreTerms program recorded event map fields
   pub tops : List Value
-  pub pushed : AreTerms program state event (reverse list) tops
+  pub pushed : AreTerms program recorded event (reverse list) tops
   pub above : IsAbove program tops frame.stack.items
 
 -- ---- granted
 
--- The next call of the site leads to the state: its check was made, with the numbers that locals hold, or it has no clause.
-pub record IsChecked (policy : Policy) (site : Site) (clause : Clause) (seen : List Event) (state : Values) (locals : List Value) : Type 0 where
-  pub before : Values
+-- The call was checked, with the numbers that locals hold.
+pub record IsChecked (site : Site) (clause : Clause) (part : Part) (locals : List Value) : Type 0 where
   pub event : Event
-  pub led : Leads policy seen before
+  pub is : part ≡ parts.Granted event
   pub of : IsEventOf (in_phase Before site) event
   pub told : TellsArguments site.base (length clause.args) locals event
-  pub taken : next policy before event ≡ Some state
 
-abbrev pub IsGranted : Policy → Site → Option Clause → List Event → Values → List Value → Type 0
-IsGranted policy site None seen state locals = Leads policy seen state
-IsGranted policy site (Some clause) seen state locals = IsChecked policy site clause seen state locals
+-- It is granted, or has no clause.
+abbrev pub IsGranted : Site → Option Clause → Part → List Value → Type 0
+IsGranted site None part locals = part ≡ parts.Clear
+IsGranted site (Some clause) part locals = IsChecked site clause part locals
 
 -- so many locals from the base on, as they stand on the stack once they are loaded in order
 abbrev pub loads : ℕ → List Value → ℕ → List (Option Value)
@@ -212,13 +200,11 @@ abbrev pub lock_on : Program → Bool → List Value
 lock_on program top = if top then lock_of program ∷ [] else []
 
 -- The lock is held and the check is done; so many arguments are loaded.
-pub record MeansGranted (program : Program) (policy : Policy) (seen : List Event) (fields : List Value) (frame : Frame)
-    (site : Site) (locked : Bool) (count : ℕ) (top : Bool) : Type 0 where
+pub record MeansGranted (program : Program) (policy : Policy) (recorded : Values) (fields : List Value) (frame : Frame)
+    (site : Site) (locked : Bool) (count : ℕ) (top : Bool) (part : Part) : Type 0 where
   pub holds : locked ≡ true
-  pub state : Values
-  pub ranged : in_range policy state ≡ true
-  pub granted : IsGranted policy site (clause_at policy site.method Before) seen state frame.locals
-  pub variables : AreState fields state
+  pub granted : IsGranted site (clause_at policy site.method Before) part frame.locals
+  pub variables : AreState fields recorded
   pub few : count ≤ needs policy site.method
   pub loaded : List Value
   pub are : map Some loaded ≡ loads site.base frame.locals count
@@ -239,52 +225,58 @@ HasResultIn clause Exceptional kept base locals rest event = Unit {0}
 HasResultIn clause After kept base locals rest event = HasResult clause.result kept base locals rest event
 
 -- The return is not recorded yet, where a clause is for it.
-pub record IsPending (policy : Policy) (site : Site) (clause : Clause) (seen : List Event) (state : Values) (kept : Bool) (locals rest : List Value) : Type 0 where
+pub record IsPending (site : Site) (clause : Clause) (part : Part) (kept : Bool) (locals rest : List Value) : Type 0 where
   pub event : Event
-  pub pends : Pends policy site seen state event
+  pub is : part ≡ parts.Owed event
+  pub of : IsEventOf site event
   pub told : HasResultIn clause site.phase kept site.base locals rest event
 
-abbrev pub IsOwed : Policy → Site → ℕ → Option Clause → List Event → Values → Bool → List Value → List Value → Type 0
-IsOwed policy site zero clause seen state kept locals rest = ⊥
-IsOwed policy site (suc zero) None seen state kept locals rest = Leads policy seen state
-IsOwed policy site (suc zero) (Some clause) seen state kept locals rest = IsPending policy site clause seen state kept locals rest
-IsOwed policy site (suc (suc zero)) clause seen state kept locals rest = Leads policy seen state
-IsOwed policy site (suc (suc (suc n))) clause seen state kept locals rest = ⊥
+abbrev pub IsOwed : Site → ℕ → Option Clause → Part → Bool → List Value → List Value → Type 0
+IsOwed site zero clause part kept locals rest = ⊥
+IsOwed site (suc zero) None part kept locals rest = part ≡ parts.Clear
+IsOwed site (suc zero) (Some clause) part kept locals rest = IsPending site clause part kept locals rest
+IsOwed site (suc (suc zero)) clause part kept locals rest = part ≡ parts.Clear
+IsOwed site (suc (suc (suc n))) clause part kept locals rest = ⊥
 
 -- The lock is held, and the call is over.
-pub record MeansOwed (program : Program) (policy : Policy) (seen : List Event) (fields : List Value) (frame : Frame)
-    (site : Site) (stage : ℕ) (kept top : Bool) : Type 0 where
+pub record MeansOwed (program : Program) (policy : Policy) (recorded : Values) (fields : List Value) (frame : Frame)
+    (site : Site) (stage : ℕ) (kept top : Bool) (part : Part) : Type 0 where
   pub behind : is_before site.phase ≡ false
-  pub state : Values
-  pub ranged : in_range policy state ≡ true
-  pub variables : AreState fields state
+  pub variables : AreState fields recorded
   pub above : IsAbove program (lock_on program top) frame.stack.items
-  pub owed : IsOwed policy site stage (clause_of policy site) seen state kept frame.locals above.rest
+  pub owed : IsOwed site stage (clause_of policy site) part kept frame.locals above.rest
 
 -- ---- the way out
 
--- The program is about to be stopped; the events obey.
+-- A call that is refused is not granted; a return that is refused is owed for ever.
+abbrev pub IsRefused : Part → Type 0
+IsRefused parts.Clear = Unit {0}
+IsRefused (parts.Granted call) = ⊥
+IsRefused (parts.Owed end) = Unit {0}
+
 abbrev pub IsStopping : ℕ → List Value → Type 0
 IsStopping zero items = Unit {0}
 IsStopping (suc zero) items = slice_get items 0 ≡ Some (values.Int (pos 77))
 IsStopping (suc (suc n)) items = ⊥
 
-pub record MeansStop (policy : Policy) (seen : List Event) (frame : Frame) (place : ℕ) : Type 0 where
-  pub followed : IsFollowed policy seen
+-- The program is about to be stopped.
+pub record MeansStop (frame : Frame) (place : ℕ) (part : Part) : Type 0 where
+  pub refused : IsRefused part
   pub stopping : IsStopping place frame.stack.items
 
 -- ---- a note of a thread that holds the lock, and of one that does not
 
 -- Of methods round whose calls the lock is not held, nothing is said of Granted and Owed yet.
-abbrev pub Owns : Program → Policy → HeldCalls → List Event → List Value → Frame → Note → Type 0
-Owns program policy held seen fields frame notes.Free = ⊥
-Owns program policy held seen fields frame (notes.Taking site) = ⊥
-Owns program policy held seen fields frame (notes.Held site failed holding list map) = MeansHeld program policy seen fields frame site failed holding list map
-Owns program policy held seen fields frame (notes.Granted site locked count top) =
-    (holds_round held site.method ≡ true) × MeansGranted program policy seen fields frame site locked count top
-Owns program policy held seen fields frame (notes.Owed site stage kept top) =
-    (holds_round held site.method ≡ true) × MeansOwed program policy seen fields frame site stage kept top
-Owns program policy held seen fields frame (notes.Stop site place) = MeansStop policy seen frame place
+abbrev pub Owns : Program → Policy → HeldCalls → Values → List Value → Frame → Note → Part → Type 0
+Owns program policy held recorded fields frame notes.Free part = ⊥
+Owns program policy held recorded fields frame (notes.Taking site) part = ⊥
+Owns program policy held recorded fields frame (notes.Held site failed holding list map) part =
+    MeansHeld program policy recorded fields frame site failed holding list map part
+Owns program policy held recorded fields frame (notes.Granted site locked count top) part =
+    (holds_round held site.method ≡ true) × MeansGranted program policy recorded fields frame site locked count top part
+Owns program policy held recorded fields frame (notes.Owed site stage kept top) part =
+    (holds_round held site.method ≡ true) × MeansOwed program policy recorded fields frame site stage kept top part
+Owns program policy held recorded fields frame (notes.Stop site place) part = MeansStop frame place part
 
 abbrev pub IsFree : Program → Policy → Frame → Note → Type 0
 IsFree program policy frame notes.Free = AreClean program frame.stack.items

@@ -20,7 +20,8 @@ use Rattle.guest_model.specs.declared.machine.Machine.{Machine}
 use Rattle.guest_model.specs.Changes.{Change, with_monitors, world_of}
 use Rattle.guest_model.specs.Stepping.{Acting, insn_stepped}
 use Rattle.block_logic.specs.Fitting.{held_locks, locked_by, state_of}
-use Rattle.block_logic.specs.Meaning.{AreClean, AreState, IsAbove, Leads, Owns, lock_of}
+use Rattle.block_logic.specs.Agreement.{Clear, Part, Settles}
+use Rattle.block_logic.specs.Meaning.{AreClean, AreState, IsAbove, Owns, lock_of}
 use Rattle.block_logic.specs.Obeying.{IsObeying}
 use Rattle.block_logic.specs.Rows.{Asked, Given, Open}
 use Rattle.block_logic.proofs.Owner.Going.{client_frame, frame_moved, goes_behind, goes_free, goes_holding, owner_frame}
@@ -40,7 +41,10 @@ module _ (program : Program) (policy : Policy) (annotations : Annotations) where
     pub ruled : IsRuled program policy annotations a.frame next note
 
   module _ (o : IsObeying program policy annotations) (machine : Machine) (a : Acting) (next : Insn × Target) (change : Change) (note : Note) (fields : List Value)
-      (h : ActsHolding machine a next change note fields) (seen : List Event) where
+      (h : ActsHolding machine a next change note fields) (recorded : Values) (part : Part) (ranged : in_range policy recorded ≡ true) where
+    abbrev Changes : Type 0
+    Changes = ChangesOwner program policy annotations a.number recorded part change
+
     -- what is asked of the instruction behind
     pub leads_behind : (asked : Asked) → ends (shape_of next.0) ≡ false → h.ruled.r.past ≡ asked → LeadsTo program policy annotations a.frame (a.frame.at + 1) asked
     leads_behind asked stays past =
@@ -49,34 +53,33 @@ module _ (program : Program) (policy : Policy) (annotations : Annotations) where
     -- It goes on with the lock, and what is shared is as it was.
     pub goes_with : (to : ℕ) (locals items : List Value) (given : Note) → AreClean program locals → LeadsTo program policy annotations a.frame to (Given given)
         → Goes program machine a change (world_of machine) to locals items
-        → Owns program policy annotations.held seen fields (moved_to a.frame to locals items) given → ChangesOwner program policy annotations a.number seen change
+        → Owns program policy annotations.held recorded fields (moved_to a.frame to locals items) given part → Changes
     goes_with to locals items given clean leads g owns =
-        subst (ChangesOwner program policy annotations a.number seen) (sym g.is)
-        (goes_holding program policy annotations o a.number seen fields (world_of machine) a.thread (moved_to a.frame to locals items) a.below h.acts.below
+        subst (ChangesOwner program policy annotations a.number recorded part) (sym g.is)
+        (goes_holding program policy annotations o a.number recorded fields part (world_of machine) a.thread (moved_to a.frame to locals items) a.below h.acts.below
         (record { clean = h.acts.world; locks = h.locked; variables = h.there })
-        (owner_frame program policy annotations o a.frame h.acts.well seen fields to locals items given clean leads owns))
+        (owner_frame program policy annotations o a.frame h.acts.well recorded fields part ranged to locals items given clean leads owns))
 
     -- to the instruction behind
     pub goes_with_behind : (items : List Value) (given : Note) → ends (shape_of next.0) ≡ false → Asks h.ruled.r (Given given)
         → Goes program machine a change (world_of machine) (a.frame.at + 1) a.frame.locals items
-        → Owns program policy annotations.held seen fields (moved_to a.frame (a.frame.at + 1) a.frame.locals items) given
-        → ChangesOwner program policy annotations a.number seen change
+        → Owns program policy annotations.held recorded fields (moved_to a.frame (a.frame.at + 1) a.frame.locals items) given part → Changes
     goes_with_behind items given stays asks g owns =
         goes_with (a.frame.at + 1) a.frame.locals items given h.acts.well.locals (leads_behind (Given given) stays asks.past) g owns
 
-    -- It leaves the lock, and is in no block; the events lead to the state of the variables.
+    -- It leaves the lock, and is in no block; the variables are what is recorded then.
     pub gives_up : OpenIsFree program policy annotations → shape_of next.0 ≡ shapes.Heap heap.Exit → Asks h.ruled.r Open → IsAbove program (lock_of program ∷ []) a.frame.stack.items
-        → (state : Values) → in_range policy state ≡ true → Leads policy seen state → AreState fields state → ChangesOwner program policy annotations a.number seen change
-    gives_up open_is_free is asks above state ranged led are =
+        → (now : Values) → in_range policy now ≡ true → Settles policy recorded part now Clear → AreState fields now → Changes
+    gives_up open_is_free is asks above now within settles are =
         let top : slice_get a.frame.stack.items 0 ≡ Some (lock_of program) = ap (λ (items : List Value). slice_get items 0) above.is in
         let left = lock_left program a.number machine.monitors h.locked in
         let g = leaves_lock program machine a change next h.step (lock_of program) left.held is top refl left.given_up in
         let rest = drop 1 a.frame.stack.items in
         let clean : AreClean program rest = subst (λ (items : List Value). AreClean program (drop 1 items)) (sym above.is) above.clean in
         let leads = leads_behind Open (ap ends is) asks.past in
-        subst (ChangesOwner program policy annotations a.number seen) (sym g.is)
-        (goes_free program policy annotations o a.number seen fields (with_monitors (world_of machine) left.held) a.thread
+        subst (ChangesOwner program policy annotations a.number recorded part) (sym g.is)
+        (goes_free program policy annotations o a.number recorded fields part (with_monitors (world_of machine) left.held) a.thread
         (moved_to a.frame (a.frame.at + 1) a.frame.locals rest) a.below h.acts.below
-        (record { heap = h.acts.world.heap; statics = h.acts.world.statics }) left.locks h.there state ranged led are
-        (frame_moved program policy annotations o a.frame h.acts.well seen (a.frame.at + 1) a.frame.locals rest h.acts.well.locals)
-        (client_frame program policy annotations o a.frame h.acts.well seen open_is_free (a.frame.at + 1) a.frame.locals rest clean leads))
+        (record { heap = h.acts.world.heap; statics = h.acts.world.statics }) left.locks h.there now within settles are
+        (frame_moved program policy annotations o a.frame h.acts.well (a.frame.at + 1) a.frame.locals rest h.acts.well.locals)
+        (client_frame program policy annotations o a.frame h.acts.well open_is_free (a.frame.at + 1) a.frame.locals rest clean leads))

@@ -28,7 +28,9 @@ use Rattle.cert_format.specs.declared.note.Site.{Site}
 use Rattle.conspec_tree.specs.declared.types.Kind.{Kind}
 use Rattle.conspec_automaton.specs.declared.policy.Clause.{Clause}
 use Rattle.conspec_automaton.specs.declared.policy.Policy.{Policy}
-use Rattle.conspec_automaton.specs.Next.{has_clauses, number_in as shown_number, returned as event_returned}
+use Rattle.conspec_automaton.specs.Next.{Values, has_clauses, number_in as shown_number, returned as event_returned}
+use Rattle.conspec_automaton.specs.Obeys.{is_return}
+use Rattle.conspec_automaton.specs.Range.{in_range}
 use Rattle.conspec_automaton.proofs.Ranges.{found_is}
 use Rattle.guest_heap.specs.declared.frame.Frame.{Frame}
 use Rattle.guest_heap.specs.declared.object.Object.{Object}
@@ -48,6 +50,7 @@ use Rattle.guest_model.specs.Stepping.{call_stepped, is_on_null}
 use Rattle.guest_model.specs.Throwing.{bare_object, caught_in, handler_of}
 use Rattle.guest_model.proofs.Options.{all_append, all_get, and_then_of, map_of, some_is, unless_of}
 use Rattle.block_logic.specs.Accepted.{rules_of}
+use Rattle.block_logic.specs.Agreement.{Clear, Granted, Owed, Part, Settles, Tells, Turns, clause_event}
 use Rattle.block_logic.specs.Clauses.{clause_of, needs}
 use Rattle.block_logic.specs.Fitting.{AreBelow, AreOwnerCall, ArePassed, IsCleanObject, IsCleanWorld, IsOwnerCall, IsOwnerFrame, held_locks, locked_by, state_of}
 use Rattle.block_logic.specs.Meaning.{AreClean, HasResult, HasResultIn, IsClean, IsEventOf, IsOwed, Owns}
@@ -55,11 +58,11 @@ use Rattle.block_logic.specs.Obeying.{FitsListing, IsObeying}
 use Rattle.block_logic.specs.Operands.{calls, pushes_state}
 use Rattle.block_logic.specs.Rows.{Given, Row, Rules, granted_row, is_duty, returned as asked_behind, thrown as asked_thrown}
 use Rattle.block_logic.specs.Standing.{in_phase, is_before}
-use Rattle.block_logic.proofs.Owner.Events.{has_its_clause, is_pending, leads_still}
-use Rattle.block_logic.proofs.Owner.Going.{IsHeldBy, goes_behind, owner_frame}
+use Rattle.block_logic.proofs.Agreement.{its_clause, no_clause}
+use Rattle.block_logic.proofs.Owner.Events.{has_its_clause}
+use Rattle.block_logic.proofs.Owner.Going.{IsHeldBy, Lands, goes_behind, owner_frame}
 use Rattle.block_logic.proofs.Owner.GrantedRows.{CallsMethod, granted_cases}
 use Rattle.block_logic.proofs.Owner.Passed.{shown_as}
-use Rattle.block_logic.proofs.Owner.Standing.{owned_followed}
 use Rattle.block_logic.proofs.Ruled.{IsRuled, LeadsTo, RulesHold}
 use Rattle.block_logic.proofs.Steps.{ChangesOwner, OwnerAnswers}
 
@@ -152,11 +155,25 @@ gives_something program world result receiver arguments answers.Receiver gave fi
     (v.0, ap (λ (g : World × Option Value). g.1) (sym v.2))
 gives_something program world result receiver arguments (answers.Throws class) gave fits some e = absurd cc
 
+-- ---- what a return comes to
+
+-- A return with a clause is owed.
+abbrev part_behind : Option Clause → Event → Part
+part_behind None e = Clear
+part_behind (Some clause) e = Owed e
+
+-- it may be recorded at once
+returns_then : (policy : Policy) (recorded now : Values) (due : Part) (e : Event) → is_return e ≡ true → Settles policy recorded (Owed e) now due → Tells policy recorded Clear e now due
+returns_then policy recorded now Clear e ends settles = (ends, settles)
+returns_then policy recorded now (Granted call) e ends settles = absurd settles
+returns_then policy recorded now (Owed other) e ends settles = (ends, settles.0, settles.1)
+
 -- ---- the frame that waited
 
 module _ (program : Program) (policy : Policy) (annotations : Annotations) (o : IsObeying program policy annotations) (rules_hold : RulesHold program policy annotations)
-    (number : ℕ) (thread : Thread) (method : ℕ) (seen : List Event) (fields : List Value) (frame : Frame) (below : List Frame) (under : AreBelow program policy annotations below)
-    (c : IsOwnerCall program policy annotations seen fields method frame) (has : has_clauses policy method ≡ true) where
+    (number : ℕ) (thread : Thread) (method : ℕ) (recorded : Values) (fields : List Value) (part : Part) (ranged : in_range policy recorded ≡ true)
+    (frame : Frame) (below : List Frame) (under : AreBelow program policy annotations below)
+    (c : IsOwnerCall program policy annotations recorded fields method frame part) (has : has_clauses policy method ≡ true) where
   abbrev rules : Rules
   rules = rules_of program policy annotations
 
@@ -169,33 +186,40 @@ module _ (program : Program) (policy : Policy) (annotations : Annotations) (o : 
   row_is : CallsMethod rules c.site true (needs policy method) false (shape_of c.at_call.insn) (target.ApiMethod method) ruled.r
   row_is = call_row rules c.site (needs policy method) (shape_of c.at_call.insn) (target.ApiMethod method) ruled.r c.at_call.call ruled.has
 
-  -- the update is due
+  -- the update is due, where there is a clause for it
   owes : (site : Site) (e : Event) (at : ℕ) (items : List Value) → site.method ≡ method → is_before site.phase ≡ false → IsEventOf site e → AreClean program items
       → ((clause : Clause) → clause_of policy site ≡ Some clause → HasResultIn clause site.phase false site.base frame.locals items e)
-      → Owns program policy annotations.held (seen ++ e ∷ []) fields (moved_to frame at frame.locals items) (notes.Owed site 1 false false)
+      → Owns program policy annotations.held recorded fields (moved_to frame at frame.locals items) (notes.Owed site 1 false false) (part_behind (clause_of policy site) e)
   owes site e at items is behind of clean tells = (
     ap (holds_round annotations.held) is ∙ c.hold,
     record {
       behind = behind;
-      state = c.state;
-      ranged = c.ranged;
       variables = c.variables;
       above = record { rest = items; is = refl; clean = clean };
       owed = by (clause_of policy site) refl;
     },
   ) where
-    by : (clause : Option Clause) → clause_of policy site ≡ clause → IsOwed policy site 1 clause (seen ++ e ∷ []) c.state false frame.locals items
-    by None there = leads_still policy seen e c.state c.led (has_its_clause policy site e of ∙ ap is_some there)
-    by (Some clause) there = record { event = e; pends = is_pending policy seen site e c.state c.led (has_its_clause policy site e of ∙ ap is_some there) of; told = tells clause there }
+    by : (clause : Option Clause) → clause_of policy site ≡ clause → IsOwed site 1 clause (part_behind clause e) false frame.locals items
+    by None there = refl
+    by (Some clause) there = record { event = e; is = refl; of = of; told = tells clause there }
 
-  -- the thread goes on, and the library saw an event
-  goes_seen : (world : World) (e : Event) (f : Frame) → IsHeldBy program policy annotations o number fields world → IsOwnerFrame program policy annotations (seen ++ e ∷ []) fields f
-      → ChangesOwner program policy annotations number seen (with_event (goes world thread (f ∷ below)) (Some e))
-  goes_seen world e f held top = record {
+  -- the thread goes on, and the library saw an event of the site
+  goes_seen : (world : World) (site : Site) (e : Event) (f : Frame) → IsEventOf site e → is_return e ≡ true → IsHeldBy program policy annotations o number fields world
+      → Lands program policy annotations o recorded fields f (part_behind (clause_of policy site) e)
+      → ChangesOwner program policy annotations number recorded part (with_event (goes world thread (f ∷ below)) (Some e))
+  goes_seen world site e f of ends held lands = record {
     begins = refl;
-    followed = owned_followed program policy annotations o (seen ++ e ∷ []) fields f top.note top.owns;
-    goes = λ on. (held.clean, inl (record { locks = held.locks; fields = fields; variables = held.variables; owns = (top, under) }));
-  }
+    now = lands.now;
+    ranged = lands.ranged;
+    due = lands.due;
+    turns = rw c.clear (ended (clause_of policy site) refl lands.settles);
+    goes = λ on. (held.clean, inl (record { locks = held.locks; fields = fields; variables = held.variables; owns = (lands.top, under) }));
+  } where
+    ended : (clause : Option Clause) → clause_of policy site ≡ clause → Settles policy recorded (part_behind clause e) lands.now lands.due
+        → Turns policy recorded Clear (clause_event policy (Some e)) lands.now lands.due
+    ended None there settles = rw (no_clause policy (Some e) (has_its_clause policy site e of ∙ ap is_some there)) settles
+    ended (Some clause) there settles =
+        rw (its_clause policy e (has_its_clause policy site e of ∙ ap is_some there)) (returns_then policy recorded lands.now lands.due e ends settles)
 
   -- ---- the method returns
 
@@ -249,24 +273,24 @@ module _ (program : Program) (policy : Policy) (annotations : Annotations) (o : 
         subst (LeadsTo program policy annotations frame (frame.at + 1)) asked
         (ruled.past (goes_behind program policy annotations o frame (c.at_call.insn, target.ApiMethod method) c.at_call.there (call_stays (shape_of c.at_call.insn) c.at_call.call)))
 
-    returns : ChangesOwner program policy annotations number seen (with_event (goes gave.0 thread (moved_to frame (frame.at + 1) frame.locals items ∷ below)) (Some event))
+    returns : ChangesOwner program policy annotations number recorded part (with_event (goes gave.0 thread (moved_to frame (frame.at + 1) frame.locals items ∷ below)) (Some event))
     returns =
         let of : IsEventOf site event = record { method = sym c.of; phase = refl } in
-        goes_seen gave.0 event (moved_to frame (frame.at + 1) frame.locals items)
+        goes_seen gave.0 site event (moved_to frame (frame.at + 1) frame.locals items) of refl
         (record {
           clean = clean.clean;
           locks = ap (held_locks program) clean.monitors ∙ locked;
           variables = ap (λ (statics : List (List Value)). slice_get statics (state_of program policy annotations)) clean.statics ∙ variables;
         })
-        (owner_frame program policy annotations o frame c.well (seen ++ event ∷ []) fields (frame.at + 1) frame.locals items (notes.Owed site 1 false false) c.well.locals leads
+        (owner_frame program policy annotations o frame c.well recorded fields (part_behind (clause_of policy site) event) ranged (frame.at + 1) frame.locals items (notes.Owed site 1 false false) c.well.locals leads
         (owes site event (frame.at + 1) items c.of refl of result_clean tells_result))
 
-    returns_change : (change : Change) → returned program gave.0 thread (frame ∷ below) gave.1 (Some event) ≡ Some change → ChangesOwner program policy annotations number seen change
+    returns_change : (change : Change) → returned program gave.0 thread (frame ∷ below) gave.1 (Some event) ≡ Some change → ChangesOwner program policy annotations number recorded part change
     returns_change change e =
         let onward = λ (f : Frame). with_event (goes gave.0 thread (f ∷ below)) (Some event) in
         let m = map_of onward (after frame items) change e in
         let f : moved_to frame (frame.at + 1) frame.locals items ≡ m.0 = unless_of (nat_lt frame.stack.size (length items)) _ _ m.1 in
-        subst (ChangesOwner program policy annotations number seen) (ap onward f ∙ m.2) returns
+        subst (ChangesOwner program policy annotations number recorded part) (ap onward f ∙ m.2) returns
 
   -- ---- the method throws
 
@@ -306,16 +330,16 @@ module _ (program : Program) (policy : Policy) (annotations : Annotations) (o : 
         (ap (λ (r : Row). r.thrown) row_is.is ∙ thrown_held rules c.site (ap (holds_round annotations.held) c.of ∙ c.hold))
         (ruled.caught class catches.0 catches.1)
 
-    throws_well : ChangesOwner program policy annotations number seen (with_event (goes (with_object world (bare_object class)) thread (caught ∷ below)) (Some excepted))
+    throws_well : ChangesOwner program policy annotations number recorded part (with_event (goes (with_object world (bare_object class)) thread (caught ∷ below)) (Some excepted))
     throws_well =
         let of : IsEventOf thrown_site excepted = record { method = sym c.of; phase = refl } in
-        goes_seen (with_object world (bare_object class)) excepted caught
+        goes_seen (with_object world (bare_object class)) thrown_site excepted caught of refl
         (record { clean = with_clean program (state_of program policy annotations) world (bare_object class) clean (tt, refl); locks = locked; variables = variables })
-        (owner_frame program policy annotations o frame c.well (seen ++ excepted ∷ []) fields catches.0.at frame.locals (thrown ∷ []) (notes.Owed thrown_site 1 false false) c.well.locals leads_caught
+        (owner_frame program policy annotations o frame c.well recorded fields (part_behind (clause_of policy thrown_site) excepted) ranged catches.0.at frame.locals (thrown ∷ []) (notes.Owed thrown_site 1 false false) c.well.locals leads_caught
         (owes thrown_site excepted catches.0.at (thrown ∷ []) c.of refl of (refl, tt) (λ clause is. tt)))
 
-    throws_change : ChangesOwner program policy annotations number seen (throws_new program world number thread (frame ∷ below) class (Some excepted))
-    throws_change = subst (ChangesOwner program policy annotations number seen) (sym (throws_caught program world number thread frame below class excepted caught caught_is)) throws_well
+    throws_change : ChangesOwner program policy annotations number recorded part (throws_new program world number thread (frame ∷ below) class (Some excepted))
+    throws_change = subst (ChangesOwner program policy annotations number recorded part) (sym (throws_caught program world number thread frame below class excepted caught caught_is)) throws_well
 
   -- ---- any answer
 
@@ -323,13 +347,13 @@ module _ (program : Program) (policy : Policy) (annotations : Annotations) (o : 
       (locked : held_locks program world.monitors ≡ locked_by program number) (variables : slice_get world.statics (state_of program policy annotations) ≡ Some fields)
       (frames : thread.frames ≡ frame ∷ below) (receiver : Option Value) (arguments : List Value) (passed : ArePassed program receiver arguments) (change : Change) where
     abbrev Changes : Type 0
-    Changes = ChangesOwner program policy annotations number seen change
+    Changes = ChangesOwner program policy annotations number recorded part change
 
     throws : (class : Name) → Some (throws_new program world number thread thread.frames class (Some (events.Except number method))) ≡ Some change → Changes
     throws class e =
         let same : throws_new program world number thread (frame ∷ below) class (Some (events.Except number method)) ≡ change =
         ap (λ (fs : List Frame). throws_new program world number thread fs class (Some (events.Except number method))) (sym frames) ∙ some_is _ change e in
-        subst (ChangesOwner program policy annotations number seen) same (throws_change world clean locked variables class)
+        subst (ChangesOwner program policy annotations number recorded part) same (throws_change world clean locked variables class)
 
     answers_well : (listed : ListedMethod) (answer : ApiAnswer) → slice_get program.listing.methods method ≡ Some listed
         → answer_fits program world.heap (types_of listed.id.desc).result receiver arguments answer ≡ true
@@ -372,8 +396,8 @@ module _ (program : Program) (policy : Policy) (annotations : Annotations) (o : 
 module _ (program : Program) (policy : Policy) (annotations : Annotations) (o : IsObeying program policy annotations) (rules_hold : RulesHold program policy annotations) where
   -- An answer to a call that was granted changes what it may.
   pub owner_answers : OwnerAnswers program policy annotations
-  owner_answers world number thread method receiver arguments choice change seen fields clean has call passed locked variables step = by thread.frames refl call where
-    by : (frames : List Frame) → thread.frames ≡ frames → AreOwnerCall program policy annotations seen fields method frames → ChangesOwner program policy annotations number seen change
+  owner_answers world number thread method receiver arguments choice change recorded fields part clean has call passed ranged locked variables step = by thread.frames refl call where
+    by : (frames : List Frame) → thread.frames ≡ frames → AreOwnerCall program policy annotations recorded fields method frames part → ChangesOwner program policy annotations number recorded part change
     by [] is call = absurd call
     by (frame ∷ below) is call =
-        steps program policy annotations o rules_hold number thread method seen fields frame below call.1 call.0 has world clean locked variables is receiver arguments passed change choice step
+        steps program policy annotations o rules_hold number thread method recorded fields part ranged frame below call.1 call.0 has world clean locked variables is receiver arguments passed change choice step

@@ -5,7 +5,6 @@ use Rattle.std.specs.Option.{option_map_or}
 use Rattle.std.specs.Int.{w32, int_wrapping_add}
 use Rattle.std.proofs.lemmas.Bool.{and_parts, cases_Bool}
 use Rattle.std.proofs.lemmas.Option.{slice_get_within}
-use Rattle.api_listing.specs.declared.events.Event.{Event}
 use Rattle.insn_codec.specs.declared.insn.Insn.{Insn}
 use Rattle.insn_codec.specs.declared.shape.Heap.TheVariants as heap
 use Rattle.insn_codec.specs.declared.shape.Relation.{Relation}
@@ -27,7 +26,8 @@ use Rattle.conspec_tree.specs.declared.types.Rel.{Rel}
 use Rattle.conspec_automaton.specs.declared.policy.Branch.{Branch}
 use Rattle.conspec_automaton.specs.declared.policy.Clause.{Clause}
 use Rattle.conspec_automaton.specs.declared.policy.Policy.{Policy}
-use Rattle.conspec_automaton.specs.Next.{holds, moment, relates}
+use Rattle.conspec_automaton.specs.Next.{Values, holds, moment, relates}
+use Rattle.conspec_automaton.specs.Range.{in_range}
 use Rattle.guest_heap.specs.declared.value.Value.{Value}
 use Rattle.guest_heap.specs.declared.value.Value.TheVariants as values
 use Rattle.guest_frames.specs.Stepping.{moved_to}
@@ -37,6 +37,7 @@ use Rattle.guest_model.specs.Changes.{Change, with_statics, world_of}
 use Rattle.guest_model.specs.Stepping.{Acting}
 use Rattle.guest_model.proofs.Options.{and_then_of, some_is}
 use Rattle.block_logic.specs.Accepted.{rules_of}
+use Rattle.block_logic.specs.Agreement.{Part}
 use Rattle.block_logic.specs.Fitting.{IsCleanWorld}
 use Rattle.block_logic.specs.Meaning.{AreTerms, IsAbove, IsTried, MeansHeld, lock_of, term_value}
 use Rattle.block_logic.specs.Obeying.{IsObeying}
@@ -49,7 +50,7 @@ use Rattle.block_logic.proofs.Owner.Going.{compares_there, goes_holding, goes_th
 use Rattle.block_logic.proofs.Owner.Moves.{Goes, adds as adds_up, compared_to, compares as compares_tops, jumps, writes_variable}
 use Rattle.block_logic.proofs.Owner.Pushes.{term_is_pushed, variable_is_named}
 use Rattle.block_logic.proofs.Owner.Rows.{Asks, gives_asks, leads_asks, leaves_is, one_row, where_so}
-use Rattle.block_logic.proofs.Owner.Standing.{passed, passed_leads}
+use Rattle.block_logic.proofs.Owner.Standing.{passed, passed_settles}
 use Rattle.block_logic.proofs.Owner.Terms.{last_is, last_two_are, one_above, one_more, same_terms_are, term_set, top_of}
 use Rattle.block_logic.proofs.Owner.Tests.{AsksAtom, atom_asked, compared_holds, one_more_fails, one_more_holds, relates_not, relates_same, sum_is}
 use Rattle.block_logic.proofs.Owner.Unlocked.{never_unlocked}
@@ -93,10 +94,10 @@ other_tested c rel relation r other e =
 -- ---- a check in a frame
 
 module _ (program : Program) (policy : Policy) (annotations : Annotations) (o : IsObeying program policy annotations) (open_is_free : OpenIsFree program policy annotations)
-    (machine : Machine) (a : Acting) (next : Insn × Target) (change : Change) (fields : List Value) (seen : List Event)
+    (machine : Machine) (a : Acting) (next : Insn × Target) (change : Change) (fields : List Value) (recorded : Values) (part : Part) (ranged : in_range policy recorded ≡ true)
     (site : Site) (failed holding : ℕ) (list map : List Term)
     (h : ActsHolding program policy annotations machine a next change (notes.Held site failed holding list map) fields)
-    (m : MeansHeld program policy seen fields a.frame site failed holding list map) where
+    (m : MeansHeld program policy recorded fields a.frame site failed holding list map part) where
   abbrev rules : Rules
   rules = rules_of program policy annotations
 
@@ -104,7 +105,7 @@ module _ (program : Program) (policy : Policy) (annotations : Annotations) (o : 
   check = record { site = site; clause = m.clause; failed = failed; holding = holding; terms = list; map = map }
 
   abbrev Changes : Type 0
-  Changes = ChangesOwner program policy annotations a.number seen change
+  Changes = ChangesOwner program policy annotations a.number recorded part change
 
   abbrev r : Row
   r = h.ruled.r
@@ -116,15 +117,14 @@ module _ (program : Program) (policy : Policy) (annotations : Annotations) (o : 
       some
 
   -- the same check, gone on
-  means_on : (to : ℕ) (items : List Value) (fail hold : ℕ) (terms others : List Term) (now tops : List Value) → IsTried m.state m.event m.clause.branches fail hold
-      → AreTerms program m.state m.event others now → AreTerms program m.state m.event (reverse terms) tops → IsAbove program tops items
-      → MeansHeld program policy seen now (moved_to a.frame to a.frame.locals items) site fail hold terms others
+  means_on : (to : ℕ) (items : List Value) (fail hold : ℕ) (terms others : List Term) (now tops : List Value) → IsTried recorded m.event m.clause.branches fail hold
+      → AreTerms program recorded m.event others now → AreTerms program recorded m.event (reverse terms) tops → IsAbove program tops items
+      → MeansHeld program policy recorded now (moved_to a.frame to a.frame.locals items) site fail hold terms others part
   means_on to items fail hold terms others now tops tried variables pushed above = record {
     clause = m.clause;
     there = m.there;
-    state = m.state;
-    ranged = m.ranged;
     event = m.event;
+    of = m.of;
     due = m.due;
     told = m.told;
     tried = tried;
@@ -138,13 +138,13 @@ module _ (program : Program) (policy : Policy) (annotations : Annotations) (o : 
 
   pushes : (t : Term) → term_pushed rules site m.clause map (shape_of next.0) next.1 ≡ Some t → Asks r (Given (notes.Held site failed holding (list ++ t ∷ []) map)) → Changes
   pushes t pushed asks =
-      let p = term_is_pushed program policy annotations machine a change next h.step site m.clause map m.state m.event m.told fields m.variables h.there t pushed in
+      let p = term_is_pushed program policy annotations machine a change next h.step site m.clause map recorded m.event m.told fields m.variables h.there t pushed in
       let items = p.value ∷ a.frame.stack.items in
-      let terms : AreTerms program m.state m.event (reverse (list ++ t ∷ [])) (p.value ∷ m.tops) =
-      subst (λ (ts : List Term). AreTerms program m.state m.event ts (p.value ∷ m.tops)) (sym (one_more list t))
-      (one_above program m.state m.event t p.value (reverse list) m.tops p.stands m.pushed) in
+      let terms : AreTerms program recorded m.event (reverse (list ++ t ∷ [])) (p.value ∷ m.tops) =
+      subst (λ (ts : List Term). AreTerms program recorded m.event ts (p.value ∷ m.tops)) (sym (one_more list t))
+      (one_above program recorded m.event t p.value (reverse list) m.tops p.stands m.pushed) in
       let above : IsAbove program (p.value ∷ m.tops) items = record { rest = m.above.rest; is = ap (λ (vs : List Value). p.value ∷ vs) m.above.is; clean = m.above.clean } in
-      goes_with_behind program policy annotations o machine a next change _ fields h seen items (notes.Held site failed holding (list ++ t ∷ []) map) p.stays asks p.goes
+      goes_with_behind program policy annotations o machine a next change _ fields h recorded part ranged items (notes.Held site failed holding (list ++ t ∷ []) map) p.stays asks p.goes
       (means_on (a.frame.at + 1) items failed holding (list ++ t ∷ []) map fields (p.value ∷ m.tops) m.tried m.variables terms above)
 
   -- ---- the two topmost terms
@@ -154,16 +154,16 @@ module _ (program : Program) (policy : Policy) (annotations : Annotations) (o : 
     pub upper : Value
     pub below : List Value
     pub is : a.frame.stack.items ≡ upper ∷ lower ∷ (below ++ m.above.rest)
-    pub lower_stands : term_value program m.state m.event x ≡ Some lower
-    pub upper_stands : term_value program m.state m.event y ≡ Some upper
-    pub others : AreTerms program m.state m.event (reverse (without 2 list)) below
+    pub lower_stands : term_value program recorded m.event x ≡ Some lower
+    pub upper_stands : term_value program recorded m.event y ≡ Some upper
+    pub others : AreTerms program recorded m.event (reverse (without 2 list)) below
 
   two_tops : (x y : Term) → last_but_one list ≡ Some x → last_term list ≡ Some y → TwoTops x y
   two_tops x y first second =
-      let pushed : AreTerms program m.state m.event (y ∷ x ∷ reverse (without 2 list)) m.tops =
-      subst (λ (ts : List Term). AreTerms program m.state m.event ts m.tops) (last_two_are list x y first second) m.pushed in
-      let up = top_of program m.state m.event y (x ∷ reverse (without 2 list)) m.tops pushed in
-      let low = top_of program m.state m.event x (reverse (without 2 list)) up.below up.others in
+      let pushed : AreTerms program recorded m.event (y ∷ x ∷ reverse (without 2 list)) m.tops =
+      subst (λ (ts : List Term). AreTerms program recorded m.event ts m.tops) (last_two_are list x y first second) m.pushed in
+      let up = top_of program recorded m.event y (x ∷ reverse (without 2 list)) m.tops pushed in
+      let low = top_of program recorded m.event x (reverse (without 2 list)) up.below up.others in
       let tops : m.tops ≡ up.value ∷ low.value ∷ low.below = up.is ∙ ap (λ (vs : List Value). up.value ∷ vs) low.is in
       record {
         lower = low.value;
@@ -195,14 +195,14 @@ module _ (program : Program) (policy : Policy) (annotations : Annotations) (o : 
       let upper : two.upper ≡ added.0 = known_at (two.upper ∷ two.lower ∷ (two.below ++ m.above.rest)) 0 added.0 two.upper added.2.there two.is refl in
       let lower : two.lower ≡ added.1 = known_at (two.upper ∷ two.lower ∷ (two.below ++ m.above.rest)) 1 added.1 two.lower added.3.there two.is refl in
       let value = values.Int (int_wrapping_add w32 (number_of added.1) (number_of added.0)) in
-      let stands : term_value program m.state m.event t ≡ Some value =
-      sum_is program policy o.good m.state m.event m.ranged x.0 y.0 t added.1 added.0 y.2 (two.lower_stands ∙ ap Some lower) (two.upper_stands ∙ ap Some upper) in
+      let stands : term_value program recorded m.event t ≡ Some value =
+      sum_is program policy o.good recorded m.event ranged x.0 y.0 t added.1 added.0 y.2 (two.lower_stands ∙ ap Some lower) (two.upper_stands ∙ ap Some upper) in
       let items = value ∷ drop 2 a.frame.stack.items in
-      let terms : AreTerms program m.state m.event (reverse (without 2 list ++ t ∷ [])) (value ∷ two.below) =
-      subst (λ (ts : List Term). AreTerms program m.state m.event ts (value ∷ two.below)) (sym (one_more (without 2 list) t))
-      (one_above program m.state m.event t value (reverse (without 2 list)) two.below stands two.others) in
+      let terms : AreTerms program recorded m.event (reverse (without 2 list ++ t ∷ [])) (value ∷ two.below) =
+      subst (λ (ts : List Term). AreTerms program recorded m.event ts (value ∷ two.below)) (sym (one_more (without 2 list) t))
+      (one_above program recorded m.event t value (reverse (without 2 list)) two.below stands two.others) in
       let left : items ≡ value ∷ two.below ++ m.above.rest = ap (λ (vs : List Value). value ∷ drop 2 vs) two.is in
-      goes_with_behind program policy annotations o machine a next change _ fields h seen items (notes.Held site failed holding (without 2 list ++ t ∷ []) map) (ap ends is) asks added.4
+      goes_with_behind program policy annotations o machine a next change _ fields h recorded part ranged items (notes.Held site failed holding (without 2 list ++ t ∷ []) map) (ap ends is) asks added.4
       (means_on (a.frame.at + 1) items failed holding (without 2 list ++ t ∷ []) map fields (value ∷ two.below) m.tried m.variables terms (above_rest (value ∷ two.below) items left))
 
   -- ---- control goes elsewhere
@@ -211,7 +211,7 @@ module _ (program : Program) (policy : Policy) (annotations : Annotations) (o : 
   going to is asks =
       let leads : LeadsTo program policy annotations a.frame to (Given (notes.Held site failed holding list map)) =
       subst (LeadsTo program policy annotations a.frame to) asks.jump (h.ruled.jump to (goes_there program policy annotations o a.frame next h.acts.there to is)) in
-      goes_with program policy annotations o machine a next change _ fields h seen to a.frame.locals a.frame.stack.items (notes.Held site failed holding list map) h.acts.well.locals leads
+      goes_with program policy annotations o machine a next change _ fields h recorded part ranged to a.frame.locals a.frame.stack.items (notes.Held site failed holding list map) h.acts.well.locals leads
       (jumps program machine a change next h.step to is)
       (means_on to a.frame.stack.items failed holding list map fields m.tops m.tried m.variables m.pushed m.above)
 
@@ -220,7 +220,7 @@ module _ (program : Program) (policy : Policy) (annotations : Annotations) (o : 
   module _ (relation : Relation) (to : ℕ) (is : shape_of next.0 ≡ shapes.Compare relation to) (branch : Branch) (atom : Atom)
       (there : slice_get m.clause.branches failed ≡ Some branch) (atom_is : slice_get branch.atoms holding ≡ Some atom) (asked : AsksAtom list atom) where
     abbrev so : Bool
-    so = holds (moment m.state m.event) atom
+    so = holds (moment recorded m.event) atom
 
     tops : TwoTops (base_term atom.base) (terms.Const atom.value)
     tops = two_tops (base_term atom.base) (terms.Const atom.value) asked.base asked.value
@@ -230,15 +230,15 @@ module _ (program : Program) (policy : Policy) (annotations : Annotations) (o : 
         → Goes program machine a change (world_of machine) at a.frame.locals (drop 2 a.frame.stack.items) → Changes
     tells at true outcome leads g =
         let items = drop 2 a.frame.stack.items in
-        goes_with program policy annotations o machine a next change _ fields h seen at a.frame.locals items (holding_on check) h.acts.well.locals leads g
+        goes_with program policy annotations o machine a next change _ fields h recorded part ranged at a.frame.locals items (holding_on check) h.acts.well.locals leads g
         (means_on at items failed (holding + 1) (without 2 list) map fields tops.below
-        (one_more_holds program m.state m.event m.clause.branches failed holding branch atom there atom_is m.tried outcome) m.variables tops.others
+        (one_more_holds program recorded m.event m.clause.branches failed holding branch atom there atom_is m.tried outcome) m.variables tops.others
         (above_rest tops.below items (ap (drop 2) tops.is)))
     tells at false outcome leads g =
         let items = drop 2 a.frame.stack.items in
-        goes_with program policy annotations o machine a next change _ fields h seen at a.frame.locals items (failing check) h.acts.well.locals leads g
+        goes_with program policy annotations o machine a next change _ fields h recorded part ranged at a.frame.locals items (failing check) h.acts.well.locals leads g
         (means_on at items (failed + 1) 0 (without 2 list) map fields tops.below
-        (one_more_fails program m.state m.event m.clause.branches failed holding branch atom there atom_is m.tried outcome) m.variables tops.others
+        (one_more_fails program recorded m.event m.clause.branches failed holding branch atom there atom_is m.tried outcome) m.variables tops.others
         (above_rest tops.below items (ap (drop 2) tops.is)))
 
     -- control jumps, or goes on
@@ -253,7 +253,7 @@ module _ (program : Program) (policy : Policy) (annotations : Annotations) (o : 
         tells to outcome known leads
         (subst (λ (b : Bool). Goes program machine a change (world_of machine) (cond b to (a.frame.at + 1)) a.frame.locals (drop 2 a.frame.stack.items)) relates g)
     jumps_or_not false outcome known asks y x first second relates g =
-        let leads = leads_behind program policy annotations o machine a next change _ fields h seen (Given (cond outcome (holding_on check) (failing check))) (ap ends is) asks in
+        let leads = leads_behind program policy annotations o machine a next change _ fields h recorded part ranged (Given (cond outcome (holding_on check) (failing check))) (ap ends is) asks in
         tells (a.frame.at + 1) outcome known leads
         (subst (λ (b : Bool). Goes program machine a change (world_of machine) (cond b to (a.frame.at + 1)) a.frame.locals (drop 2 a.frame.stack.items)) relates g)
 
@@ -261,7 +261,7 @@ module _ (program : Program) (policy : Policy) (annotations : Annotations) (o : 
     compared_so y x first second =
         let upper : tops.upper ≡ y = known_at (tops.upper ∷ tops.lower ∷ (tops.below ++ m.above.rest)) 0 y tops.upper first tops.is refl in
         let lower : tops.lower ≡ x = known_at (tops.upper ∷ tops.lower ∷ (tops.below ++ m.above.rest)) 1 x tops.lower second tops.is refl in
-        compared_holds program m.state m.event atom x y (tops.lower_stands ∙ ap Some lower) (tops.upper_stands ∙ ap Some upper)
+        compared_holds program recorded m.event atom x y (tops.lower_stands ∙ ap Some lower) (tops.upper_stands ∙ ap Some upper)
 
     -- the jump is by the atom's relation, or by the other
     jumping : (outcome : Bool) → so ≡ outcome → (jump : Bool → Bool) → ((y x : Value) → so ≡ relates atom.rel (number_of x) (number_of y) → compares relation (number_of x) (number_of y) ≡ jump outcome)
@@ -300,8 +300,8 @@ module _ (program : Program) (policy : Policy) (annotations : Annotations) (o : 
   writing : (var : ℕ) (t : Term) → shape_of next.0 ≡ shapes.Heap heap.WriteStatic → variable_named rules.state next.1 ≡ Some var → last_term list ≡ Some t
       → Asks r (Given (notes.Held site failed holding (without 1 list) (slice_set map var t))) → Changes
   writing var t is named last asks =
-      let pushed : AreTerms program m.state m.event (t ∷ reverse (without 1 list)) m.tops = subst (λ (ts : List Term). AreTerms program m.state m.event ts m.tops) (last_is list t last) m.pushed in
-      let top = top_of program m.state m.event t (reverse (without 1 list)) m.tops pushed in
+      let pushed : AreTerms program recorded m.event (t ∷ reverse (without 1 list)) m.tops = subst (λ (ts : List Term). AreTerms program recorded m.event ts m.tops) (last_is list t last) m.pushed in
+      let top = top_of program recorded m.event t (reverse (without 1 list)) m.tops pushed in
       let items_are : a.frame.stack.items ≡ top.value ∷ (top.below ++ m.above.rest) = m.above.is ∙ ap (λ (vs : List Value). vs ++ m.above.rest) top.is in
       let first : slice_get a.frame.stack.items 0 ≡ Some top.value = ap (λ (vs : List Value). slice_get vs 0) items_are in
       let g = writes_variable program machine a change next h.step rules.state var fields top.value is (variable_is_named rules.state next.1 var named) h.there first in
@@ -310,21 +310,21 @@ module _ (program : Program) (policy : Policy) (annotations : Annotations) (o : 
       let items = drop 1 a.frame.stack.items in
       let given = notes.Held site failed holding (without 1 list) (slice_set map var t) in
       let means = means_on (a.frame.at + 1) items failed holding (without 1 list) (slice_set map var t) now top.below m.tried
-      (term_set program m.state m.event map fields var t top.value m.variables top.stands) top.others (above_rest top.below items (ap (drop 1) items_are)) in
-      let leads = leads_behind program policy annotations o machine a next change _ fields h seen (Given given) (ap ends is) asks.past in
+      (term_set program recorded m.event map fields var t top.value m.variables top.stands) top.others (above_rest top.below items (ap (drop 1) items_are)) in
+      let leads = leads_behind program policy annotations o machine a next change _ fields h recorded part ranged (Given given) (ap ends is) asks.past in
       let here : slice_get (slice_set machine.statics rules.state now) rules.state ≡ Some now =
       set_there machine.statics rules.state now (slice_get_within machine.statics rules.state fields h.there) in
-      subst (ChangesOwner program policy annotations a.number seen) (sym g.is)
-      (goes_holding program policy annotations o a.number seen now world a.thread (moved_to a.frame (a.frame.at + 1) a.frame.locals items) a.below h.acts.below
+      subst (ChangesOwner program policy annotations a.number recorded part) (sym g.is)
+      (goes_holding program policy annotations o a.number recorded now part world a.thread (moved_to a.frame (a.frame.at + 1) a.frame.locals items) a.below h.acts.below
       (record { clean = statics_kept now; locks = h.locked; variables = here })
-      (owner_frame program policy annotations o a.frame h.acts.well seen now (a.frame.at + 1) a.frame.locals items given h.acts.well.locals leads means))
+      (owner_frame program policy annotations o a.frame h.acts.well recorded now part ranged (a.frame.at + 1) a.frame.locals items given h.acts.well.locals leads means))
 
   -- ---- the lock is left
 
   lock_alone : list ≡ terms.Lock ∷ [] → IsAbove program (lock_of program ∷ []) a.frame.stack.items
   lock_alone only =
-      let pushed : AreTerms program m.state m.event (terms.Lock ∷ []) m.tops = subst (λ (ts : List Term). AreTerms program m.state m.event (reverse ts) m.tops) only m.pushed in
-      let top = top_of program m.state m.event terms.Lock [] m.tops pushed in
+      let pushed : AreTerms program recorded m.event (terms.Lock ∷ []) m.tops = subst (λ (ts : List Term). AreTerms program recorded m.event (reverse ts) m.tops) only m.pushed in
+      let top = top_of program recorded m.event terms.Lock [] m.tops pushed in
       let lock : top.value ≡ lock_of program = some_is top.value (lock_of program) (sym top.stands) in
       let none : top.below ≡ [] = map_some_is top.below [] (sym top.others) in
       let tops : m.tops ≡ lock_of program ∷ [] = top.is ∙ ap (λ (v : Value). v ∷ top.below) lock ∙ ap (λ (vs : List Value). lock_of program ∷ vs) none in
@@ -333,16 +333,16 @@ module _ (program : Program) (policy : Policy) (annotations : Annotations) (o : 
   leaving : RulesHold program policy annotations → shape_of next.0 ≡ shapes.Heap heap.Exit → is_done policy site failed holding map ≡ true → list ≡ terms.Lock ∷ []
       → Asks r (left site) → Changes
   leaving rules_hold is done only asks =
-      let p = passed program policy annotations o seen fields a.frame site failed holding list map m done in
+      let p = passed program policy annotations o recorded fields a.frame part ranged site failed holding list map m done in
       elim (cases_Bool (is_before site.phase)) [
         | inl before ↦
             let asked : left site ≡ Given (notes.Granted site false 0 false) = rw before refl in
-            let leads = leads_behind program policy annotations o machine a next change _ fields h seen (Given (notes.Granted site false 0 false)) (ap ends is) (asks.past ∙ asked) in
+            let leads = leads_behind program policy annotations o machine a next change _ fields h recorded part ranged (Given (notes.Granted site false 0 false)) (ap ends is) (asks.past ∙ asked) in
             absurd (never_unlocked program policy annotations o rules_hold site (p.hold site.method) a.frame next 0 h.acts.there (ap ends is) leads)
         | inr behind ↦
             let asked : left site ≡ Open = rw behind refl in
-            gives_up program policy annotations o machine a next change _ fields h seen open_is_free is (record { past = asks.past ∙ asked; jump = asks.jump ∙ asked; thrown = asks.thrown })
-            (lock_alone only) p.end p.ranged (passed_leads program policy annotations o seen fields a.frame site site.phase m.state p.end m.event behind m.due p.taken) p.variables
+            gives_up program policy annotations o machine a next change _ fields h recorded part ranged open_is_free is (record { past = asks.past ∙ asked; jump = asks.jump ∙ asked; thrown = asks.thrown })
+            (lock_alone only) p.end p.stays (passed_settles program policy annotations o recorded fields a.frame part ranged site.phase p.end m.event behind m.due p.taken) p.variables
       ]
 
   -- ---- by its row

@@ -30,12 +30,12 @@ use Rattle.guest_frames.specs.Values.{values_seen}
 use Rattle.guest_model.specs.Changes.{World, goes}
 use Rattle.guest_model.specs.Places.{insn_at, insn_in, method_at}
 use Rattle.guest_model.proofs.Options.{and_then_of}
+use Rattle.block_logic.specs.Agreement.{Clear, Part, Settles}
 use Rattle.block_logic.specs.Fitting.{AreBelow, IsClientFrame, IsCleanWorld, IsOwnerFrame, held_locks, locked_by, state_of}
-use Rattle.block_logic.specs.Meaning.{AreClean, AreState, IsFrame, Leads, Owns}
+use Rattle.block_logic.specs.Meaning.{AreClean, AreState, IsFrame, Owns}
 use Rattle.block_logic.specs.Obeying.{IsObeying}
 use Rattle.block_logic.specs.Rows.{Given, Open}
-use Rattle.block_logic.proofs.Owner.Events.{leads_followed, leads_still_seen}
-use Rattle.block_logic.proofs.Owner.Standing.{owned_followed, stands}
+use Rattle.block_logic.proofs.Owner.Standing.{stands}
 use Rattle.block_logic.proofs.Ruled.{LeadsTo, OpenIsFree}
 use Rattle.block_logic.proofs.Steps.{ChangesOwner}
 
@@ -76,20 +76,31 @@ module _ (program : Program) (policy : Policy) (annotations : Annotations) (o : 
         → next_of values_seen next.0 to stack ≡ to → Contains (jump_targets next.0) to
     compares_there relation to stack is goes = jump_there next.0 to stack is_insn (ap is_heap is) goes
 
-  module _ (frame : Frame) (well : IsFrame program frame) (seen : List Event) where
+  -- The frame stands at a note of a block that holds the lock, which may stand for what was given.
+  pub record Lands (recorded : Values) (fields : List Value) (frame : Frame) (part : Part) : Type 0 where
+    pub now : Values
+    pub ranged : in_range policy now ≡ true
+    pub due : Part
+    pub settles : Settles policy recorded part now due
+    pub top : IsOwnerFrame program policy annotations now fields frame due
+
+  module _ (frame : Frame) (well : IsFrame program frame) where
     pub frame_moved : (to : ℕ) (locals items : List Value) → AreClean program locals → IsFrame program (moved_to frame to locals items)
     frame_moved to locals items clean = record { size = well.size; lock = well.lock; locals = clean }
 
-    -- the frame at a note of a block that holds the lock
-    pub owner_frame : (fields : List Value) (to : ℕ) (locals items : List Value) (given : Note) → AreClean program locals → LeadsTo program policy annotations frame to (Given given)
-        → Owns program policy annotations.held seen fields (moved_to frame to locals items) given
-        → IsOwnerFrame program policy annotations seen fields (moved_to frame to locals items)
-    owner_frame fields to locals items given clean leads owns = record {
-      well = frame_moved to locals items clean;
-      note = leads.note;
-      told = leads.told;
-      owns = stands program policy annotations o seen fields (moved_to frame to locals items) given leads.note owns leads.meets;
-    }
+    pub owner_frame : (recorded : Values) (fields : List Value) (part : Part) → in_range policy recorded ≡ true → (to : ℕ) (locals items : List Value) (given : Note)
+        → AreClean program locals → LeadsTo program policy annotations frame to (Given given)
+        → Owns program policy annotations.held recorded fields (moved_to frame to locals items) given part
+        → Lands recorded fields (moved_to frame to locals items) part
+    owner_frame recorded fields part ranged to locals items given clean leads owns =
+        let s = stands program policy annotations o recorded fields (moved_to frame to locals items) part ranged given leads.note owns leads.meets in
+        record {
+          now = s.now;
+          ranged = s.ranged;
+          due = s.due;
+          settles = s.settles;
+          top = record { well = frame_moved to locals items clean; note = leads.note; told = leads.told; owns = s.owns };
+        }
 
     -- the frame in no block
     pub client_frame : OpenIsFree program policy annotations → (to : ℕ) (locals items : List Value) → AreClean program items → LeadsTo program policy annotations frame to Open
@@ -106,40 +117,39 @@ module _ (program : Program) (policy : Policy) (annotations : Annotations) (o : 
     pub locks : held_locks program world.monitors ≡ locked_by program number
     pub variables : slice_get world.statics (state_of program policy annotations) ≡ Some fields
 
-  module _ (number : ℕ) (seen : List Event) (fields : List Value) (world : World) (thread : Thread) (frame : Frame) (below : List Frame) (under : AreBelow program policy annotations below) where
+  module _ (number : ℕ) (recorded : Values) (fields : List Value) (part : Part) (world : World) (thread : Thread) (frame : Frame) (below : List Frame)
+      (under : AreBelow program policy annotations below) where
     -- It goes on with the lock.
-    pub goes_holding : IsHeldBy number fields world → IsOwnerFrame program policy annotations seen fields frame
-        → ChangesOwner program policy annotations number seen (goes world thread (frame ∷ below))
-    goes_holding held top =
-        let same : seen ++ [] ≡ seen = append-nil seen in
-        let top' : IsOwnerFrame program policy annotations (seen ++ []) fields frame = subst (λ (es : List Event). IsOwnerFrame program policy annotations es fields frame) (sym same) top in
-        record {
-          begins = refl;
-          followed = owned_followed program policy annotations o (seen ++ []) fields frame top'.note top'.owns;
-          goes = λ on. (held.clean, inl (record { locks = held.locks; fields = fields; variables = held.variables; owns = (top', under) }));
-        }
+    pub goes_holding : IsHeldBy number fields world → Lands recorded fields frame part
+        → ChangesOwner program policy annotations number recorded part (goes world thread (frame ∷ below))
+    goes_holding held lands = record {
+      begins = refl;
+      now = lands.now;
+      ranged = lands.ranged;
+      due = lands.due;
+      turns = lands.settles;
+      goes = λ on. (held.clean, inl (record { locks = held.locks; fields = fields; variables = held.variables; owns = (lands.top, under) }));
+    }
 
-    -- It goes on without it.
+    -- It goes on without it, and has begun nothing with the automaton.
     pub goes_free : IsCleanWorld program (state_of program policy annotations) world → held_locks program world.monitors ≡ []
-        → slice_get world.statics (state_of program policy annotations) ≡ Some fields → (state : Values) → in_range policy state ≡ true → Leads policy seen state
-        → AreState fields state → IsFrame program frame → IsClientFrame program policy annotations frame
-        → ChangesOwner program policy annotations number seen (goes world thread (frame ∷ below))
-    goes_free clean none variables state ranged led are well client =
-        let led' : Leads policy (seen ++ []) state = leads_still_seen policy seen state led in
-        record {
-          begins = refl;
-          followed = leads_followed policy (seen ++ []) state led';
-          goes = λ on. (
-            clean,
-            inr (record {
-              locks = none;
-              state = state;
-              ranged = ranged;
-              led = led';
-              fields = fields;
-              variables = variables;
-              are = are;
-              client = (well, client, under);
-            }),
-          );
-        }
+        → slice_get world.statics (state_of program policy annotations) ≡ Some fields → (now : Values) → in_range policy now ≡ true → Settles policy recorded part now Clear
+        → AreState fields now → IsFrame program frame → IsClientFrame program policy annotations frame
+        → ChangesOwner program policy annotations number recorded part (goes world thread (frame ∷ below))
+    goes_free clean none variables now ranged settles are well client = record {
+      begins = refl;
+      now = now;
+      ranged = ranged;
+      due = Clear;
+      turns = settles;
+      goes = λ on. (
+        clean,
+        inr (record {
+          locks = none;
+          fields = fields;
+          variables = variables;
+          are = are;
+          other = record { client = (well, client, under); clear = refl };
+        }),
+      );
+    }

@@ -24,7 +24,8 @@ use Rattle.cert_format.specs.declared.note.Phase8.TheVariants.{Before}
 use Rattle.cert_format.specs.declared.note.Site.{Site}
 use Rattle.conspec_automaton.specs.declared.policy.Clause.{Clause}
 use Rattle.conspec_automaton.specs.declared.policy.Policy.{Policy}
-use Rattle.conspec_automaton.specs.Next.{Values, has_clause as event_has_clause, has_clauses, next as next_state}
+use Rattle.conspec_automaton.specs.Next.{Values, has_clause as event_has_clause, has_clauses}
+use Rattle.conspec_automaton.specs.Range.{in_range}
 use Rattle.conspec_automaton.specs.Sight.{sight_of}
 use Rattle.conspec_automaton.proofs.Ranges.{found_is}
 use Rattle.guest_heap.specs.declared.value.Value.{Value}
@@ -37,15 +38,17 @@ use Rattle.guest_model.specs.Seen.{values_shown}
 use Rattle.guest_model.specs.Stepping.{Acting}
 use Rattle.guest_model.proofs.Options.{all_append, and_then_of, map_of, some_is}
 use Rattle.block_logic.specs.Accepted.{rules_of}
+use Rattle.block_logic.specs.Agreement.{Clear, Part, Turns, clause_event}
 use Rattle.block_logic.specs.Clauses.{clause_at, needs}
 use Rattle.block_logic.specs.Fitting.{IsOwnerCall}
-use Rattle.block_logic.specs.Meaning.{AreClean, IsAbove, IsClean, IsEventOf, IsGranted, Leads, MeansGranted, TellsArguments, loads, lock_of, lock_on}
+use Rattle.block_logic.specs.Meaning.{AreClean, IsAbove, IsClean, IsEventOf, IsGranted, MeansGranted, TellsArguments, loads, lock_of, lock_on}
 use Rattle.block_logic.specs.Obeying.{FitsListing, IsObeying}
 use Rattle.block_logic.specs.Operands.{calls, has_clause}
 use Rattle.block_logic.specs.Rows.{Given, Row, Rules, calls_of}
 use Rattle.block_logic.specs.Standing.{in_phase}
 use Rattle.block_logic.proofs.Owner.Acting.{ActsHolding, goes_with_behind, leads_behind}
-use Rattle.block_logic.proofs.Owner.Events.{has_its_clause, leads_followed, leads_on, leads_still}
+use Rattle.block_logic.proofs.Agreement.{its_clause, no_clause}
+use Rattle.block_logic.proofs.Owner.Events.{has_its_clause}
 use Rattle.block_logic.proofs.Owner.Going.{frame_moved}
 use Rattle.block_logic.proofs.Owner.GrantedRows.{CallsMethod, LeavesLock, LoadsNext, PushesLock, granted_cases}
 use Rattle.block_logic.proofs.Owner.Moves.{loads as loads_local, on_heap}
@@ -55,10 +58,6 @@ use Rattle.block_logic.proofs.Owner.Rows.{Asks}
 use Rattle.block_logic.proofs.Owner.Unlocked.{never_unlocked}
 use Rattle.block_logic.proofs.Ruled.{RulesHold}
 use Rattle.block_logic.proofs.Steps.{ChangesOwner}
-
--- Of an event a policy reads what it sees alone.
-abbrev pub SeenIsEnough : Type 0
-SeenIsEnough = (policy : Policy) (state : Values) (e f : Event) → sight_of e ≡ sight_of f → next_state policy state e ≡ next_state policy state f
 
 -- ---- calls
 
@@ -110,15 +109,15 @@ module _ (program : Program) (policy : Policy) (annotations : Annotations) (o : 
       let fits = (found.so listed same).0 in
       (fits, ap (λ (c : Option Clause). option_map_or (λ (d : Clause). length d.args) c 0) is ∙ fits)
 
-  module _ (seen_is_enough : SeenIsEnough) (rules_hold : RulesHold program policy annotations)
-      (machine : Machine) (a : Acting) (next : Insn × Target) (change : Change) (fields : List Value) (seen : List Event)
+  module _ (rules_hold : RulesHold program policy annotations)
+      (machine : Machine) (a : Acting) (next : Insn × Target) (change : Change) (fields : List Value) (recorded : Values) (part : Part) (ranged : in_range policy recorded ≡ true)
       (site : Site) (locked : Bool) (count : ℕ) (top : Bool) (h : ActsHolding program policy annotations machine a next change (notes.Granted site locked count top) fields)
-      (hold : holds_round annotations.held site.method ≡ true) (m : MeansGranted program policy seen fields a.frame site locked count top) where
+      (hold : holds_round annotations.held site.method ≡ true) (m : MeansGranted program policy recorded fields a.frame site locked count top part) where
     abbrev rules : Rules
     rules = rules_of program policy annotations
 
     abbrev Changes : Type 0
-    Changes = ChangesOwner program policy annotations a.number seen change
+    Changes = ChangesOwner program policy annotations a.number recorded part change
 
     abbrev r : Row
     r = h.ruled.r
@@ -126,11 +125,9 @@ module _ (program : Program) (policy : Policy) (annotations : Annotations) (o : 
     -- the same, with more on the stack
     granted_on : (to : ℕ) (items : List Value) (n : ℕ) (on : Bool) (loaded : List Value) → n ≤ needs policy site.method → map Some loaded ≡ loads site.base a.frame.locals n
         → IsAbove program (lock_on program on ++ loaded) items
-        → MeansGranted program policy seen fields (moved_to a.frame to a.frame.locals items) site true n on
+        → MeansGranted program policy recorded fields (moved_to a.frame to a.frame.locals items) site true n on part
     granted_on to items n on loaded few are above = record {
       holds = refl;
-      state = m.state;
-      ranged = m.ranged;
       granted = m.granted;
       variables = m.variables;
       few = few;
@@ -152,7 +149,7 @@ module _ (program : Program) (policy : Policy) (annotations : Annotations) (o : 
         let more : map Some (l.0 ∷ m.loaded) ≡ loads site.base a.frame.locals (suc count) = rw (l.1.there, m.are) refl in
         let are : map Some (l.0 ∷ m.loaded) ≡ loads site.base a.frame.locals (count + 1) = rw (add-one count) more in
         let asks : Asks r (Given (notes.Granted site true (count + 1) false)) = subst (λ (b : Bool). Asks r (Given (notes.Granted site b (count + 1) false))) m.holds c.asks in
-        goes_with_behind program policy annotations o machine a next change _ fields h seen items (notes.Granted site true (count + 1) false) (ap ends c.is) asks l.2 (
+        goes_with_behind program policy annotations o machine a next change _ fields h recorded part ranged items (notes.Granted site true (count + 1) false) (ap ends c.is) asks l.2 (
           hold,
           granted_on (a.frame.at + 1) items (count + 1) false (l.0 ∷ m.loaded) (omega (arith, c.less)) are
               (record { rest = above.rest; is = ap (λ (vs : List Value). l.0 ∷ vs) above.is; clean = above.clean }),
@@ -166,7 +163,7 @@ module _ (program : Program) (policy : Policy) (annotations : Annotations) (o : 
         let above = bare_above c.bare in
         let items = lock_of program ∷ a.frame.stack.items in
         let asks : Asks r (Given (notes.Granted site true count true)) = subst (λ (b : Bool). Asks r (Given (notes.Granted site b count true))) m.holds c.asks in
-        goes_with_behind program policy annotations o machine a next change _ fields h seen items (notes.Granted site true count true) p.1 asks p.0 (
+        goes_with_behind program policy annotations o machine a next change _ fields h recorded part ranged items (notes.Granted site true count true) p.1 asks p.0 (
           hold,
           granted_on (a.frame.at + 1) items count true m.loaded m.few m.are
               (record { rest = above.rest; is = ap (λ (vs : List Value). lock_of program ∷ vs) above.is; clean = above.clean }),
@@ -176,7 +173,7 @@ module _ (program : Program) (policy : Policy) (annotations : Annotations) (o : 
 
     leaving : LeavesLock rules site locked count top (shape_of next.0) next.1 r → Changes
     leaving c =
-        let leads = leads_behind program policy annotations o machine a next change _ fields h seen (Given (notes.Granted site false count false)) (ap ends c.is) c.asks.past in
+        let leads = leads_behind program policy annotations o machine a next change _ fields h recorded part ranged (Given (notes.Granted site false count false)) (ap ends c.is) c.asks.past in
         absurd (never_unlocked program policy annotations o rules_hold site hold a.frame next count h.acts.there (ap ends c.is) leads)
 
     -- ---- the call is made
@@ -218,28 +215,30 @@ module _ (program : Program) (policy : Policy) (annotations : Annotations) (o : 
             let many : length m.loaded ≡ arity l.listed.id.desc = loaded_many program site.base a.frame.locals count m.loaded m.are ∙ c.all ∙ (needs_all site.method clause l.listed there l.there).1 in
             taken_clean.arguments_are ∙ ap (λ (vs : List Value). reverse (take (arity l.listed.id.desc) vs)) above.is ∙ ap reverse (take_at m.loaded above.rest (arity l.listed.id.desc) many)
 
-        -- The events lead to the state with the call.
-        led : (clause : Option Clause) → clause_at policy site.method Before ≡ clause → IsGranted policy site clause seen m.state a.frame.locals → Leads policy (seen ++ event ∷ []) m.state
-        led None there granted = leads_still policy seen event m.state granted (has ∙ ap is_some there)
-        led (Some clause) there checked =
+        -- What was granted is called.
+        called : (clause : Option Clause) → clause_at policy site.method Before ≡ clause → IsGranted site clause part a.frame.locals
+            → Turns policy recorded part (clause_event policy (Some event)) recorded Clear
+        called None there clear =
+            let none : clause_event policy (Some event) ≡ None = no_clause policy (Some event) (has ∙ ap is_some there) in
+            rw (none, clear) refl
+        called (Some clause) there checked =
             let all = needs_all site.method clause l.listed there l.there in
             let as_many : length clause.args ≡ count = all.0 ∙ sym all.1 ∙ sym c.all in
             let told = subst (λ (n : ℕ). TellsArguments site.base n a.frame.locals checked.event) as_many checked.told in
             let same = seen_same program machine.heap site a.frame.locals m.loaded a.number count m.are checked.event checked.of told in
             let seen_so : sight_of event ≡ sight_of checked.event =
             ap (λ (vs : List Value). sight_of (events.Call a.number site.method (values_shown program machine.heap vs))) (arguments_are clause there) ∙ same in
-            let taken : next_state policy checked.before event ≡ Some m.state = seen_is_enough policy checked.before event checked.event seen_so ∙ checked.taken in
-            leads_on policy seen event checked.before m.state checked.led (has ∙ ap is_some there) taken
+            let one : clause_event policy (Some event) ≡ Some event = its_clause policy event (has ∙ ap is_some there) in
+            rw (one, checked.is) (refl, seen_so)
 
         note_is : notes.Granted site locked count top ≡ notes.Granted site true (needs policy site.method) false
         note_is = let counts : count ≡ needs policy site.method = c.all in let locks : locked ≡ true = m.holds in let tops : top ≡ false = c.bare in rw (counts, locks, tops) refl
 
         -- the frame waits for the answer
-        waits : Leads policy (seen ++ event ∷ []) m.state
-            → IsOwnerCall program policy annotations (seen ++ event ∷ []) fields site.method (moved_to a.frame a.frame.at a.frame.locals l.passed.beneath)
-        waits now = record {
+        waits : IsOwnerCall program policy annotations recorded fields site.method (moved_to a.frame a.frame.at a.frame.locals l.passed.beneath) Clear
+        waits = record {
           hold = hold;
-          well = frame_moved program policy annotations o a.frame h.acts.well seen a.frame.at a.frame.locals l.passed.beneath h.acts.well.locals;
+          well = frame_moved program policy annotations o a.frame h.acts.well a.frame.at a.frame.locals l.passed.beneath h.acts.well.locals;
           site = site;
           of = refl;
           at_call = record {
@@ -249,29 +248,28 @@ module _ (program : Program) (policy : Policy) (annotations : Annotations) (o : 
             told = h.acts.told ∙ ap Some note_is;
             clean = taken_clean.beneath;
           };
-          state = m.state;
-          ranged = m.ranged;
-          led = now;
+          clear = refl;
           variables = m.variables;
         }
 
-        changes : ChangesOwner program policy annotations a.number seen
+        changes : ChangesOwner program policy annotations a.number recorded part
             (calls_library program (world_of machine) (record { number = a.number; thread = a.thread; frame = a.frame; below = a.below; passed = l.passed }) site.method)
-        changes =
-            let now = led (clause_at policy site.method Before) refl m.granted in
-            record {
-              begins = refl;
-              followed = leads_followed policy (seen ++ event ∷ []) m.state now;
-              goes = λ on. (
-                h.acts.world,
-                inl (record {
-                  locks = h.locked;
-                  fields = fields;
-                  variables = h.there;
-                  owns = (clauses, (waits now, h.acts.below), (taken_clean.receiver, taken_clean.arguments));
-                }),
-              );
-            }
+        changes = record {
+          begins = refl;
+          now = recorded;
+          ranged = ranged;
+          due = Clear;
+          turns = called (clause_at policy site.method Before) refl m.granted;
+          goes = λ on. (
+            h.acts.world,
+            inl (record {
+              locks = h.locked;
+              fields = fields;
+              variables = h.there;
+              owns = (clauses, (waits, h.acts.below), (taken_clean.receiver, taken_clean.arguments));
+            }),
+          );
+        }
 
       calling : Changes
       calling =
@@ -279,7 +277,7 @@ module _ (program : Program) (policy : Policy) (annotations : Annotations) (o : 
           let made : calls_out program machine a.number a.thread a.frame a.below how.0 (target.ApiMethod site.method) ≡ Some change =
           subst (λ (ref : Target). calls_out program machine a.number a.thread a.frame a.below how.0 ref ≡ Some change) call_is.1 (on_heap program machine a change next h.step (heap.Call how.0) how.1) in
           let l = library_call program machine a change how.0 site.method made in
-          subst (ChangesOwner program policy annotations a.number seen) (sym l.is) (changes how.0 l)
+          subst (ChangesOwner program policy annotations a.number recorded part) (sym l.is) (changes how.0 l)
 
     -- An instruction of a granted call changes what it may.
     pub granted_steps : Changes

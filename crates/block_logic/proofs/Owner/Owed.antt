@@ -3,6 +3,8 @@ use Rattle.std.proofs.Common.{◌≡◌, ℕ, zero, suc, ◌<◌, ◌+◌, Bool,
 use Rattle.std.specs.Prelude.{◌==◌, ◌&&◌, ◌||◌, ◌⊎◌, nat_lt, not, is_some, option_and_then, slice_get, slice_set}
 use Rattle.std.proofs.lemmas.Bool.{and_parts, not-true}
 use Rattle.api_listing.specs.declared.events.Event.{Event}
+use Rattle.conspec_automaton.specs.Next.{Values}
+use Rattle.conspec_automaton.specs.Range.{in_range}
 use Rattle.insn_codec.specs.declared.insn.Insn.{Insn}
 use Rattle.insn_codec.specs.declared.shape.Heap.TheVariants as heap
 use Rattle.insn_codec.specs.declared.shape.ValueKind.{ValueKind}
@@ -27,8 +29,9 @@ use Rattle.guest_model.specs.Parts.{number_in}
 use Rattle.guest_model.specs.Stepping.{Acting}
 use Rattle.guest_model.proofs.Options.{all_drop, all_get, all_set}
 use Rattle.block_logic.specs.Accepted.{rules_of}
+use Rattle.block_logic.specs.Agreement.{Clear, Part, Settles}
 use Rattle.block_logic.specs.Clauses.{clause_of}
-use Rattle.block_logic.specs.Meaning.{AreClean, HasResult, HasResultIn, IsAbove, IsClean, IsOwed, Leads, MeansOwed, lock_of, lock_on}
+use Rattle.block_logic.specs.Meaning.{AreClean, HasResult, HasResultIn, IsAbove, IsClean, IsOwed, MeansOwed, lock_of, lock_on}
 use Rattle.block_logic.specs.Obeying.{IsObeying}
 use Rattle.block_logic.specs.Operands.{pushes_state, stored}
 use Rattle.block_logic.specs.Rows.{Given, Open, Row, Rules, may_keep, may_leave, may_push, owed_row}
@@ -119,14 +122,14 @@ module _ (rules : Rules) (site : Site) (stage : ℕ) (kept top : Bool) (shape : 
 -- ---- the steps
 
 module _ (program : Program) (policy : Policy) (annotations : Annotations) (o : IsObeying program policy annotations) (open_is_free : OpenIsFree program policy annotations)
-    (machine : Machine) (a : Acting) (next : Insn × Target) (change : Change) (fields : List Value) (seen : List Event)
+    (machine : Machine) (a : Acting) (next : Insn × Target) (change : Change) (fields : List Value) (recorded : Values) (part : Part) (ranged : in_range policy recorded ≡ true)
     (site : Site) (stage : ℕ) (kept top : Bool) (h : ActsHolding program policy annotations machine a next change (notes.Owed site stage kept top) fields)
-    (hold : holds_round annotations.held site.method ≡ true) (m : MeansOwed program policy seen fields a.frame site stage kept top) where
+    (hold : holds_round annotations.held site.method ≡ true) (m : MeansOwed program policy recorded fields a.frame site stage kept top part) where
   abbrev rules : Rules
   rules = rules_of program policy annotations
 
   abbrev Changes : Type 0
-  Changes = ChangesOwner program policy annotations a.number seen change
+  Changes = ChangesOwner program policy annotations a.number recorded part change
 
   abbrev r : Row
   r = h.ruled.r
@@ -150,11 +153,11 @@ module _ (program : Program) (policy : Policy) (annotations : Annotations) (o : 
     keeps_in clause Exceptional event after first has = absurd cc
 
     keeps_owed : (n : ℕ) (clause : Option Clause) → nat_lt n 2 ≡ true → is_after site.phase ≡ true → slice_get m.above.rest 0 ≡ Some v
-        → IsOwed policy site n clause seen m.state false a.frame.locals m.above.rest → IsOwed policy site n clause seen m.state true locals rest
+        → IsOwed site n clause part false a.frame.locals m.above.rest → IsOwed site n clause part true locals rest
     keeps_owed zero clause early after first owed = owed
     keeps_owed (suc zero) None early after first owed = owed
     keeps_owed (suc zero) (Some clause) early after first owed =
-        record { event = owed.event; pends = owed.pends; told = keeps_in clause site.phase owed.event after first owed.told }
+        record { event = owed.event; is = owed.is; of = owed.of; told = keeps_in clause site.phase owed.event after first owed.told }
     keeps_owed (suc (suc n)) clause early after first owed = absurd (omega (arith, ltb-true (suc (suc n)) 2 early))
 
   bare_above : top ≡ false → a.frame.stack.items ≡ m.above.rest
@@ -168,16 +171,14 @@ module _ (program : Program) (policy : Policy) (annotations : Annotations) (o : 
       let first : slice_get m.above.rest 0 ≡ Some s.0 = subst (λ (vs : List Value). slice_get vs 0 ≡ Some s.0) same s.1 in
       let clean : AreClean program a.frame.stack.items = subst (AreClean program) (sym same) m.above.clean in
       let value : IsClean program s.0 = all_get (IsClean program) a.frame.stack.items 0 s.0 clean s.1 in
-      let owed : IsOwed policy site stage (clause_of policy site) seen m.state false a.frame.locals m.above.rest =
-      subst (λ (b : Bool). IsOwed policy site stage (clause_of policy site) seen m.state b a.frame.locals m.above.rest) c.loose m.owed in
-      goes_with program policy annotations o machine a next change _ fields h seen (a.frame.at + 1) (slice_set a.frame.locals site.base s.0) items (notes.Owed site stage true false)
+      let owed : IsOwed site stage (clause_of policy site) part false a.frame.locals m.above.rest =
+      subst (λ (b : Bool). IsOwed site stage (clause_of policy site) part b a.frame.locals m.above.rest) c.loose m.owed in
+      goes_with program policy annotations o machine a next change _ fields h recorded part ranged (a.frame.at + 1) (slice_set a.frame.locals site.base s.0) items (notes.Owed site stage true false)
       (all_set (IsClean program) a.frame.locals site.base s.0 h.acts.well.locals value)
-      (leads_behind program policy annotations o machine a next change _ fields h seen (Given (notes.Owed site stage true false)) (ap ends c.is) c.asks.past) s.3 (
+      (leads_behind program policy annotations o machine a next change _ fields h recorded part ranged (Given (notes.Owed site stage true false)) (ap ends c.is) c.asks.past) s.3 (
         hold,
         record {
           behind = m.behind;
-          state = m.state;
-          ranged = m.ranged;
           variables = m.variables;
           above = record { rest = items; is = refl; clean = all_drop (IsClean program) 1 a.frame.stack.items clean };
           owed = keeps_owed s.0 items s.2 stage (clause_of policy site) c.early c.behind first owed;
@@ -190,12 +191,10 @@ module _ (program : Program) (policy : Policy) (annotations : Annotations) (o : 
   pushing c =
       let p = pushes_lock program policy annotations machine a change next h.step c.pushes in
       let items = lock_of program ∷ a.frame.stack.items in
-      goes_with_behind program policy annotations o machine a next change _ fields h seen items (notes.Owed site stage kept true) p.1 c.asks p.0 (
+      goes_with_behind program policy annotations o machine a next change _ fields h recorded part ranged items (notes.Owed site stage kept true) p.1 c.asks p.0 (
         hold,
         record {
           behind = m.behind;
-          state = m.state;
-          ranged = m.ranged;
           variables = m.variables;
           above = record { rest = m.above.rest; is = ap (λ (vs : List Value). lock_of program ∷ vs) (bare_above c.bare); clean = m.above.clean };
           owed = m.owed;
@@ -204,26 +203,28 @@ module _ (program : Program) (policy : Policy) (annotations : Annotations) (o : 
 
   -- ---- it is left
 
-  led_with : (n : ℕ) (clause : Option Clause) → (((n == 1) && not (is_some clause)) || (n == 2)) ≡ true
-      → IsOwed policy site n clause seen m.state kept a.frame.locals m.above.rest → Leads policy seen m.state
-  led_with zero clause may owed = absurd owed
-  led_with (suc zero) None may owed = owed
-  led_with (suc zero) (Some clause) may owed = absurd cc
-  led_with (suc (suc zero)) clause may owed = owed
-  led_with (suc (suc (suc n))) clause may owed = absurd owed
+  nothing_owed : (n : ℕ) (clause : Option Clause) → (((n == 1) && not (is_some clause)) || (n == 2)) ≡ true
+      → IsOwed site n clause part kept a.frame.locals m.above.rest → part ≡ Clear
+  nothing_owed zero clause may owed = absurd owed
+  nothing_owed (suc zero) None may owed = owed
+  nothing_owed (suc zero) (Some clause) may owed = absurd cc
+  nothing_owed (suc (suc zero)) clause may owed = owed
+  nothing_owed (suc (suc (suc n))) clause may owed = absurd owed
 
   leaving : LeavesLock rules site stage kept top (shape_of next.0) next.1 r → Changes
   leaving c =
       let above : IsAbove program (lock_of program ∷ []) a.frame.stack.items =
       record { rest = m.above.rest; is = m.above.is ∙ ap (λ (on : Bool). lock_on program on ++ m.above.rest) c.on; clean = m.above.clean } in
-      gives_up program policy annotations o machine a next change _ fields h seen open_is_free c.is c.asks above m.state m.ranged
-      (led_with stage (clause_of policy site) c.may m.owed) m.variables
+      gives_up program policy annotations o machine a next change _ fields h recorded part ranged open_is_free c.is c.asks above recorded ranged
+      (by part (nothing_owed stage (clause_of policy site) c.may m.owed)) m.variables where
+        by : (p : Part) → p ≡ Clear → Settles policy recorded p recorded Clear
+        by p is = rw is refl
 
   -- An instruction behind a call changes what it may.
   pub owed_steps : Changes
   owed_steps = elim (owed_cases rules site stage kept top (shape_of next.0) next.1 r h.ruled.has) [
     | inl c ↦ keeping c
     | inr (inl c) ↦ pushing c
-    | inr (inr (inl c)) ↦ absurd (subst (λ (n : ℕ). IsOwed policy site n (clause_of policy site) seen m.state kept a.frame.locals m.above.rest) c.none m.owed)
+    | inr (inr (inl c)) ↦ absurd (subst (λ (n : ℕ). IsOwed site n (clause_of policy site) part kept a.frame.locals m.above.rest) c.none m.owed)
     | inr (inr (inr c)) ↦ leaving c
   ]

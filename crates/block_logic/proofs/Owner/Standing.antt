@@ -14,24 +14,23 @@ use Rattle.cert_format.specs.declared.note.Phase8.TheVariants.{Before, After, Ex
 use Rattle.cert_format.specs.declared.note.Site.{Site}
 use Rattle.cert_format.specs.declared.note.Term.{Term}
 use Rattle.conspec_tree.specs.declared.types.Kind.{Kind}
-use Rattle.conspec_tree.specs.declared.types.Phase.TheVariants as phases
 use Rattle.conspec_automaton.specs.declared.policy.Branch.{Branch}
 use Rattle.conspec_automaton.specs.declared.policy.Clause.{Clause}
 use Rattle.conspec_automaton.specs.declared.policy.Policy.{Policy}
 use Rattle.conspec_automaton.specs.Denying.{Denies}
 use Rattle.conspec_automaton.specs.Next.{Values, moment, next, updated}
-use Rattle.conspec_automaton.specs.Obeys.{IsFollowed}
 use Rattle.conspec_automaton.specs.Range.{in_range}
 use Rattle.conspec_automaton.specs.Sight.{sight_of}
 use Rattle.conspec_automaton.proofs.Ranges.{found_is}
 use Rattle.guest_heap.specs.declared.frame.Frame.{Frame}
 use Rattle.guest_heap.specs.declared.value.Value.{Value}
 use Rattle.block_logic.specs.Clauses.{clause_at, clause_of, is_of_phase, result_kind}
-use Rattle.block_logic.specs.Meaning.{AreClean, AreState, AreTerms, HasResult, HasResultIn, IsAbove, IsChecked, IsDue, IsEventOf, IsGranted, IsOwed, IsPending, IsTried, Leads, MeansHeld, MeansOwed, Owns, Pends, IsJudged, TellsArguments, TellsIn, TellsResult}
+use Rattle.block_logic.specs.Agreement.{Clear, Granted, Owed, Part, Settles}
+use Rattle.block_logic.specs.Meaning.{AreClean, AreState, AreTerms, HasResult, HasResultIn, IsAbove, IsChecked, IsDue, IsEventOf, IsGranted, IsJudged, IsOwed, IsPending, IsRefused, IsTried, MeansHeld, MeansOwed, Owns, TellsArguments, TellsIn, TellsResult}
 use Rattle.block_logic.specs.Obeying.{FitsListing, IsObeying}
 use Rattle.block_logic.specs.Standing.{asks_kept, branches_of, done, fails, in_phase, is_after, is_before, is_done, is_empty, may_begin, may_stand, same_note, same_phase, same_site, stands_for_held}
 use Rattle.block_logic.specs.Terms.{after_updates, as_taken, same_terms}
-use Rattle.block_logic.proofs.Owner.Events.{due_event, due_followed, leads_followed, pending_taken, pends_followed, stays_ranged, taken_by}
+use Rattle.block_logic.proofs.Owner.Events.{stays_ranged, taken_by}
 use Rattle.block_logic.proofs.Owner.Terms.{same_terms_are}
 use Rattle.block_logic.proofs.Owner.Variables.{as_taken_are, branch_well, done_are, map_some_is}
 
@@ -102,11 +101,6 @@ pub before_is : (phase : Phase8) → is_before phase ≡ true → phase ≡ Befo
 before_is Before e = refl
 before_is phase e = absurd cc
 
-not_before : (phase : Phase8) → is_before phase ≡ false → is_of_phase phase phases.Before ≡ false
-not_before Before e = absurd cc
-not_before After e = refl
-not_before Exceptional e = refl
-
 empty_is : {X : Type 0} (xs : List X) → is_empty xs ≡ true → xs ≡ []
 empty_is [] e = refl
 empty_is (x ∷ xs) e = absurd cc
@@ -170,114 +164,145 @@ module _ (program : Program) (policy : Policy) (annotations : Annotations) (o : 
         let nowhere : slice_get [] i ≡ Some branch = rw none at is in
         absurd cc
 
-  module _ (seen : List Event) (fields : List Value) (frame : Frame) where
+  -- What may stand for what was given: the state that is recorded then, and the part of the thread.
+  pub record Stood (recorded : Values) (fields : List Value) (frame : Frame) (part : Part) (note : Note) : Type 0 where
+    pub now : Values
+    pub ranged : in_range policy now ≡ true
+    pub due : Part
+    pub settles : Settles policy recorded part now due
+    pub owns : Owns program policy annotations.held now fields frame note due
+
+  module _ (recorded : Values) (fields : List Value) (frame : Frame) (part : Part) (ranged : in_range policy recorded ≡ true) where
+    -- as it was
+    as_given : (note : Note) → Owns program policy annotations.held recorded fields frame note part → Stood recorded fields frame part note
+    as_given note owns = record { now = recorded; ranged = ranged; due = part; settles = by part; owns = owns } where
+      by : (p : Part) → Settles policy recorded p recorded p
+      by Clear = refl
+      by (Granted call) = (refl, refl)
+      by (Owed end) = (refl, refl)
+
     -- The event of a check is accepted, and the variables are the state that it leads to.
-    pub record IsPassed (state : Values) (event : Event) : Type 0 where
+    pub record IsPassed (event : Event) : Type 0 where
       pub hold : (method : ℕ) → holds_round annotations.held method ≡ true
       pub end : Values
-      pub taken : next policy state event ≡ Some end
-      pub ranged : in_range policy end ≡ true
+      pub taken : next policy recorded event ≡ Some end
+      pub stays : in_range policy end ≡ true
       pub variables : AreState fields end
 
-    pub passed : (site : Site) (failed holding : ℕ) (list map : List Term) (h : MeansHeld program policy seen fields frame site failed holding list map)
-        → is_done policy site failed holding map ≡ true → IsPassed h.state h.event
+    pub passed : (site : Site) (failed holding : ℕ) (list map : List Term) (h : MeansHeld program policy recorded fields frame site failed holding list map part)
+        → is_done policy site failed holding map ≡ true → IsPassed h.event
     passed site failed holding list map h e =
         let d = done_by policy site h.clause failed holding map h.there e in
-        let of : IsEventOf site h.event = due_event policy site site.phase seen h.state h.event h.due in
-        let tried : IsTried h.state h.event h.clause.branches failed (length d.branch.atoms) = subst (IsTried h.state h.event h.clause.branches failed) d.all h.tried in
-        let taken = taken_by policy site h.clause h.there h.event of h.state failed d.branch d.there tried in
-        let end = updated (moment h.state h.event) d.branch.updates in
-        let written : AreTerms program h.state h.event (after_updates policy d.branch.updates) fields =
-        subst (λ (m : List Term). AreTerms program h.state h.event m fields) d.written h.variables in
+        let tried : IsTried recorded h.event h.clause.branches failed (length d.branch.atoms) = subst (IsTried recorded h.event h.clause.branches failed) d.all h.tried in
+        let taken = taken_by policy site h.clause h.there h.event h.of recorded failed d.branch d.there tried in
+        let end = updated (moment recorded h.event) d.branch.updates in
+        let written : AreTerms program recorded h.event (after_updates policy d.branch.updates) fields =
+        subst (λ (m : List Term). AreTerms program recorded h.event m fields) d.written h.variables in
         record {
           hold = holds_lock site h.clause failed d.branch h.there d.there;
           end = end;
           taken = taken;
-          ranged = stays_ranged policy h.state end h.event o.good h.ranged taken;
+          stays = stays_ranged policy recorded end h.event o.good ranged taken;
           variables =
-              done_are program policy o.good h.event h.state h.ranged h.clause d.branch (branch_well policy o.good site h.clause failed d.branch h.there d.there) fields written;
+              done_are program policy o.good h.event recorded ranged h.clause d.branch (branch_well policy o.good site h.clause failed d.branch h.there d.there) fields written;
         }
 
-    -- a check for a return that is done: its event is accepted
-    pub passed_leads : (site : Site) (phase : Phase8) (state end : Values) (event : Event) → is_before phase ≡ false → IsDue policy site phase seen state event
-        → next policy state event ≡ Some end → Leads policy seen end
-    passed_leads site Before state end event not due taken = absurd cc
-    passed_leads site After state end event not due taken = pending_taken policy seen site event state end due taken
-    passed_leads site Exceptional state end event not due taken = pending_taken policy seen site event state end due taken
+    -- a check for a return that is done: the return is recorded
+    pub passed_settles : (phase : Phase8) (end : Values) (event : Event) → is_before phase ≡ false → IsDue phase event part → next policy recorded event ≡ Some end
+        → Settles policy recorded part end Clear
+    passed_settles Before end event not due taken = absurd cc
+    passed_settles After end event not due taken = rw due taken
+    passed_settles Exceptional end event not due taken = rw due taken
 
-    granted_means : (site : Site) (failed holding : ℕ) (map : List Term) (h : MeansHeld program policy seen fields frame site failed holding [] map)
-        → IsPassed h.state h.event → site.phase ≡ Before → Owns program policy annotations.held seen fields frame (notes.Granted site true 0 false)
-    granted_means site failed holding map h p is =
-        let due : Leads policy seen h.state × IsEventOf site h.event = subst (λ (x : Phase8). IsDue policy site x seen h.state h.event) is h.due in
+    granted_stands : (site : Site) (failed holding : ℕ) (map : List Term) (h : MeansHeld program policy recorded fields frame site failed holding [] map part)
+        → IsPassed h.event → site.phase ≡ Before → Stood recorded fields frame part (notes.Granted site true 0 false)
+    granted_stands site failed holding map h p is =
+        let due : part ≡ Clear = subst (λ (x : Phase8). IsDue x h.event part) is h.due in
         let told : TellsArguments site.base (length h.clause.args) frame.locals h.event = subst (λ (x : Phase8). TellsIn h.clause x site.base frame.locals h.event) is h.told in
         let there : clause_at policy site.method Before ≡ Some h.clause = subst (λ (x : Phase8). clause_at policy site.method x ≡ Some h.clause) is h.there in
         let of : IsEventOf (in_phase Before site) h.event =
-        record { method = due.1.method; phase = subst (λ (x : Phase8). is_of_phase x (sight_of h.event).phase ≡ true) is due.1.phase } in
-        let checked : IsChecked policy site h.clause seen p.end frame.locals = record { before = h.state; event = h.event; led = due.0; of = of; told = told; taken = p.taken } in
-        let none : h.tops ≡ [] = map_some_is h.tops [] (sym h.pushed) in (
-          p.hold site.method,
-          record {
-            holds = refl;
-            state = p.end;
-            ranged = p.ranged;
-            granted = subst (λ (c : Option Clause). IsGranted policy site c seen p.end frame.locals) (sym there) checked;
-            variables = p.variables;
-            few = omega arith;
-            loaded = [];
-            are = refl;
-            above = subst (λ (tops : List Value). IsAbove program tops frame.stack.items) none h.above;
-          },
-        )
+        record { method = h.of.method; phase = subst (λ (x : Phase8). is_of_phase x (sight_of h.event).phase ≡ true) is h.of.phase } in
+        let checked : IsChecked site h.clause (Granted h.event) frame.locals = record { event = h.event; is = refl; of = of; told = told } in
+        let none : h.tops ≡ [] = map_some_is h.tops [] (sym h.pushed) in
+        let settles : Settles policy recorded part p.end (Granted h.event) = rw due p.taken in
+        record {
+          now = p.end;
+          ranged = p.stays;
+          due = Granted h.event;
+          settles = settles;
+          owns = (
+            p.hold site.method,
+            record {
+              holds = refl;
+              granted = subst (λ (c : Option Clause). IsGranted site c (Granted h.event) frame.locals) (sym there) checked;
+              variables = p.variables;
+              few = omega arith;
+              loaded = [];
+              are = refl;
+              above = subst (λ (tops : List Value). IsAbove program tops frame.stack.items) none h.above;
+            },
+          );
+        }
 
-    owed_means : (site : Site) (failed holding : ℕ) (map : List Term) (kept : Bool) (h : MeansHeld program policy seen fields frame site failed holding [] map)
-        → IsPassed h.state h.event → is_before site.phase ≡ false → Owns program policy annotations.held seen fields frame (notes.Owed site 2 kept false)
-    owed_means site failed holding map kept h p not =
-        let none : h.tops ≡ [] = map_some_is h.tops [] (sym h.pushed) in (
-          p.hold site.method,
-          record {
-            behind = not;
-            state = p.end;
-            ranged = p.ranged;
-            variables = p.variables;
-            above = subst (λ (tops : List Value). IsAbove program tops frame.stack.items) none h.above;
-            owed = passed_leads site site.phase h.state p.end h.event not h.due p.taken;
-          },
-        )
+    owed_settles : (site : Site) (failed holding : ℕ) (map : List Term) (kept : Bool) (h : MeansHeld program policy recorded fields frame site failed holding [] map part)
+        → IsPassed h.event → is_before site.phase ≡ false → Stood recorded fields frame part (notes.Owed site 2 kept false)
+    owed_settles site failed holding map kept h p not =
+        let none : h.tops ≡ [] = map_some_is h.tops [] (sym h.pushed) in
+        record {
+          now = p.end;
+          ranged = p.stays;
+          due = Clear;
+          settles = passed_settles site.phase p.end h.event not h.due p.taken;
+          owns = (
+            p.hold site.method,
+            record {
+              behind = not;
+              variables = p.variables;
+              above = subst (λ (tops : List Value). IsAbove program tops frame.stack.items) none h.above;
+              owed = refl;
+            },
+          );
+        }
 
-    done_means : (site : Site) (failed holding : ℕ) (map : List Term) (h : MeansHeld program policy seen fields frame site failed holding [] map)
-        → IsPassed h.state h.event → Owns program policy annotations.held seen fields frame (done policy site)
-    done_means site failed holding map h p = elim (cases_Bool (is_before site.phase)) [
+    done_stands : (site : Site) (failed holding : ℕ) (map : List Term) (h : MeansHeld program policy recorded fields frame site failed holding [] map part)
+        → IsPassed h.event → Stood recorded fields frame part (done policy site)
+    done_stands site failed holding map h p = elim (cases_Bool (is_before site.phase)) [
       | inl before ↦
           let is : done policy site ≡ notes.Granted site true 0 false = rw before refl in
-          rw is (granted_means site failed holding map h p (before_is site.phase before))
+          rw is (granted_stands site failed holding map h p (before_is site.phase before))
       | inr behind ↦
           let is : done policy site ≡ notes.Owed site 2 (asks_kept policy site) false = rw behind refl in
-          rw is (owed_means site failed holding map (asks_kept policy site) h p behind)
+          rw is (owed_settles site failed holding map (asks_kept policy site) h p behind)
     ]
 
     -- the way out
-    stop_means : (site : Site) (failed holding : ℕ) (list map : List Term) → MeansHeld program policy seen fields frame site failed holding list map
-        → Owns program policy annotations.held seen fields frame (notes.Stop site 0)
-    stop_means site failed holding list map h = record { followed = due_followed policy seen site site.phase h.event h.state refl h.due; stopping = tt }
+    due_refused : (phase : Phase8) (event : Event) → IsDue phase event part → IsRefused part
+    due_refused Before event due = rw due tt
+    due_refused After event due = rw due tt
+    due_refused Exceptional event due = rw due tt
+
+    stop_means : (site : Site) (failed holding : ℕ) (list map : List Term) → MeansHeld program policy recorded fields frame site failed holding list map part
+        → Owns program policy annotations.held recorded fields frame (notes.Stop site 0) part
+    stop_means site failed holding list map h = record { refused = due_refused site.phase h.event h.due; stopping = tt }
 
     -- What may stand for the note of a check means what is so.
-    pub held_stands : (site : Site) (failed holding : ℕ) (list map : List Term) (note : Note) → MeansHeld program policy seen fields frame site failed holding list map
-        → stands_for_held policy site failed holding list map note ≡ true → Owns program policy annotations.held seen fields frame note
+    pub held_stands : (site : Site) (failed holding : ℕ) (list map : List Term) (note : Note) → MeansHeld program policy recorded fields frame site failed holding list map part
+        → stands_for_held policy site failed holding list map note ≡ true → Stood recorded fields frame part note
     held_stands site failed holding list map note h e = elim (or_cases (same_note (notes.Held site failed holding list map) note) _ e) [
-      | inl same ↦ subst (λ (n : Note). Owns program policy annotations.held seen fields frame n) (same_note_is (notes.Held site failed holding list map) note same) h
+      | inl same ↦ subst (Stood recorded fields frame part) (same_note_is (notes.Held site failed holding list map) note same) (as_given (notes.Held site failed holding list map) h)
       | inr other ↦ elim (or_cases ((is_done policy site failed holding map && is_empty list) && same_note (done policy site) note) _ other) [
         | inl is ↦
             let p = and_parts (is_done policy site failed holding map && is_empty list) _ is in
             let q = and_parts (is_done policy site failed holding map) (is_empty list) p.0 in
             let none : list ≡ [] = empty_is list q.1 in
-            let h' : MeansHeld program policy seen fields frame site failed holding [] map =
-            subst (λ (l : List Term). MeansHeld program policy seen fields frame site failed holding l map) none h in
-            subst (λ (n : Note). Owns program policy annotations.held seen fields frame n) (same_note_is (done policy site) note p.1)
-            (done_means site failed holding map h' (passed site failed holding [] map h' q.0))
+            let h' : MeansHeld program policy recorded fields frame site failed holding [] map part =
+            subst (λ (l : List Term). MeansHeld program policy recorded fields frame site failed holding l map part) none h in
+            subst (Stood recorded fields frame part) (same_note_is (done policy site) note p.1)
+            (done_stands site failed holding map h' (passed site failed holding [] map h' q.0))
         | inr is ↦
             let p = and_parts (fails policy site failed) _ is in
-            subst (λ (n : Note). Owns program policy annotations.held seen fields frame n) (same_note_is (notes.Stop site 0) note p.1)
-            (stop_means site failed holding list map h)
+            subst (Stood recorded fields frame part) (same_note_is (notes.Stop site 0) note p.1)
+            (as_given (notes.Stop site 0) (stop_means site failed holding list map h))
       ]
     ]
 
@@ -303,7 +328,7 @@ module _ (program : Program) (policy : Policy) (annotations : Annotations) (o : 
       let agree : is_some clause.result ≡ is_some first.0.result = results_agree clause first.0 fits.so same.so named.so methods in
       ap (λ (c : Option Clause). is_some (option_and_then (λ (d : Clause). d.result) c)) first.1 ∙ sym agree ∙ has
 
-  module _ (seen : List Event) (fields : List Value) (frame : Frame) where
+  module _ (recorded : Values) (fields : List Value) (frame : Frame) (part : Part) where
     kept_result : (site : Site) (clause : Clause) (result : Option Kind) (kept : Bool) (rest : List Value) (event : Event) → (is_some result ≡ true → kept ≡ true)
         → HasResult result kept site.base frame.locals rest event → TellsResult site.base result frame.locals event
     kept_result site clause None kept rest event keeps has = tt
@@ -320,90 +345,70 @@ module _ (program : Program) (policy : Policy) (annotations : Annotations) (o : 
         kept_result site clause clause.result kept rest event keeps has
     tells_kept site clause Exceptional kept rest event there is behind asks has = tt
 
-    is_due_behind : (site : Site) (phase : Phase8) (state : Values) (event : Event) → is_before phase ≡ false → Pends policy site seen state event → IsDue policy site phase seen state event
-    is_due_behind site Before state event behind pends = absurd cc
-    is_due_behind site After state event behind pends = pends
-    is_due_behind site Exceptional state event behind pends = pends
+    is_due_behind : (phase : Phase8) (event : Event) → is_before phase ≡ false → part ≡ Owed event → IsDue phase event part
+    is_due_behind Before event behind is = absurd cc
+    is_due_behind After event behind is = is
+    is_due_behind Exceptional event behind is = is
 
     -- a check that has just begun
-    pub begun_means : (site : Site) (clause : Clause) (state : Values) (event : Event) → clause_of policy site ≡ Some clause → in_range policy state ≡ true
-        → AreState fields state → IsDue policy site site.phase seen state event → TellsIn clause site.phase site.base frame.locals event
-        → AreClean program frame.stack.items → MeansHeld program policy seen fields frame site 0 0 [] (as_taken policy)
-    begun_means site clause state event there ranged are due told clean = record {
+    pub begun_means : (site : Site) (clause : Clause) (event : Event) → clause_of policy site ≡ Some clause → in_range policy recorded ≡ true
+        → AreState fields recorded → IsEventOf site event → IsDue site.phase event part → TellsIn clause site.phase site.base frame.locals event
+        → AreClean program frame.stack.items → MeansHeld program policy recorded fields frame site 0 0 [] (as_taken policy) part
+    begun_means site clause event there ranged are of due told clean = record {
       clause = clause;
       there = there;
-      state = state;
-      ranged = ranged;
       event = event;
+      of = of;
       due = due;
       told = told;
       tried = record { few = omega arith; fail = λ j b less is. absurd (omega arith); hold = λ b is. (omega arith, λ j atom less is. absurd (omega arith)) };
-      variables = as_taken_are program policy o.good event state ranged fields are;
+      variables = as_taken_are program policy o.good event recorded ranged fields are;
       tops = [];
       pushed = refl;
       above = record { rest = frame.stack.items; is = refl; clean = clean };
     }
 
-    owed_begins : (site : Site) (kept : Bool) (clause : Clause) → clause_of policy site ≡ Some clause → kept ≡ asks_kept policy site
-        → MeansOwed program policy seen fields frame site 1 kept false → MeansHeld program policy seen fields frame site 0 0 [] (as_taken policy)
-    owed_begins site kept clause there asks m =
-        let p : IsPending policy site clause seen m.state kept frame.locals m.above.rest =
-        subst (λ (c : Option Clause). IsOwed policy site 1 c seen m.state kept frame.locals m.above.rest) there m.owed in
-        begun_means site clause m.state p.event there m.ranged m.variables (is_due_behind site site.phase m.state p.event m.behind p.pends)
-        (tells_kept site clause site.phase kept m.above.rest p.event there refl m.behind asks p.told)
-        (subst (AreClean program) (sym m.above.is) m.above.clean)
+    module _ (ranged : in_range policy recorded ≡ true) where
+      owed_begins : (site : Site) (kept : Bool) (clause : Clause) → clause_of policy site ≡ Some clause → kept ≡ asks_kept policy site
+          → MeansOwed program policy recorded fields frame site 1 kept false part → MeansHeld program policy recorded fields frame site 0 0 [] (as_taken policy) part
+      owed_begins site kept clause there asks m =
+          let p : IsPending site clause part kept frame.locals m.above.rest =
+          subst (λ (c : Option Clause). IsOwed site 1 c part kept frame.locals m.above.rest) there m.owed in
+          begun_means site clause p.event there ranged m.variables p.of (is_due_behind site.phase p.event m.behind p.is)
+          (tells_kept site clause site.phase kept m.above.rest p.event there refl m.behind asks p.told)
+          (subst (AreClean program) (sym m.above.is) m.above.clean)
 
-    owed_stands : (site : Site) (stage : ℕ) (kept top : Bool) (note : Note) → Owns program policy annotations.held seen fields frame (notes.Owed site stage kept top)
-        → (may_begin policy site stage kept top && stands_for_held policy site 0 0 [] (as_taken policy) note) ≡ true
-        → Owns program policy annotations.held seen fields frame note
-    owed_stands site stage kept top note m e =
-        let p = and_parts (may_begin policy site stage kept top) _ e in
-        let q = and_parts (stage == 1) _ p.0 in
-        let r = and_parts (not top) _ q.1 in
-        let u = and_parts (is_some (clause_of policy site)) _ r.1 in
-        let clause = some_there (clause_of policy site) u.0 in
-        let one : stage ≡ 1 = eqb-true stage 1 q.0 in
-        let bare : top ≡ false = not-true top r.0 in
-        let m' : MeansOwed program policy seen fields frame site 1 kept false =
-        subst (λ (t : Bool). MeansOwed program policy seen fields frame site 1 kept t) bare (subst (λ (n : ℕ). MeansOwed program policy seen fields frame site n kept top) one m.1) in
-        held_stands seen fields frame site 0 0 [] (as_taken policy) note (owed_begins site kept clause.0 clause.1 (beq_is kept _ u.1) m') p.1
+      owed_stands : (site : Site) (stage : ℕ) (kept top : Bool) (note : Note) → Owns program policy annotations.held recorded fields frame (notes.Owed site stage kept top) part
+          → (may_begin policy site stage kept top && stands_for_held policy site 0 0 [] (as_taken policy) note) ≡ true
+          → Stood recorded fields frame part note
+      owed_stands site stage kept top note m e =
+          let p = and_parts (may_begin policy site stage kept top) _ e in
+          let q = and_parts (stage == 1) _ p.0 in
+          let r = and_parts (not top) _ q.1 in
+          let u = and_parts (is_some (clause_of policy site)) _ r.1 in
+          let clause = some_there (clause_of policy site) u.0 in
+          let one : stage ≡ 1 = eqb-true stage 1 q.0 in
+          let bare : top ≡ false = not-true top r.0 in
+          let m' : MeansOwed program policy recorded fields frame site 1 kept false part =
+          subst (λ (t : Bool). MeansOwed program policy recorded fields frame site 1 kept t part) bare (subst (λ (n : ℕ). MeansOwed program policy recorded fields frame site n kept top part) one m.1) in
+          held_stands recorded fields frame part ranged site 0 0 [] (as_taken policy) note (owed_begins site kept clause.0 clause.1 (beq_is kept _ u.1) m') p.1
 
-    -- ---- any note
+      -- ---- any note
 
-    -- What may stand for a note of a block that holds the lock means what is so.
-    pub stands : (given note : Note) → Owns program policy annotations.held seen fields frame given → may_stand policy given note ≡ true
-        → Owns program policy annotations.held seen fields frame note
-    stands notes.Free note m e = absurd m
-    stands (notes.Taking site) note m e = absurd m
-    stands (notes.Held site failed holding list map) note m e = held_stands seen fields frame site failed holding list map note m e
-    stands (notes.Granted site locked loaded top) note m e =
-        subst (λ (n : Note). Owns program policy annotations.held seen fields frame n) (same_note_is (notes.Granted site locked loaded top) note e) m
-    stands (notes.Owed site stage kept top) note m e = elim (or_cases (same_note (notes.Owed site stage kept top) note) _ e) [
-      | inl same ↦ subst (λ (n : Note). Owns program policy annotations.held seen fields frame n) (same_note_is (notes.Owed site stage kept top) note same) m
-      | inr begins ↦ owed_stands site stage kept top note m begins
-    ]
-    stands (notes.Stop site place) note m e =
-        subst (λ (n : Note). Owns program policy annotations.held seen fields frame n) (same_note_is (notes.Stop site place) note e) m
-
-    -- ---- the events so far
-
-    granted_followed : (site : Site) (clause : Option Clause) (state : Values) → IsGranted policy site clause seen state frame.locals → IsFollowed policy seen
-    granted_followed site None state led = leads_followed policy seen state led
-    granted_followed site (Some clause) state checked = leads_followed policy seen checked.before checked.led
-
-    owed_followed : (site : Site) (stage : ℕ) (clause : Option Clause) (state : Values) (kept : Bool) (rest : List Value) → is_before site.phase ≡ false
-        → IsOwed policy site stage clause seen state kept frame.locals rest → IsFollowed policy seen
-    owed_followed site zero clause state kept rest behind owed = absurd owed
-    owed_followed site (suc zero) None state kept rest behind led = leads_followed policy seen state led
-    owed_followed site (suc zero) (Some clause) state kept rest behind p = pends_followed policy seen site p.event state (not_before site.phase behind) p.pends
-    owed_followed site (suc (suc zero)) clause state kept rest behind led = leads_followed policy seen state led
-    owed_followed site (suc (suc (suc n))) clause state kept rest behind owed = absurd owed
-
-    -- All clause events are accepted, or all but the last, which is a return.
-    pub owned_followed : (note : Note) → Owns program policy annotations.held seen fields frame note → IsFollowed policy seen
-    owned_followed notes.Free m = absurd m
-    owned_followed (notes.Taking site) m = absurd m
-    owned_followed (notes.Held site failed holding list map) m = due_followed policy seen site site.phase m.event m.state refl m.due
-    owned_followed (notes.Granted site locked loaded top) m = granted_followed site (clause_at policy site.method Before) m.1.state m.1.granted
-    owned_followed (notes.Owed site stage kept top) m = owed_followed site stage (clause_of policy site) m.1.state kept m.1.above.rest m.1.behind m.1.owed
-    owned_followed (notes.Stop site place) m = m.followed
+      -- What may stand for a note of a block that holds the lock means what is so.
+      pub stands : (given note : Note) → Owns program policy annotations.held recorded fields frame given part → may_stand policy given note ≡ true
+          → Stood recorded fields frame part note
+      stands notes.Free note m e = absurd m
+      stands (notes.Taking site) note m e = absurd m
+      stands (notes.Held site failed holding list map) note m e = held_stands recorded fields frame part ranged site failed holding list map note m e
+      stands (notes.Granted site locked loaded top) note m e =
+          subst (Stood recorded fields frame part) (same_note_is (notes.Granted site locked loaded top) note e)
+          (as_given recorded fields frame part ranged (notes.Granted site locked loaded top) m)
+      stands (notes.Owed site stage kept top) note m e = elim (or_cases (same_note (notes.Owed site stage kept top) note) _ e) [
+        | inl same ↦
+            subst (Stood recorded fields frame part) (same_note_is (notes.Owed site stage kept top) note same)
+            (as_given recorded fields frame part ranged (notes.Owed site stage kept top) m)
+        | inr begins ↦ owed_stands site stage kept top note m begins
+      ]
+      stands (notes.Stop site place) note m e =
+          subst (Stood recorded fields frame part) (same_note_is (notes.Stop site place) note e) (as_given recorded fields frame part ranged (notes.Stop site place) m)

@@ -17,7 +17,8 @@ use Rattle.block_logic.specs.Annotations.{Annotations}
 use Rattle.cert_format.specs.declared.note.Note.TheVariants as notes
 use Rattle.cert_format.specs.declared.note.Site.{Site}
 use Rattle.conspec_automaton.specs.declared.policy.Policy.{Policy}
-use Rattle.conspec_automaton.specs.Obeys.{IsFollowed}
+use Rattle.conspec_automaton.specs.Next.{Values}
+use Rattle.conspec_automaton.specs.Range.{in_range}
 use Rattle.guest_heap.specs.declared.value.Value.{Value}
 use Rattle.guest_heap.specs.declared.value.Value.TheVariants as values
 use Rattle.guest_model.specs.declared.builtin.Builtin.{Builtin}
@@ -30,6 +31,7 @@ use Rattle.guest_model.specs.Changes.{Change, World, world_of}
 use Rattle.guest_model.specs.Parts.{number_in}
 use Rattle.guest_model.specs.Stepping.{Acting}
 use Rattle.guest_model.proofs.Options.{and_then_of, map_of}
+use Rattle.block_logic.specs.Agreement.{Clear, Granted, Owed, Part, Settles}
 use Rattle.block_logic.specs.Meaning.{MeansStop}
 use Rattle.block_logic.specs.Obeying.{IsObeying}
 use Rattle.block_logic.specs.Operands.{calls, is_way_out, number_pushed, stops}
@@ -87,16 +89,23 @@ exit_stops program machine a change how index exit e =
 -- ---- the steps
 
 module _ (program : Program) (policy : Policy) (annotations : Annotations) (o : IsObeying program policy annotations)
-    (machine : Machine) (a : Acting) (next : Insn × Target) (change : Change) (fields : List Value) (seen : List Event) (site : Site) where
+    (machine : Machine) (a : Acting) (next : Insn × Target) (change : Change) (fields : List Value) (recorded : Values) (part : Part) (ranged : in_range policy recorded ≡ true) (site : Site) where
   abbrev Changes : Type 0
-  Changes = ChangesOwner program policy annotations a.number seen change
+  Changes = ChangesOwner program policy annotations a.number recorded part change
 
-  stopping : Stops change → IsFollowed policy seen → Changes
-  stopping s followed =
-      let same : seen ≡ seen ++ option_to_list change.event = sym (append-nil seen) ∙ ap (λ (e : Option Event). seen ++ option_to_list e) (sym s.silent) in
+  settles_still : (p : Part) → Settles policy recorded p recorded p
+  settles_still Clear = refl
+  settles_still (Granted call) = (refl, refl)
+  settles_still (Owed end) = (refl, refl)
+
+  stopping : Stops change → Changes
+  stopping s =
       record {
         begins = s.begins;
-        followed = subst (IsFollowed policy) same followed;
+        now = recorded;
+        ranged = ranged;
+        due = part;
+        turns = rw s.silent (settles_still part);
         goes = λ on. let not_so : Some s.stops ≡ None = sym s.is ∙ on in absurd cc;
       }
 
@@ -105,13 +114,13 @@ module _ (program : Program) (policy : Policy) (annotations : Annotations) (o : 
   value_pushed n (Some m) e = ap Some (same_number m n e)
 
   -- An instruction of the way out changes what it may.
-  pub stop_steps : (place : ℕ) → ActsHolding program policy annotations machine a next change (notes.Stop site place) fields → MeansStop policy seen a.frame place → Changes
+  pub stop_steps : (place : ℕ) → ActsHolding program policy annotations machine a next change (notes.Stop site place) fields → MeansStop a.frame place part → Changes
   stop_steps zero h m =
       let w = where_so _ _ h.ruled.r h.ruled.has in
       let value = value_pushed (pos 77) (number_pushed (shape_of next.0) next.1) w.0 in
       let p = pushes_this program policy annotations machine a change next h.step (pos 77) value in
-      goes_with_behind program policy annotations o machine a next change _ fields h seen (values.Int (pos 77) ∷ a.frame.stack.items) (notes.Stop site 1) p.1
-      (gives_asks (notes.Stop site 1) h.ruled.r w.1) p.0 (record { followed = m.followed; stopping = refl })
+      goes_with_behind program policy annotations o machine a next change _ fields h recorded part ranged (values.Int (pos 77) ∷ a.frame.stack.items) (notes.Stop site 1) p.1
+      (gives_asks (notes.Stop site 1) h.ruled.r w.1) p.0 (record { refused = m.refused; stopping = refl })
   stop_steps (suc zero) h m =
       let w = where_so _ _ h.ruled.r h.ruled.has in
       let p = and_parts (calls (shape_of next.0)) _ w.0 in
@@ -119,5 +128,5 @@ module _ (program : Program) (policy : Policy) (annotations : Annotations) (o : 
       let how = how_calls (shape_of next.0) p.0 in
       let made : calls_out program machine a.number a.thread a.frame a.below how.0 (target.Builtin index.0) ≡ Some change =
       subst (λ (ref : Target). calls_out program machine a.number a.thread a.frame a.below how.0 ref ≡ Some change) index.1 (on_heap program machine a change next h.step (heap.Call how.0) how.1) in
-      stopping (exit_stops program machine a change how.0 index.0 index.2 made) m.followed
+      stopping (exit_stops program machine a change how.0 index.0 index.2 made)
   stop_steps (suc (suc n)) h m = absurd m.stopping

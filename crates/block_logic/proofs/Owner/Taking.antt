@@ -33,8 +33,9 @@ use Rattle.guest_frames.specs.Stepping.{moved_to}
 use Rattle.guest_model.specs.Changes.{Change, with_monitors, world_of}
 use Rattle.guest_model.specs.Parts.{number_in}
 use Rattle.guest_model.specs.Stepping.{enters}
+use Rattle.block_logic.specs.Agreement.{Clear}
 use Rattle.block_logic.specs.Clauses.{clause_at, is_of_phase}
-use Rattle.block_logic.specs.Meaning.{AreClean, AreState, IsAbove, IsDue, IsEventOf, IsGranted, Leads, Owns, IsJudged, TellsArguments, TellsIn, lock_of}
+use Rattle.block_logic.specs.Meaning.{AreClean, AreState, IsAbove, IsDue, IsEventOf, IsGranted, Owns, IsJudged, TellsArguments, TellsIn, lock_of}
 use Rattle.block_logic.specs.Obeying.{IsObeying}
 use Rattle.block_logic.specs.Rows.{Given, note_taken}
 use Rattle.block_logic.specs.Standing.{begun, is_before}
@@ -110,28 +111,27 @@ module _ (program : Program) (policy : Policy) (annotations : Annotations) (o : 
     by (inl held) = held method
     by (inr denies) = let some : is_some (clause_at policy method Before) ≡ true = denied_before method policy.clauses denies.clauses has in absurd cc
 
-  module _ (site : Site) (before : site.phase ≡ Before) (seen : List Event) (fields : List Value) (frame : Frame) (state : Values) (ranged : in_range policy state ≡ true)
-      (led : Leads policy seen state) (are : AreState fields state) (clean : AreClean program frame.stack.items) where
+  module _ (site : Site) (before : site.phase ≡ Before) (recorded : Values) (fields : List Value) (frame : Frame) (ranged : in_range policy recorded ≡ true)
+      (are : AreState fields recorded) (clean : AreClean program frame.stack.items) where
     -- the check begins
-    checks : (clause : Clause) → clause_at policy site.method Before ≡ Some clause → Owns program policy annotations.held seen fields frame (begun policy site)
+    checks : (clause : Clause) → clause_at policy site.method Before ≡ Some clause → Owns program policy annotations.held recorded fields frame (begun policy site) Clear
     checks clause there =
         let event = call_told frame.locals site clause in
         let of : IsEventOf site event = record { method = refl; phase = subst (λ (p : Phase8). is_of_phase p phases.Before ≡ true) (sym before) refl } in
-        begun_means program policy annotations o seen fields frame site clause state event
-        (subst (λ (p : Phase8). clause_at policy site.method p ≡ Some clause) (sym before) there) ranged are
-        (subst (λ (p : Phase8). IsDue policy site p seen state event) (sym before) (led, of))
+        begun_means program policy annotations o recorded fields frame Clear site clause event
+        (subst (λ (p : Phase8). clause_at policy site.method p ≡ Some clause) (sym before) there) ranged are of
+        (subst (λ (p : Phase8). IsDue p event Clear) (sym before) refl)
         (subst (λ (p : Phase8). TellsIn clause p site.base frame.locals event) (sym before) (call_tells frame.locals site clause)) clean
 
     -- there is none
-    grants : has_clauses policy site.method ≡ true → is_some (clause_at policy site.method Before) ≡ false → Owns program policy annotations.held seen fields frame (notes.Granted site true 0 false)
+    grants : has_clauses policy site.method ≡ true → is_some (clause_at policy site.method Before) ≡ false
+        → Owns program policy annotations.held recorded fields frame (notes.Granted site true 0 false) Clear
     grants has none =
         let nothing : clause_at policy site.method Before ≡ None = none_there (clause_at policy site.method Before) none in (
           holds_unchecked site.method has none,
           record {
             holds = refl;
-            state = state;
-            ranged = ranged;
-            granted = subst (λ (c : Option Clause). IsGranted policy site c seen state frame.locals) (sym nothing) led;
+            granted = subst (λ (c : Option Clause). IsGranted site c Clear frame.locals) (sym nothing) refl;
             variables = are;
             few = omega arith;
             loaded = [];
@@ -140,7 +140,7 @@ module _ (program : Program) (policy : Policy) (annotations : Annotations) (o : 
           },
         )
 
-    takes : has_clauses policy site.method ≡ true → Owns program policy annotations.held seen fields frame (note_taken policy site)
+    takes : has_clauses policy site.method ≡ true → Owns program policy annotations.held recorded fields frame (note_taken policy site) Clear
     takes has = elim (cases_Bool (is_some (clause_at policy site.method Before))) [
       | inl some ↦
           let c = some_there (clause_at policy site.method Before) some in
@@ -163,7 +163,7 @@ module _ (program : Program) (policy : Policy) (annotations : Annotations) (o : 
     top_is frame above = rw above.is refl
 
     pub taking_steps : TakingSteps program policy annotations
-    taking_steps machine a next change site seen fields state acts free none ranged led are there step =
+    taking_steps machine a next change site recorded fields part acts free clear none ranged are there step =
         let ruled = rules_hold a.frame next (notes.Taking site) acts.there acts.told in
         let here = enters_here a.frame next site ruled in
         let lock = lock_taken program a.number machine.monitors none in
@@ -172,13 +172,13 @@ module _ (program : Program) (policy : Policy) (annotations : Annotations) (o : 
         let rest = drop 1 a.frame.stack.items in
         let clean : AreClean program rest = subst (λ (items : List Value). AreClean program (drop 1 items)) (sym free.1.is) free.1.clean in
         let frame = moved_to a.frame (a.frame.at + 1) a.frame.locals rest in
-        let owns = takes site (before_is site.phase asks.0) seen fields frame state ranged led are clean asks.1 in
+        let owns = subst (Owns program policy annotations.held recorded fields frame (note_taken policy site)) (sym clear) (takes site (before_is site.phase asks.0) recorded fields frame ranged are clean asks.1) in
         let behind : LeadsTo program policy annotations a.frame (a.frame.at + 1) (Given (note_taken policy site)) =
         subst (LeadsTo program policy annotations a.frame (a.frame.at + 1)) here.1
         (ruled.past (goes_behind program policy annotations o a.frame next acts.there (ap ends here.0))) in
-        let top = owner_frame program policy annotations o a.frame acts.well seen fields (a.frame.at + 1) a.frame.locals rest (note_taken policy site) acts.well.locals behind owns in
-        subst (ChangesOwner program policy annotations a.number seen) (sym g.is)
-        (goes_holding program policy annotations o a.number seen fields (with_monitors (world_of machine) lock.held) a.thread frame a.below acts.below
+        let top = owner_frame program policy annotations o a.frame acts.well recorded fields part ranged (a.frame.at + 1) a.frame.locals rest (note_taken policy site) acts.well.locals behind owns in
+        subst (ChangesOwner program policy annotations a.number recorded part) (sym g.is)
+        (goes_holding program policy annotations o a.number recorded fields part (with_monitors (world_of machine) lock.held) a.thread frame a.below acts.below
         (record { clean = record { heap = acts.world.heap; statics = acts.world.statics }; locks = lock.locks; variables = there }) top)
 
     pub taking_waits : TakingWaits program policy annotations
