@@ -95,7 +95,7 @@ module _ (policy : Policy) (traced : List Event) (recorded : Values) where
   joined state e is = runs_join (next policy) first traced (e ∷ []) ∙ ap (option_and_then (λ (s : Values). after (next policy) s (e ∷ []))) is ∙ some_same (next policy state e)
 
   -- events that a policy sees alike
-  alike : SeenIsEnough → (e f : Event) → sight_of e ≡ sight_of f → run (traced ++ e ∷ []) ≡ run (traced ++ f ∷ [])
+  pub alike : SeenIsEnough → (e f : Event) → sight_of e ≡ sight_of f → run (traced ++ e ∷ []) ≡ run (traced ++ f ∷ [])
   alike enough e f same = runs_join (next policy) first traced (e ∷ []) ∙ by (run traced) ∙ sym (runs_join (next policy) first traced (f ∷ [])) where
     by : (o : Option Values) → option_and_then (λ (s : Values). after (next policy) s (e ∷ [])) o ≡ option_and_then (λ (s : Values). after (next policy) s (f ∷ [])) o
     by None = refl

@@ -6,7 +6,9 @@ pub mod Tests
 pub mod Told
 pub mod RulesHold
 pub mod Leaving
+pub mod Orders
 pub mod Agreement
+pub mod Racing
 pub mod Threads
 pub mod Composing
 pub mod Keeping

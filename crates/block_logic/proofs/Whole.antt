@@ -8,6 +8,7 @@ use Rattle.block_logic.proofs.Client.Answers.{client_answers}
 use Rattle.block_logic.proofs.Client.Steps.{client_steps}
 use Rattle.block_logic.proofs.Composing.{StepLaws}
 use Rattle.block_logic.proofs.Obeyed.{Proved}
+use Rattle.block_logic.proofs.Racing.{turned as race_turned}
 use Rattle.block_logic.proofs.Owner.Answers.{owner_answers}
 use Rattle.block_logic.proofs.Owner.Steps.{owner_steps}
 use Rattle.block_logic.proofs.Owner.Taking.{taking_is_unseen, taking_steps, taking_waits}
