@@ -3,6 +3,7 @@ pub mod Acting
 pub mod Answers
 pub mod Checks
 pub mod Events
+pub mod Fair
 pub mod Going
 pub mod Granted
 pub mod GrantedRows

@@ -10,7 +10,7 @@ use Rattle.conspec_automaton.specs.Next.{Values, initial, method_of, next}
 use Rattle.conspec_automaton.specs.Obeys.{after, is_return}
 use Rattle.conspec_automaton.specs.Range.{in_range}
 use Rattle.conspec_automaton.specs.Turning.{IsTaken, Keeps, Turns as MayTurn}
-use Rattle.block_logic.specs.Agreement.{Clear, Granted, Owed, Part, Settles, Tells, Turns, all_granted, all_owed, granted_by, owed_by}
+use Rattle.block_logic.specs.Agreement.{Agree, Clear, Granted, Owed, Part, Settles, Tells, Turns, all_granted, all_owed, granted_by, owed_by}
 use Rattle.block_logic.specs.Annotations.{holds_round}
 use Rattle.block_logic.specs.declared.held_calls.HeldCalls.{HeldCalls}
 use Rattle.block_logic.proofs.Agreement.{SeenIsEnough, alike}
@@ -263,3 +263,62 @@ module _ (policy : Policy) (held : HeldCalls) (Fit : Event → Type 0) where
       turned in_range_now part None due good good_due fit loose turns a =
           subst (λ (es : List Event). Agreed es now due) (sym (append-nil traced)) (settled in_range_now part due good good_due loose turns a)
       turned in_range_now part (Some e) due good good_due fit loose turns a = told part e due good fit loose turns a
+
+    -- ---- the same of all threads
+
+    module _ (enough : SeenIsEnough) (keeps : Keeps (next policy) (in_range policy)) (starts : IsTrue (in_range policy (initial policy)))
+        (traced : List Event) (recorded now : Values) (ranged : IsTrue (in_range policy recorded)) (in_range_now : IsTrue (in_range policy now))
+        (among : List Part) (own : ℕ) (part due : Part) (event : Option Event) (there : slice_get among own ≡ Some part)
+        (good : IsGood part) (good_due : IsGood due) (fit : IfSome event Fit) (goods : (n : ℕ) (q : Part) → n ≢ own → slice_get among n ≡ Some q → IsGood q)
+        (loose : (IsLoose part × IsLoose due × IfSome event IsLooseEvent) ⊎ ((n : ℕ) (q : Part) → n ≢ own → slice_get among n ≡ Some q → IsLoose q))
+        (turns : Turns policy recorded part event now due)
+        (agree : Agree (next policy) (initial policy) traced recorded (all_granted among) (all_owed among)) where
+      abbrev front : List Part
+      front = take own among
+
+      abbrev back : List Part
+      back = drop (suc own) among
+
+      good_sides : AllByRecursion IsGood front × AllByRecursion IsGood back
+      good_sides = each_other IsGood among own goods
+
+      whole : (p : Part) → all_granted (front ++ p ∷ back) ≡ all_granted front ++ (granted_by p ++ all_granted back)
+      whole p = granted_both front (p ∷ back)
+
+      whole_owed : (p : Part) → all_owed (front ++ p ∷ back) ≡ all_owed front ++ (owed_by p ++ all_owed back)
+      whole_owed p = owed_both front (p ∷ back)
+
+      owed_leads : (end : Values) × (after (next policy) recorded (all_owed front ++ (owed_by part ++ all_owed back)) ≡ Some end)
+      owed_leads = all_taken_both keeps recorded front (part ∷ back) ranged good_sides.0 (good, good_sides.1)
+
+      before : Agrees (next policy) (in_range policy) keeps (initial policy) traced recorded (all_granted front ++ (granted_by part ++ all_granted back)) (all_owed front ++ (owed_by part ++ all_owed back))
+      before =
+          let is = split_at among own part there in
+          let granted_is : all_granted among ≡ all_granted front ++ (granted_by part ++ all_granted back) = ap all_granted is ∙ whole part in
+          let owed_is : all_owed among ≡ all_owed front ++ (owed_by part ++ all_owed back) = ap all_owed is ∙ whole_owed part in
+          record {
+            end = owed_leads.0;
+            happened = ap (λ (es : List Event). after (next policy) (initial policy) (traced ++ es)) (sym granted_is) ∙ agree ∙ ap (after (next policy) recorded) owed_is ∙ owed_leads.1;
+            due = owed_leads.1;
+          }
+
+      sides : (IsLoose part × IsLoose due × IfSome event IsLooseEvent) ⊎ (AllByRecursion IsLoose front × AllByRecursion IsLoose back)
+      sides = by loose where
+        by : (IsLoose part × IsLoose due × IfSome event IsLooseEvent) ⊎ ((n : ℕ) (q : Part) → n ≢ own → slice_get among n ≡ Some q → IsLoose q)
+            → (IsLoose part × IsLoose due × IfSome event IsLooseEvent) ⊎ (AllByRecursion IsLoose front × AllByRecursion IsLoose back)
+        by (inl mine) = inl mine
+        by (inr others) = inr (each_other IsLoose among own others)
+
+      behind : Agrees (next policy) (in_range policy) keeps (initial policy) (traced ++ option_to_list event) now (all_granted front ++ (granted_by due ++ all_granted back)) (all_owed front ++ (owed_by due ++ all_owed back))
+      behind = turned enough keeps starts traced recorded now ranged front back good_sides.0 good_sides.1 in_range_now part event due good good_due fit sides turns before
+
+      -- The agreement is kept, and the events so far are accepted.
+      pub keeps_agreement : Agree (next policy) (initial policy) (traced ++ option_to_list event) now (all_granted (slice_set among own due)) (all_owed (slice_set among own due))
+          × IsSome (after (next policy) (initial policy) (traced ++ option_to_list event))
+      keeps_agreement =
+          let is = set_at among own part due there in
+          let granted_is : all_granted (slice_set among own due) ≡ all_granted front ++ (granted_by due ++ all_granted back) = ap all_granted is ∙ whole due in
+          let owed_is : all_owed (slice_set among own due) ≡ all_owed front ++ (owed_by due ++ all_owed back) = ap all_owed is ∙ whole_owed due in
+          let b = behind in
+          let p = parted (next policy) (in_range policy) keeps (initial policy) (traced ++ option_to_list event) (all_granted front ++ (granted_by due ++ all_granted back)) b.end starts b.happened in
+          (rw (granted_is, owed_is) (b.happened ∙ sym b.due), ap is_some p.to)

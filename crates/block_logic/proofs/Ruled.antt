@@ -20,7 +20,7 @@ use Rattle.guest_heap.specs.declared.frame.Frame.{Frame}
 use Rattle.guest_model.specs.Places.{insn_at, method_at}
 use Rattle.guest_model.specs.Throwing.{handler_of}
 use Rattle.block_logic.specs.Accepted.{rules_of}
-use Rattle.block_logic.specs.Meaning.{note_at, note_of}
+use Rattle.block_logic.specs.Meaning.{AreClean, IsFree, note_at, note_of}
 use Rattle.block_logic.specs.Notes.{is_free, is_granted, is_stop, meets}
 use Rattle.block_logic.specs.Operands.{calls, has_clause, is_way_out, variable_named}
 use Rattle.block_logic.specs.Rows.{Asked, Row, Rules, is_duty, row}
@@ -66,8 +66,8 @@ module _ (program : Program) (policy : Policy) (annotations : Annotations) where
   -- Each method with code begins in no block.
   abbrev pub BeginsOpen : Type 0
   BeginsOpen = (class method : ℕ) (of : Method) → method_at program class method ≡ Some of → 0 < length of.insns
-      → (note_at program annotations class method 0 ≡ Some notes.Free)
+      → (note : Note) × (note_at program annotations class method 0 ≡ Some note) × (is_open annotations.held policy note ≡ true)
 
-  -- To be in no block is to be in the client's code, where the lock is held round calls, or calls are denied.
-  abbrev pub OpenIsFree : Type 0
-  OpenIsFree = (note : Note) → is_open annotations.held policy note ≡ true → note ≡ notes.Free
+  -- What is in no block means what the client's notes mean, where no lock is among the operands.
+  abbrev pub OpensFree : Type 0
+  OpensFree = (frame : Frame) (note : Note) → is_open annotations.held policy note ≡ true → AreClean program frame.stack.items → IsFree program policy annotations.held frame note

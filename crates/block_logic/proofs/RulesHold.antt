@@ -48,7 +48,7 @@ use Rattle.block_logic.specs.Operands.{calls, has_clause, is_way_out, pushes_sta
 use Rattle.block_logic.specs.Rows.{Asked, Row, Rules, is_duty, row}
 use Rattle.block_logic.specs.Standing.{is_open, needs_no_grant}
 use Rattle.block_logic.proofs.Handling.{catching_covers, first_takes, taking_passes}
-use Rattle.block_logic.proofs.Ruled.{BeginsOpen, LeadsTo, OpenIsFree, RulesHold, rules}
+use Rattle.block_logic.proofs.Ruled.{BeginsOpen, LeadsTo, RulesHold, rules}
 use Rattle.block_logic.proofs.Tests.{all_passed, chosen, get_within, if_so, it_is_there, not_chosen, not_there, passed_by}
 use Rattle.block_logic.proofs.Told.{IsIn, fault_free, has_frame, here_at, is_in, is_reached, note_there, notes_of, rules_hold_at, told_in_method}
 
@@ -100,26 +100,6 @@ module _ (program : Program) (policy : Policy) (annotations : Annotations) (o : 
 
   abbrev is_told : ℕ → ℕ → ℕ → Note → Type 0
   is_told class method at note = note_at program annotations class method at ≡ Some note
-
-  -- ---- no block
-
-  grant_needed : (held : HeldCalls) (site : Site) → IsJudged held policy → needs_no_grant held policy site ≡ true → ⊥
-  grant_needed held site (inl all) e = let is : holds_round held site.method ≡ true = all site.method in absurd cc
-  grant_needed held site (inr denies) e =
-      let parts = and_parts (not (holds_round held site.method)) (has_clauses policy site.method && not (is_some (clause_at policy site.method Before))) e in
-      let both = and_parts (has_clauses policy site.method) (not (is_some (clause_at policy site.method Before))) parts.1 in
-      let before = denied_before site.method policy.clauses denies.clauses both.0 in
-      absurd cc
-
-  pub open_is_free : OpenIsFree program policy annotations
-  open_is_free notes.Free e = refl
-  open_is_free (notes.Taking site) e = absurd cc
-  open_is_free (notes.Held site failed holding terms map) e = absurd cc
-  open_is_free (notes.Granted site locked loaded top) e =
-      absurd (grant_needed annotations.held site o.judged
-      ((and_parts (needs_no_grant annotations.held policy site) (not locked && ((loaded == 0) && not top)) e).0))
-  open_is_free (notes.Owed site stage kept top) e = absurd cc
-  open_is_free (notes.Stop site place) e = absurd cc
 
   -- ---- an instruction with a note
 
@@ -350,4 +330,4 @@ module _ (program : Program) (policy : Policy) (annotations : Annotations) (o : 
       let i = is_in program policy annotations class method 0 of next.0 there next.1 in
       let note = note_begins class method next.0 i (o.closed.begin class method of there some) in
       let n = is_noted class method 0 of next.0 note.0 there next.1 note.1 in
-      rw (← (open_is_free note.0 (begins_in_none class method next.0 note.0 n))) note.1
+      (note.0, note.1, begins_in_none class method next.0 note.0 n)

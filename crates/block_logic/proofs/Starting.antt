@@ -204,7 +204,7 @@ module _ (program : Program) (policy : Policy) (annotations : Annotations) (o : 
 
   one_thread : (begun : Thread) → IsClient program policy annotations begun → AreOthers program policy annotations (λ number. Unit {0}) (begun ∷ []) (Clear ∷ [])
   one_thread begun client zero thread part meant e is =
-      record { client = subst (IsClient program policy annotations) (some_is begun thread e) client; clear = sym (some_is Clear part is) }
+      inl (subst (IsClient program policy annotations) (some_is begun thread e) client, sym (some_is Clear part is))
   one_thread begun client (suc number) thread part meant e is = absurd cc
 
   -- a thread that begins methods does not hold the lock

@@ -13,6 +13,11 @@ abbrev pub holds_round : HeldCalls → ℕ → Bool
 holds_round Always method = true
 holds_round Never method = false
 
+-- It is held round each call that has a clause.
+abbrev pub is_always : HeldCalls → Bool
+is_always Always = true
+is_always Never = false
+
 -- In mode hold the lock is held round each call that has a clause, and in mode release round none.
 abbrev pub held_in : Mode → HeldCalls
 held_in modes.Hold = Always

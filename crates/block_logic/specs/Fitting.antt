@@ -1,18 +1,18 @@
 -- When a machine is as the notes of its threads say, and what of it is no part of any block. (docs/CERTIFICATES.md)
-use Rattle.std.specs.Prelude.{◌≡◌, ◌≢◌, ◌⊎◌, ℕ, true, false, IfSome, List, [], ◌∷◌, filter, length, Option, Some, None, slice_get}
+use Rattle.std.specs.Prelude.{◌≡◌, ◌≢◌, ◌⊎◌, ℕ, Bool, true, false, IfSome, IsSome, List, [], ◌∷◌, filter, length, Option, Some, None, slice_get}
 use Rattle.std.specs.List.{AllByRecursion}
 use Rattle.api_listing.specs.declared.events.Event.{Event}
 use Rattle.insn_codec.specs.declared.insn.Insn.{Insn}
 use Rattle.insn_codec.specs.Shapes.{shape_of}
 use Rattle.bytecode_model.specs.declared.program.Program.{Program}
 use Rattle.bytecode_model.specs.declared.program.Target.TheVariants as target
-use Rattle.block_logic.specs.Annotations.{Annotations, holds_round}
+use Rattle.block_logic.specs.Annotations.{Annotations, holds_round, is_always}
 use Rattle.cert_format.specs.declared.note.Note.{Note}
 use Rattle.cert_format.specs.declared.note.Note.TheVariants as notes
 use Rattle.cert_format.specs.declared.note.Site.{Site}
 use Rattle.conspec_automaton.specs.declared.policy.Policy.{Policy}
 use Rattle.conspec_automaton.specs.Next.{Values, has_clauses, initial, next}
-use Rattle.conspec_automaton.specs.Obeys.{IsFollowed, spoken}
+use Rattle.conspec_automaton.specs.Obeys.{IsFollowed, after, spoken}
 use Rattle.conspec_automaton.specs.Range.{in_range}
 use Rattle.guest_heap.specs.declared.frame.Frame.{Frame}
 use Rattle.guest_heap.specs.declared.object.Monitor.{Monitor}
@@ -30,7 +30,7 @@ use Rattle.block_logic.specs.Accepted.{rules_of}
 use Rattle.block_logic.specs.Agreement.{Agree, Part, all_granted, all_owed}
 use Rattle.block_logic.specs.Agreement as parts
 use Rattle.block_logic.specs.Clauses.{needs}
-use Rattle.block_logic.specs.Meaning.{AreClean, AreState, IsBelow, IsClean, IsFrame, IsFree, Owns, lock_of, note_of}
+use Rattle.block_logic.specs.Meaning.{AreClean, AreState, IsBelow, IsClean, HasState, IsFrame, IsFree, Means, lock_of, note_of}
 use Rattle.block_logic.specs.Operands.{calls}
 
 -- ---- what all share
@@ -63,7 +63,7 @@ locked_by program number = record { on = lock_of program; owner = number; count 
 -- the frame at whose instruction it goes on: there is none, or its note is no note of a block that holds the lock
 abbrev pub IsClientFrame : Program → Policy → Annotations → Frame → Type 0
 IsClientFrame program policy annotations frame =
-    (insn_at program frame ≡ None) ⊎ ((note : Note) × (note_of program annotations frame ≡ Some note) × IsFree program policy frame note)
+    (insn_at program frame ≡ None) ⊎ ((note : Note) × (note_of program annotations frame ≡ Some note) × IsFree program policy annotations.held frame note)
 
 -- Below stand frames that wait.
 abbrev pub AreBelow : Program → Policy → Annotations → List Frame → Type 0
@@ -100,47 +100,51 @@ IsClientDoing program policy annotations frames doings.Ended = Unit {0}
 abbrev pub IsClient : Program → Policy → Annotations → Thread → Type 0
 IsClient program policy annotations thread = IsClientDoing program policy annotations thread.frames thread.doing
 
--- It has begun nothing with the automaton.
-pub record IsOther (program : Program) (policy : Policy) (annotations : Annotations) (thread : Thread) (part : Part) : Type 0 where
-  pub client : IsClient program policy annotations thread
-  pub clear : part ≡ parts.Clear
+-- ---- a thread in a block, by whether it holds the lock
 
--- ---- the thread that holds the lock
-
-pub record IsOwnerFrame (program : Program) (policy : Policy) (annotations : Annotations) (recorded : Values) (fields : List Value) (frame : Frame) (part : Part) : Type 0 where
+pub record IsBlockFrame (program : Program) (policy : Policy) (annotations : Annotations) (mine : Bool) (recorded : Values) (fields : List Value) (frame : Frame) (part : Part) : Type 0 where
   pub well : IsFrame program frame
   pub note : Note
   pub told : note_of program annotations frame ≡ Some note
-  pub owns : Owns program policy annotations.held recorded fields frame note part
+  pub means : Means program policy annotations.held mine recorded fields frame note part
 
-abbrev pub AreOwnerFrames : Program → Policy → Annotations → Values → List Value → List Frame → Part → Type 0
-AreOwnerFrames program policy annotations recorded fields [] part = ⊥
-AreOwnerFrames program policy annotations recorded fields (frame ∷ below) part =
-    IsOwnerFrame program policy annotations recorded fields frame part × AreBelow program policy annotations below
+abbrev pub AreBlockFrames : Program → Policy → Annotations → Bool → Values → List Value → List Frame → Part → Type 0
+AreBlockFrames program policy annotations mine recorded fields [] part = ⊥
+AreBlockFrames program policy annotations mine recorded fields (frame ∷ below) part =
+    IsBlockFrame program policy annotations mine recorded fields frame part × AreBelow program policy annotations below
 
--- It is in a call that was granted and made; the variables are the state that is recorded.
-pub record IsOwnerCall (program : Program) (policy : Policy) (annotations : Annotations) (recorded : Values) (fields : List Value) (method : ℕ) (frame : Frame) (part : Part) : Type 0 where
-  pub hold : holds_round annotations.held method ≡ true
+-- It is in a call that was granted and made, round which the lock is held or not.
+pub record IsBlockCall (program : Program) (policy : Policy) (annotations : Annotations) (mine : Bool) (recorded : Values) (fields : List Value) (method : ℕ) (frame : Frame) (part : Part) : Type 0 where
+  pub round : holds_round annotations.held method ≡ mine
   pub well : IsFrame program frame
   pub site : Site
   pub of : site.method ≡ method
-  pub at_call : IsAtCall program annotations method (notes.Granted site true (needs policy method) false) frame
+  pub at_call : IsAtCall program annotations method (notes.Granted site mine (needs policy method) false) frame
   pub clear : part ≡ parts.Clear
-  pub variables : AreState fields recorded
+  pub variables : HasState mine fields recorded
 
-abbrev pub AreOwnerCall : Program → Policy → Annotations → Values → List Value → ℕ → List Frame → Part → Type 0
-AreOwnerCall program policy annotations recorded fields method [] part = ⊥
-AreOwnerCall program policy annotations recorded fields method (frame ∷ below) part =
-    IsOwnerCall program policy annotations recorded fields method frame part × AreBelow program policy annotations below
+abbrev pub AreBlockCall : Program → Policy → Annotations → Bool → Values → List Value → ℕ → List Frame → Part → Type 0
+AreBlockCall program policy annotations mine recorded fields method [] part = ⊥
+AreBlockCall program policy annotations mine recorded fields method (frame ∷ below) part =
+    IsBlockCall program policy annotations mine recorded fields method frame part × AreBelow program policy annotations below
 
-abbrev pub IsOwnerDoing : Program → Policy → Annotations → Values → List Value → List Frame → Doing → Part → Type 0
-IsOwnerDoing program policy annotations recorded fields frames doings.Running part = AreOwnerFrames program policy annotations recorded fields frames part
-IsOwnerDoing program policy annotations recorded fields frames (doings.InCall method receiver arguments) part =
-    (has_clauses policy method ≡ true) × AreOwnerCall program policy annotations recorded fields method frames part × ArePassed program receiver arguments
-IsOwnerDoing program policy annotations recorded fields frames doings.Ended part = ⊥
+abbrev pub IsBlockDoing : Program → Policy → Annotations → Bool → Values → List Value → List Frame → Doing → Part → Type 0
+IsBlockDoing program policy annotations mine recorded fields frames doings.Running part = AreBlockFrames program policy annotations mine recorded fields frames part
+IsBlockDoing program policy annotations mine recorded fields frames (doings.InCall method receiver arguments) part =
+    (has_clauses policy method ≡ true) × AreBlockCall program policy annotations mine recorded fields method frames part × ArePassed program receiver arguments
+IsBlockDoing program policy annotations mine recorded fields frames doings.Ended part = ⊥
 
+abbrev pub IsInBlock : Program → Policy → Annotations → Bool → Values → List Value → Thread → Part → Type 0
+IsInBlock program policy annotations mine recorded fields thread part = IsBlockDoing program policy annotations mine recorded fields thread.frames thread.doing part
+
+-- the thread that holds the lock
 abbrev pub IsOwner : Program → Policy → Annotations → Values → List Value → Thread → Part → Type 0
-IsOwner program policy annotations recorded fields thread part = IsOwnerDoing program policy annotations recorded fields thread.frames thread.doing part
+IsOwner program policy annotations recorded fields thread part = IsInBlock program policy annotations true recorded fields thread part
+
+-- A thread that does not hold it: in the client's code, with nothing begun; or in a block. The variables are none of its concern.
+abbrev pub IsOther : Program → Policy → Annotations → Thread → Part → Type 0
+IsOther program policy annotations thread part =
+    (IsClient program policy annotations thread × (part ≡ parts.Clear)) ⊎ IsInBlock program policy annotations false [] [] thread part
 
 -- ---- the machine
 
@@ -179,7 +183,12 @@ pub record Fits (program : Program) (policy : Policy) (annotations : Annotations
   pub agree : Agree (next policy) (initial policy) (spoken policy seen) recorded (all_granted among) (all_owed among)
   pub lock : IsUnlocked program policy annotations machine recorded fields among ⊎ IsLocked program policy annotations machine recorded fields among
 
+-- What the events so far do: they are followed where the lock is held round each call, and else accepted.
+abbrev pub ObeysIn : Bool → Policy → List Event → Type 0
+ObeysIn true policy seen = IsFollowed policy seen
+ObeysIn false policy seen = IsSome (after (next policy) (initial policy) (spoken policy seen))
+
 -- The events obey, and until the program is stopped the machine is as the notes say.
 pub record IsKept (program : Program) (policy : Policy) (annotations : Annotations) (machine : Machine) (seen : List Event) : Type 0 where
-  pub followed : IsFollowed policy seen
+  pub obeys : ObeysIn (is_always annotations.held) policy seen
   pub fits : machine.stopped ≡ None → Fits program policy annotations machine seen

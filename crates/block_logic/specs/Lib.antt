@@ -9,6 +9,7 @@ pub mod Notes
 pub mod State
 pub mod Accepted
 pub mod Agreement
+pub mod Formed
 pub mod Meaning
 pub mod Fitting
 pub mod Obeying

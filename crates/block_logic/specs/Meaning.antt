@@ -1,6 +1,6 @@
--- What a note means for the machine, where the lock is held round each call that has clauses (mode hold), or where each such call is
--- denied: what its thread owns, what stands on its stack, what is granted and owed. (docs/CERTIFICATES.md)
-use Rattle.std.specs.Prelude.{◌≡◌, ◌⊎◌, ℕ, zero, suc, ◌+◌, ◌+ℤ◌, ◌<◌, ◌≤◌, pos, Bool, true, false, if◌then◌else◌, IfSome, List, [], ◌∷◌, ◌++◌, length, map, reverse, Option, Some, None, option_map, option_and_then, slice_get}
+-- What a note means for the machine: what its thread owns, what stands on its stack, what it is granted and owes.
+-- (docs/CERTIFICATES.md)
+use Rattle.std.specs.Prelude.{◌≡◌, ◌⊎◌, ◌&&◌, not, ℕ, zero, suc, ◌+◌, ◌+ℤ◌, ◌<◌, ◌≤◌, ℤ, pos, Bool, true, false, if◌then◌else◌, is_some, IfSome, List, [], ◌∷◌, ◌++◌, length, map, reverse, Option, Some, None, option_map, option_and_then, slice_get}
 use Rattle.std.specs.List.{AllByRecursion}
 use Rattle.std.specs.Option.{option_map_or}
 use Rattle.api_listing.specs.declared.events.Event.{Event}
@@ -13,7 +13,7 @@ use Rattle.bytecode_model.specs.declared.program.Target.{Target}
 use Rattle.bytecode_model.specs.Classes.{classes_of}
 use Rattle.bytecode_model.specs.Typed.{reached}
 use Rattle.block_logic.specs.declared.held_calls.HeldCalls.{HeldCalls}
-use Rattle.block_logic.specs.Annotations.{Annotations, holds_round}
+use Rattle.block_logic.specs.Annotations.{Annotations, holds_round, is_always}
 use Rattle.cert_format.specs.declared.certificate.Mode.{Mode}
 use Rattle.cert_format.specs.declared.certificate.Mode.TheVariants as modes
 use Rattle.cert_format.specs.declared.note.Note.{Note}
@@ -30,6 +30,9 @@ use Rattle.conspec_automaton.specs.declared.policy.Clause.{Clause}
 use Rattle.conspec_automaton.specs.declared.policy.Policy.{Policy}
 use Rattle.conspec_automaton.specs.Denying.{DeniesOnly}
 use Rattle.conspec_automaton.specs.Next.{Values, argument, holds, is_taken, moment, returned}
+use Rattle.conspec_automaton.specs.Events.{number_range}
+use Rattle.conspec_automaton.specs.Obeys.{is_return}
+use Rattle.conspec_automaton.specs.Racing.{IsRaceFreeFor, Pairs}
 use Rattle.conspec_automaton.specs.Sight.{sight_of}
 use Rattle.guest_heap.specs.declared.frame.Frame.{Frame}
 use Rattle.guest_heap.specs.declared.value.Value.{Value}
@@ -42,15 +45,28 @@ use Rattle.block_logic.specs.Agreement.{Part}
 use Rattle.block_logic.specs.Agreement as parts
 use Rattle.block_logic.specs.Clauses.{clause_at, clause_of, is_of_phase, needs}
 use Rattle.block_logic.specs.Operands.{calls, has_clause, state_name}
-use Rattle.block_logic.specs.Standing.{in_phase, is_before, takes_for_call}
+use Rattle.block_logic.specs.Formed.{FitsRuns, RunsAreFormed}
+use Rattle.block_logic.specs.Standing.{in_phase, is_before, is_open, takes_for_call}
 
 -- what is promised: that events obey in mode hold, or where calls are denied outright
 abbrev pub Promised : Mode → Policy → Type 0
 Promised mode policy = (mode ≡ modes.Hold) ⊎ DeniesOnly policy
 
 -- The lock is held round each call that has a clause, or each such call is denied.
-abbrev pub IsJudged : HeldCalls → Policy → Type 0
-IsJudged held policy = ((method : ℕ) → holds_round held method ≡ true) ⊎ DeniesOnly policy
+abbrev pub IsLocking : HeldCalls → Policy → Type 0
+IsLocking held policy = (is_always held ≡ true) ⊎ DeniesOnly policy
+
+-- of two methods the lock is not held round the calls of both
+abbrev pub one_is_loose : HeldCalls → Pairs
+one_is_loose held first second = not (holds_round held first && holds_round held second)
+
+-- The policy is race-free but for methods round whose calls the lock is held.
+pub record IsReleasing (program : Program) (policy : Policy) (held : HeldCalls) : Type 0 where
+  pub race : IsRaceFreeFor (one_is_loose held) policy
+  pub formed : RunsAreFormed program policy
+
+abbrev pub IsJudged : Program → Policy → HeldCalls → Type 0
+IsJudged program policy held = IsLocking held policy ⊎ IsReleasing program policy held
 
 -- ---- the lock
 
@@ -111,10 +127,15 @@ pub record IsEventOf (site : Site) (event : Event) : Type 0 where
 
 -- ---- what locals tell of events
 
--- so many locals from the base on hold the numbers of a call's arguments
-pub record TellsArguments (base count : ℕ) (locals : List Value) (event : Event) : Type 0 where
-  pub many : length (sight_of event).arguments ≡ count
-  pub each : (i : ℕ) → i < count → option_and_then number_in (slice_get locals (base + i)) ≡ argument event i
+-- What is known of an argument is told. Where the lock is not held round each call, and where a number is to be, one may be told where
+-- none is known.
+abbrev pub TellsOne : Bool → Kind → Option ℤ → Option ℤ → Type 0
+TellsOne strict kind known told = (known ≡ told) ⊎ ((strict ≡ false) × (known ≡ None) × (is_some (number_range kind) ≡ true))
+
+-- the locals from the base on hold the numbers of a call's arguments
+pub record TellsArguments (strict : Bool) (base : ℕ) (kinds : List Kind) (locals : List Value) (event : Event) : Type 0 where
+  pub many : length (sight_of event).arguments ≡ length kinds
+  pub each : (i : ℕ) (kind : Kind) → slice_get kinds i ≡ Some kind → TellsOne strict kind (option_and_then number_in (slice_get locals (base + i))) (argument event i)
 
 -- the local at the base holds the number of a result, where there is one
 abbrev pub TellsResult : ℕ → Option Kind → List Value → Event → Type 0
@@ -122,16 +143,21 @@ TellsResult base None locals event = Unit {0}
 TellsResult base (Some kind) locals event = option_and_then number_in (slice_get locals base) ≡ returned event
 
 -- what locals tell while a check is made
-abbrev pub TellsIn : Clause → Phase8 → ℕ → List Value → Event → Type 0
-TellsIn clause Before base locals event = TellsArguments base (length clause.args) locals event
-TellsIn clause After base locals event = TellsResult base clause.result locals event
-TellsIn clause Exceptional base locals event = Unit {0}
+abbrev pub TellsIn : Bool → Clause → Phase8 → ℕ → List Value → Event → Type 0
+TellsIn strict clause Before base locals event = TellsArguments strict base clause.args locals event
+TellsIn strict clause After base locals event = TellsResult base clause.result locals event
+TellsIn strict clause Exceptional base locals event = Unit {0}
 
 -- ---- the policy's variables
 
 -- the fields of the variables hold the state
 abbrev pub AreState : List Value → Values → Type 0
 AreState fields state = fields ≡ map values.Int state
+
+-- They do, where the thread holds the lock.
+abbrev pub HasState : Bool → List Value → Values → Type 0
+HasState true fields state = AreState fields state
+HasState false fields state = Unit {0}
 
 -- what a term stands for, at the state when the lock was taken and for the event of the check
 abbrev pub term_value : Program → Values → Event → Term → Option Value
@@ -162,14 +188,15 @@ pub record IsTried (state : Values) (event : Event) (branches : List Branch) (fa
 
 -- The lock is held, and the check is made so far, in the recorded state; the variables are those of `map`, and `list` stands on the
 -- stack, the last on top.
-pub record MeansHeld (program : Program) (policy : Policy) (recorded : Values) (fields : List Value) (frame : Frame)
+pub record MeansHeld (program : Program) (policy : Policy) (held : HeldCalls) (recorded : Values) (fields : List Value) (frame : Frame)
     (site : Site) (failed holding : ℕ) (list map : List Term) (part : Part) : Type 0 where
   pub clause : Clause
   pub there : clause_of policy site ≡ Some clause
   pub event : Event
   pub of : IsEventOf site event
+  pub formed : FitsRuns program policy held event
   pub due : IsDue site.phase event part
-  pub told : TellsIn clause site.phase site.base frame.locals event
+  pub told : TellsIn (is_always held) clause site.phase site.base frame.locals event
   pub tried : IsTried recorded event clause.branches failed holding
   pub variables : AreTerms program recorded event map fields
   pub tops : List Value
@@ -178,17 +205,19 @@ pub record MeansHeld (program : Program) (policy : Policy) (recorded : Values) (
 
 -- ---- granted
 
--- The call was checked, with the numbers that locals hold.
-pub record IsChecked (site : Site) (clause : Clause) (part : Part) (locals : List Value) : Type 0 where
+-- The call was checked, with the numbers that locals hold, and accepted.
+pub record IsChecked (program : Program) (policy : Policy) (held : HeldCalls) (site : Site) (clause : Clause) (part : Part) (locals : List Value) : Type 0 where
   pub event : Event
   pub is : part ≡ parts.Granted event
   pub of : IsEventOf (in_phase Before site) event
-  pub told : TellsArguments site.base (length clause.args) locals event
+  pub formed : FitsRuns program policy held event
+  pub accepts : DeniesOnly policy → ⊥
+  pub told : TellsArguments (is_always held) site.base clause.args locals event
 
 -- It is granted, or has no clause.
-abbrev pub IsGranted : Site → Option Clause → Part → List Value → Type 0
-IsGranted site None part locals = part ≡ parts.Clear
-IsGranted site (Some clause) part locals = IsChecked site clause part locals
+abbrev pub IsGranted : Program → Policy → HeldCalls → Site → Option Clause → Part → List Value → Type 0
+IsGranted program policy held site None part locals = part ≡ parts.Clear
+IsGranted program policy held site (Some clause) part locals = IsChecked program policy held site clause part locals
 
 -- so many locals from the base on, as they stand on the stack once they are loaded in order
 abbrev pub loads : ℕ → List Value → ℕ → List (Option Value)
@@ -199,12 +228,18 @@ loads base locals (suc n) = slice_get locals (base + n) ∷ loads base locals n
 abbrev pub lock_on : Program → Bool → List Value
 lock_on program top = if top then lock_of program ∷ [] else []
 
--- The lock is held and the check is done; so many arguments are loaded.
-pub record MeansGranted (program : Program) (policy : Policy) (recorded : Values) (fields : List Value) (frame : Frame)
+-- A thread that does not hold the lock is at a method round whose calls it is not held.
+abbrev pub GoesRound : Bool → Bool → Type 0
+GoesRound true round = Unit {0}
+GoesRound false round = round ≡ false
+
+-- The check is done, and the lock is still held or was let go; so many arguments are loaded.
+pub record MeansGranted (program : Program) (policy : Policy) (held : HeldCalls) (mine : Bool) (recorded : Values) (fields : List Value) (frame : Frame)
     (site : Site) (locked : Bool) (count : ℕ) (top : Bool) (part : Part) : Type 0 where
-  pub holds : locked ≡ true
-  pub granted : IsGranted site (clause_at policy site.method Before) part frame.locals
-  pub variables : AreState fields recorded
+  pub holds : locked ≡ mine
+  pub round : GoesRound mine (holds_round held site.method)
+  pub granted : IsGranted program policy held site (clause_at policy site.method Before) part frame.locals
+  pub variables : HasState mine fields recorded
   pub few : count ≤ needs policy site.method
   pub loaded : List Value
   pub are : map Some loaded ≡ loads site.base frame.locals count
@@ -225,34 +260,46 @@ HasResultIn clause Exceptional kept base locals rest event = Unit {0}
 HasResultIn clause After kept base locals rest event = HasResult clause.result kept base locals rest event
 
 -- The return is not recorded yet, where a clause is for it.
-pub record IsPending (site : Site) (clause : Clause) (part : Part) (kept : Bool) (locals rest : List Value) : Type 0 where
+pub record IsPending (program : Program) (policy : Policy) (held : HeldCalls) (site : Site) (clause : Clause) (part : Part) (kept : Bool) (locals rest : List Value) : Type 0 where
   pub event : Event
   pub is : part ≡ parts.Owed event
   pub of : IsEventOf site event
+  pub formed : FitsRuns program policy held event
   pub told : HasResultIn clause site.phase kept site.base locals rest event
 
-abbrev pub IsOwed : Site → ℕ → Option Clause → Part → Bool → List Value → List Value → Type 0
-IsOwed site zero clause part kept locals rest = ⊥
-IsOwed site (suc zero) None part kept locals rest = part ≡ parts.Clear
-IsOwed site (suc zero) (Some clause) part kept locals rest = IsPending site clause part kept locals rest
-IsOwed site (suc (suc zero)) clause part kept locals rest = part ≡ parts.Clear
-IsOwed site (suc (suc (suc n))) clause part kept locals rest = ⊥
+-- by whether the lock is held: it is not at stage 0, and is at 1 and 2
+abbrev pub IsOwed : Program → Policy → HeldCalls → Bool → Site → ℕ → Option Clause → Part → Bool → List Value → List Value → Type 0
+IsOwed program policy held false site zero None part kept locals rest = ⊥
+IsOwed program policy held false site zero (Some clause) part kept locals rest = IsPending program policy held site clause part kept locals rest
+IsOwed program policy held false site (suc n) clause part kept locals rest = ⊥
+IsOwed program policy held true site zero clause part kept locals rest = ⊥
+IsOwed program policy held true site (suc zero) None part kept locals rest = part ≡ parts.Clear
+IsOwed program policy held true site (suc zero) (Some clause) part kept locals rest = IsPending program policy held site clause part kept locals rest
+IsOwed program policy held true site (suc (suc zero)) clause part kept locals rest = part ≡ parts.Clear
+IsOwed program policy held true site (suc (suc (suc n))) clause part kept locals rest = ⊥
 
--- The lock is held, and the call is over.
-pub record MeansOwed (program : Program) (policy : Policy) (recorded : Values) (fields : List Value) (frame : Frame)
+-- The call is over.
+pub record MeansOwed (program : Program) (policy : Policy) (held : HeldCalls) (mine : Bool) (recorded : Values) (fields : List Value) (frame : Frame)
     (site : Site) (stage : ℕ) (kept top : Bool) (part : Part) : Type 0 where
   pub behind : is_before site.phase ≡ false
-  pub variables : AreState fields recorded
+  pub round : GoesRound mine (holds_round held site.method)
+  pub variables : HasState mine fields recorded
   pub above : IsAbove program (lock_on program top) frame.stack.items
-  pub owed : IsOwed site stage (clause_of policy site) part kept frame.locals above.rest
+  pub owed : IsOwed program policy held mine site stage (clause_of policy site) part kept frame.locals above.rest
 
 -- ---- the way out
 
+-- a return of which a clause tells
+pub record IsKnownEnd (program : Program) (policy : Policy) (held : HeldCalls) (end : Event) : Type 0 where
+  pub ends : is_return end ≡ true
+  pub formed : FitsRuns program policy held end
+  pub accepts : DeniesOnly policy → ⊥
+
 -- A call that is refused is not granted; a return that is refused is owed for ever.
-abbrev pub IsRefused : Part → Type 0
-IsRefused parts.Clear = Unit {0}
-IsRefused (parts.Granted call) = ⊥
-IsRefused (parts.Owed end) = Unit {0}
+abbrev pub IsRefused : Program → Policy → HeldCalls → Part → Type 0
+IsRefused program policy held parts.Clear = Unit {0}
+IsRefused program policy held (parts.Granted call) = ⊥
+IsRefused program policy held (parts.Owed end) = IsKnownEnd program policy held end
 
 abbrev pub IsStopping : ℕ → List Value → Type 0
 IsStopping zero items = Unit {0}
@@ -260,29 +307,31 @@ IsStopping (suc zero) items = slice_get items 0 ≡ Some (values.Int (pos 77))
 IsStopping (suc (suc n)) items = ⊥
 
 -- The program is about to be stopped.
-pub record MeansStop (frame : Frame) (place : ℕ) (part : Part) : Type 0 where
-  pub refused : IsRefused part
+pub record MeansStop (program : Program) (policy : Policy) (held : HeldCalls) (frame : Frame) (place : ℕ) (part : Part) : Type 0 where
+  pub refused : IsRefused program policy held part
   pub stopping : IsStopping place frame.stack.items
 
--- ---- a note of a thread that holds the lock, and of one that does not
+-- ---- notes of blocks, and of the client
 
--- Of methods round whose calls the lock is not held, nothing is said of Granted and Owed yet.
-abbrev pub Owns : Program → Policy → HeldCalls → Values → List Value → Frame → Note → Part → Type 0
-Owns program policy held recorded fields frame notes.Free part = ⊥
-Owns program policy held recorded fields frame (notes.Taking site) part = ⊥
-Owns program policy held recorded fields frame (notes.Held site failed holding list map) part =
-    MeansHeld program policy recorded fields frame site failed holding list map part
-Owns program policy held recorded fields frame (notes.Granted site locked count top) part =
-    (holds_round held site.method ≡ true) × MeansGranted program policy recorded fields frame site locked count top part
-Owns program policy held recorded fields frame (notes.Owed site stage kept top) part =
-    (holds_round held site.method ≡ true) × MeansOwed program policy recorded fields frame site stage kept top part
-Owns program policy held recorded fields frame (notes.Stop site place) part = MeansStop frame place part
+-- what a note of a block means, by whether its thread holds the lock
+abbrev pub Means : Program → Policy → HeldCalls → Bool → Values → List Value → Frame → Note → Part → Type 0
+Means program policy held mine recorded fields frame notes.Free part = ⊥
+Means program policy held mine recorded fields frame (notes.Taking site) part = ⊥
+Means program policy held mine recorded fields frame (notes.Held site failed holding list map) part =
+    (mine ≡ true) × MeansHeld program policy held recorded fields frame site failed holding list map part
+Means program policy held mine recorded fields frame (notes.Granted site locked count top) part =
+    MeansGranted program policy held mine recorded fields frame site locked count top part
+Means program policy held mine recorded fields frame (notes.Owed site stage kept top) part =
+    MeansOwed program policy held mine recorded fields frame site stage kept top part
+Means program policy held mine recorded fields frame (notes.Stop site place) part = (mine ≡ true) × MeansStop program policy held frame place part
 
-abbrev pub IsFree : Program → Policy → Frame → Note → Type 0
-IsFree program policy frame notes.Free = AreClean program frame.stack.items
-IsFree program policy frame (notes.Taking site) =
+-- what a note means in the client's code: also the one of a call that needs no lock, before it
+abbrev pub IsFree : Program → Policy → HeldCalls → Frame → Note → Type 0
+IsFree program policy held frame notes.Free = AreClean program frame.stack.items
+IsFree program policy held frame (notes.Taking site) =
     (takes_for_call policy (notes.Taking site) ≡ true) × IsAbove program (lock_of program ∷ []) frame.stack.items
-IsFree program policy frame (notes.Held site failed holding list map) = ⊥
-IsFree program policy frame (notes.Granted site locked count top) = ⊥
-IsFree program policy frame (notes.Owed site stage kept top) = ⊥
-IsFree program policy frame (notes.Stop site place) = ⊥
+IsFree program policy held frame (notes.Held site failed holding list map) = ⊥
+IsFree program policy held frame (notes.Granted site locked count top) =
+    (is_open held policy (notes.Granted site locked count top) ≡ true) × AreClean program frame.stack.items
+IsFree program policy held frame (notes.Owed site stage kept top) = ⊥
+IsFree program policy held frame (notes.Stop site place) = ⊥

@@ -23,7 +23,7 @@ use Rattle.guest_model.specs.Standing.{HasInsns, IsClosed}
 use Rattle.guest_model.specs.Stepping.{stepped}
 use Rattle.block_logic.specs.Accepted.{AreAccepted}
 use Rattle.block_logic.specs.Fitting.{held_locks, locked_by}
-use Rattle.block_logic.specs.Meaning.{IsJudged}
+use Rattle.block_logic.specs.Meaning.{IsJudged, IsLocking}
 
 -- A clause tells how many arguments its method takes, and whether it gives something.
 abbrev pub FitsListing : Listing → Clause → Type 0
@@ -33,7 +33,7 @@ FitsListing listing clause =
 
 -- What is known of a program that is accepted, and of its policy.
 pub record IsObeying (program : Program) (policy : Policy) (annotations : Annotations) : Type 0 where
-  pub judged : IsJudged annotations.held policy
+  pub judged : IsJudged program policy annotations.held
   pub sound : IsSound program
   pub good : IsPolicy policy
   pub named : NamesMethods (length program.listing.methods) policy
@@ -48,10 +48,11 @@ AcceptedObeys =
     (program : Program) (policy : Policy) (certificate : Certificate) → IsObeying program policy (annotations_of certificate)
     → (steps : List Step) → Obeys certificate.mode policy (trace program steps)
 
--- While a thread holds the lock, no step of another thread has an event with a clause.
+-- Where the lock is held round each call, or each is denied: while a thread holds the lock, no step of another thread has an event with
+-- a clause.
 abbrev pub LockOrders : Type 0
 LockOrders =
-    (program : Program) (policy : Policy) (annotations : Annotations) → IsObeying program policy annotations
+    (program : Program) (policy : Policy) (annotations : Annotations) → IsObeying program policy annotations → IsLocking annotations.held policy
     → (steps : List Step) (owner : ℕ) (step : Step) → held_locks program (exec program steps).monitors ≡ locked_by program owner
     → step.thread ≢ owner → AllByRecursion (λ (e : Event). has_clause policy e ≡ false) (seen program (exec program steps) step)
 

@@ -37,7 +37,7 @@ use Rattle.block_logic.proofs.Client.Changes.{Good, GoodIf, Keeps, returned_good
 use Rattle.block_logic.proofs.Client.Frames.{Laws}
 use Rattle.block_logic.proofs.Client.Throws.{below_catching}
 use Rattle.block_logic.proofs.Client.Values.{kept_object, lock_kept}
-use Rattle.block_logic.proofs.Ruled.{BeginsOpen, OpenIsFree, RulesHold}
+use Rattle.block_logic.proofs.Ruled.{BeginsOpen, RulesHold}
 use Rattle.block_logic.proofs.Steps.{ClientAnswers}
 
 -- ---- events
@@ -133,9 +133,9 @@ module _ (program : Program) (policy : Policy) (annotations : Annotations) where
         call_good (choices.Answer answer) = if_either IsGood (is_on_null receiver) _ _ (if_none IsGood) (answered_good answer)
 
   pub client_answers : IsObeying program policy annotations → RulesHold program policy annotations → BeginsOpen program policy annotations
-      → OpenIsFree program policy annotations → ClientAnswers program policy annotations
-  client_answers o rules_hold begins_open open_free world number thread method receiver arguments choice change clean unclaused call passed e =
-      let laws : Laws program policy annotations = record { obeys = o; rules_hold = rules_hold; begins_open = begins_open; open_free = open_free } in
+      → ClientAnswers program policy annotations
+  client_answers o rules_hold begins_open world number thread method receiver arguments choice change clean unclaused call passed e =
+      let laws : Laws program policy annotations = record { obeys = o; rules_hold = rules_hold; begins_open = begins_open } in
       let kept = lock_kept program (state_of program policy annotations) world clean in
       is_there (Good program policy annotations world) _ change
       (call_good laws world kept number thread method unclaused (call_waits method thread.frames unclaused call) receiver arguments passed choice) e

@@ -22,7 +22,7 @@ use Rattle.guest_model.proofs.Options.{all_append, all_replicate, there_or}
 use Rattle.block_logic.specs.Fitting.{AreBelow, AreClientFrames, ArePassed, IsClient, IsClientFrame}
 use Rattle.block_logic.specs.Meaning.{AreClean, IsClean, IsFrame}
 use Rattle.block_logic.proofs.Client.Classes.{class_clean}
-use Rattle.block_logic.proofs.Client.Frames.{Laws}
+use Rattle.block_logic.proofs.Client.Frames.{Laws, opens_free}
 
 module _ (program : Program) where
   -- what is there is no lock
@@ -77,7 +77,8 @@ module _ (program : Program) where
             by [] e = inl (rw there (rw e refl))
             by (insn ∷ insns) e =
                 let some : 0 < length method.insns = rw e (omega arith) in
-                inr (notes.Free, laws.begins_open to.0 to.1 method there some, tt)
+                let here = laws.begins_open to.0 to.1 method there some in
+                inr (here.0, here.1, opens_free program policy annotations (frame_of program to method receiver arguments) here.0 here.2 tt)
 
           -- it begins in front of frames that wait
           pub begun_frames : (below : List Frame) → AreBelow program policy annotations below

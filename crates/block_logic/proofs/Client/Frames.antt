@@ -3,6 +3,7 @@ use Rattle.std.proofs.Common.{◌≡◌, ℕ, ◌+◌, Bool, true, false, cond, 
 use Rattle.std.specs.Prelude.{Contains, is_some, not}
 use Rattle.std.proofs.lemmas.Option.{cond_some}
 use Rattle.block_logic.specs.Annotations.{Annotations}
+use Rattle.cert_format.specs.declared.note.Note.{Note}
 use Rattle.cert_format.specs.declared.note.Note.TheVariants as notes
 use Rattle.insn_codec.specs.declared.insn.Insn.{Insn}
 use Rattle.insn_codec.specs.declared.shape.Heap.{Heap}
@@ -35,7 +36,8 @@ use Rattle.block_logic.specs.Meaning.{AreClean, IsBelow, IsFrame, note_at, note_
 use Rattle.block_logic.specs.Obeying.{IsObeying}
 use Rattle.block_logic.specs.Operands.{calls, pushes_state, variable_named}
 use Rattle.block_logic.specs.Rows.{Asked, Open, Row, Taking, Rules, free_row, leads}
-use Rattle.block_logic.proofs.Ruled.{BeginsOpen, LeadsTo, OpenIsFree, RulesHold}
+use Rattle.block_logic.specs.Standing.{is_open}
+use Rattle.block_logic.proofs.Ruled.{BeginsOpen, LeadsTo, OpensFree, RulesHold}
 
 -- ---- shapes
 
@@ -68,8 +70,18 @@ row_open rules shape ref r apart e = by (pushes_state shape ref) apart e where
 module _ (program : Program) (policy : Policy) (annotations : Annotations) where
   -- ---- frames
 
+  -- The instruction has a note that is in no block.
   abbrev pub FreeAt : Frame → ℕ → Type 0
-  FreeAt frame at = note_at program annotations frame.class frame.method at ≡ Some notes.Free
+  FreeAt frame at = (note : Note) × (note_at program annotations frame.class frame.method at ≡ Some note) × (is_open annotations.held policy note ≡ true)
+
+  -- what it means, where no lock is among the operands
+  pub opens_free : OpensFree program policy annotations
+  opens_free frame notes.Free is clean = clean
+  opens_free frame (notes.Taking site) is clean = absurd cc
+  opens_free frame (notes.Held site failed holding list map) is clean = absurd cc
+  opens_free frame (notes.Granted site locked count top) is clean = (is, clean)
+  opens_free frame (notes.Owed site stage kept top) is clean = absurd cc
+  opens_free frame (notes.Stop site place) is clean = absurd cc
 
   -- Where control goes from a frame at this instruction, the client's code goes on.
   pub record GoesFree (frame : Frame) (next : Insn × Target) : Type 0 where
@@ -86,14 +98,13 @@ module _ (program : Program) (policy : Policy) (annotations : Annotations) where
       → AreClean program locals → AreClean program items → AreBelow program policy annotations below
       → AreClientFrames program policy annotations (moved_to frame at locals items ∷ below)
   went_free frame at locals items below well free in_locals on_stack waits =
-      (moved_frame frame at locals items well in_locals, inr (notes.Free, free, on_stack), waits)
+      (moved_frame frame at locals items well in_locals, inr (free.0, free.1, opens_free (moved_to frame at locals items) free.0 free.2 on_stack), waits)
 
   -- What the rules of the notes tell of an accepted program.
   pub record Laws : Type 0 where
     pub obeys : IsObeying program policy annotations
     pub rules_hold : RulesHold program policy annotations
     pub begins_open : BeginsOpen program policy annotations
-    pub open_free : OpenIsFree program policy annotations
 
   module _ (laws : Laws) where
     pub insn_is : (frame : Frame) (next : Insn × Target) → insn_at program frame ≡ Some next → IsInsn next.0
@@ -109,7 +120,7 @@ module _ (program : Program) (policy : Policy) (annotations : Annotations) where
     open_at : (frame : Frame) (at : ℕ) (asked : Asked) → asked ≡ Open → LeadsTo program policy annotations frame at asked → FreeAt frame at
     open_at frame at asked is l =
         let here : LeadsTo program policy annotations frame at Open = subst (LeadsTo program policy annotations frame at) is l in
-        here.told ∙ ap Some (laws.open_free here.note here.meets)
+        (here.note, here.told, here.meets)
 
     -- an instruction of the client that does not push the lock's class
     pub goes_free : (frame : Frame) (next : Insn × Target) → insn_at program frame ≡ Some next → note_of program annotations frame ≡ Some notes.Free

@@ -5,6 +5,7 @@ use Rattle.std.specs.Option.{option_map_or}
 use Rattle.std.proofs.lemmas.Bool.{and_parts, cases_Bool, false_from_ne_true, false≢true}
 use Rattle.std.proofs.lemmas.Slice.Eq.{bytes_eq-Decides}
 use Rattle.block_logic.specs.Annotations.{Annotations}
+use Rattle.block_logic.specs.declared.held_calls.HeldCalls.{HeldCalls}
 use Rattle.cert_format.specs.declared.note.Note.{Note}
 use Rattle.cert_format.specs.declared.note.Note.TheVariants as notes
 use Rattle.insn_codec.specs.declared.insn.Insn.{Insn}
@@ -41,7 +42,7 @@ use Rattle.block_logic.proofs.Client.Changes.{Good, GoodIf, Keeps}
 use Rattle.block_logic.proofs.Client.Frames.{Laws, goes_free, may_go_on, moved_frame}
 use Rattle.block_logic.proofs.Client.Insns.{acts_good, shape_good}
 use Rattle.block_logic.proofs.Client.Values.{lock_kept}
-use Rattle.block_logic.proofs.Ruled.{BeginsOpen, IsRuled, LeadsTo, OpenIsFree, RulesHold}
+use Rattle.block_logic.proofs.Ruled.{BeginsOpen, IsRuled, LeadsTo, RulesHold}
 use Rattle.block_logic.proofs.Steps.{Acts, ClientSteps}
 
 -- ---- the instruction that pushes the lock's class
@@ -63,10 +64,10 @@ row_taking rules shape ref r pushes e = by (pushes_state shape ref) pushes e whe
   by false f e = absurd (false≢true f)
 
 module _ (program : Program) (policy : Policy) where
-  taking_free : (frame : Frame) (note : Note) → takes_for_call policy note ≡ true → IsAbove program (lock_of program ∷ []) frame.stack.items
-      → IsFree program policy frame note
-  taking_free frame (notes.Taking site) takes above = (takes, above)
-  taking_free frame other takes above = absurd cc
+  taking_free : (held : HeldCalls) (frame : Frame) (note : Note) → takes_for_call policy note ≡ true → IsAbove program (lock_of program ∷ []) frame.stack.items
+      → IsFree program policy held frame note
+  taking_free held frame (notes.Taking site) takes above = (takes, above)
+  taking_free held frame other takes above = absurd cc
 
   lock_is : (index : ℕ) → class_index program state_name ≡ Some index → values.Class index ≡ lock_of program
   lock_is index e = rw e refl
@@ -105,7 +106,7 @@ module _ (program : Program) (policy : Policy) where
           record { rest = a.frame.stack.items; is = ap (λ (w : Value). w ∷ a.frame.stack.items) is; clean = clean } in
           subst (λ (x : Frame). AreClientFrames program policy annotations (x ∷ a.below)) (unless_of (nat_lt a.frame.stack.size (length items)) to f e) (
             moved_frame program policy annotations a.frame (a.frame.at + 1) a.frame.locals items acts.well acts.well.locals,
-            inr (leads_taking.note, leads_taking.told, taking_free to leads_taking.note leads_taking.meets above),
+            inr (leads_taking.note, leads_taking.told, taking_free annotations.held to leads_taking.note leads_taking.meets above),
             acts.below,
           )
 
@@ -151,8 +152,8 @@ module _ (program : Program) (policy : Policy) where
     ]
 
   pub client_steps : (annotations : Annotations) → IsObeying program policy annotations → RulesHold program policy annotations → BeginsOpen program policy annotations
-      → OpenIsFree program policy annotations → ClientSteps program policy annotations
-  client_steps annotations o rules_hold begins_open open_free machine a next change acts clean e =
-      let laws : Laws program policy annotations = record { obeys = o; rules_hold = rules_hold; begins_open = begins_open; open_free = open_free } in
+      → ClientSteps program policy annotations
+  client_steps annotations o rules_hold begins_open machine a next change acts clean e =
+      let laws : Laws program policy annotations = record { obeys = o; rules_hold = rules_hold; begins_open = begins_open } in
       is_there (Good program policy annotations (world_of machine)) (insn_stepped program machine a next) change
       (step_good annotations laws machine a next acts clean) e

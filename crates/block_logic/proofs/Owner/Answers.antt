@@ -28,7 +28,7 @@ use Rattle.cert_format.specs.declared.note.Site.{Site}
 use Rattle.conspec_tree.specs.declared.types.Kind.{Kind}
 use Rattle.conspec_automaton.specs.declared.policy.Clause.{Clause}
 use Rattle.conspec_automaton.specs.declared.policy.Policy.{Policy}
-use Rattle.conspec_automaton.specs.Next.{Values, has_clauses, number_in as shown_number, returned as event_returned}
+use Rattle.conspec_automaton.specs.Next.{Values, has_clause, has_clauses, number_in as shown_number, returned as event_returned}
 use Rattle.conspec_automaton.specs.Obeys.{is_return}
 use Rattle.conspec_automaton.specs.Range.{in_range}
 use Rattle.conspec_automaton.proofs.Ranges.{found_is}
@@ -52,19 +52,26 @@ use Rattle.guest_model.proofs.Options.{all_append, all_get, and_then_of, map_of,
 use Rattle.block_logic.specs.Accepted.{rules_of}
 use Rattle.block_logic.specs.Agreement.{Clear, Granted, Owed, Part, Settles, Tells, Turns, clause_event}
 use Rattle.block_logic.specs.Clauses.{clause_of, needs}
-use Rattle.block_logic.specs.Fitting.{AreBelow, AreOwnerCall, ArePassed, IsCleanObject, IsCleanWorld, IsOwnerCall, IsOwnerFrame, held_locks, locked_by, state_of}
-use Rattle.block_logic.specs.Meaning.{AreClean, HasResult, HasResultIn, IsClean, IsEventOf, IsOwed, Owns}
+use Rattle.block_logic.specs.Fitting.{AreBelow, AreBlockCall, ArePassed, IsBlockCall, IsCleanObject, IsCleanWorld, held_locks, state_of}
+use Rattle.block_logic.specs.Formed.{FitsRuns}
+use Rattle.block_logic.specs.Meaning.{AreClean, GoesRound, HasResult, HasResultIn, IsClean, IsEventOf, IsOwed, Means}
 use Rattle.block_logic.specs.Obeying.{FitsListing, IsObeying}
 use Rattle.block_logic.specs.Operands.{calls, pushes_state}
-use Rattle.block_logic.specs.Rows.{Given, Row, Rules, granted_row, is_duty, returned as asked_behind, thrown as asked_thrown}
+use Rattle.block_logic.specs.Rows.{Given, Open, Row, Rules, granted_row, is_duty, returned as asked_behind, thrown as asked_thrown}
 use Rattle.block_logic.specs.Standing.{in_phase, is_before}
-use Rattle.block_logic.proofs.Agreement.{its_clause, no_clause}
+use Rattle.block_logic.proofs.Agreement.{clause_or, its_clause, no_clause}
 use Rattle.block_logic.proofs.Owner.Events.{has_its_clause}
-use Rattle.block_logic.proofs.Owner.Going.{IsHeldBy, Lands, goes_behind, owner_frame}
+use Rattle.block_logic.proofs.Client.Changes.{throws_new_good}
+use Rattle.block_logic.proofs.Client.Values.{lock_kept}
+use Rattle.block_logic.proofs.Client.Frames.{Laws, opens_free}
+use Rattle.block_logic.proofs.Client.Throws.{AreCatching}
+use Rattle.block_logic.proofs.Owner.Fair.{event_loose}
+use Rattle.block_logic.proofs.Owner.Going.{IsShared, Lands, block_frame, client_changes_block, client_frame, frame_moved, goes_behind, goes_in, goes_open, lands_loose}
 use Rattle.block_logic.proofs.Owner.GrantedRows.{CallsMethod, granted_cases}
 use Rattle.block_logic.proofs.Owner.Passed.{shown_as}
 use Rattle.block_logic.proofs.Ruled.{IsRuled, LeadsTo, RulesHold}
-use Rattle.block_logic.proofs.Steps.{ChangesOwner, OwnerAnswers}
+use Rattle.block_logic.proofs.Racing.{IsLooseEvent}
+use Rattle.block_logic.proofs.Steps.{BlockAnswers, ChangesBlock, IsFit, LocksAre, VariablesAre}
 
 -- ---- the row of the call
 
@@ -72,9 +79,9 @@ call_not_pushed : (shape : Shape) (ref : Target) → calls shape ≡ true → pu
 call_not_pushed (shapes.Heap (heap.Call how)) ref e = refl
 call_not_pushed shape ref e = absurd cc
 
-call_row : (rules : Rules) (site : Site) (count : ℕ) (shape : Shape) (ref : Target) (r : Row) → calls shape ≡ true
-    → granted_row rules site true count false shape ref ≡ Some r → CallsMethod rules site true count false shape ref r
-call_row rules site count shape ref r call e = elim (granted_cases rules site true count false shape ref r e) [
+call_row : (rules : Rules) (site : Site) (locked : Bool) (count : ℕ) (shape : Shape) (ref : Target) (r : Row) → calls shape ≡ true
+    → granted_row rules site locked count false shape ref ≡ Some r → CallsMethod rules site locked count false shape ref r
+call_row rules site locked count shape ref r call e = elim (granted_cases rules site locked count false shape ref r e) [
   | inl loads ↦ let not_so : false ≡ true = ap calls (sym loads.is) ∙ call in absurd cc
   | inr (inl pushes) ↦ let not_so : false ≡ true = sym (call_not_pushed shape ref call) ∙ pushes.pushes in absurd cc
   | inr (inr (inl leaves)) ↦ let not_so : false ≡ true = leaves.on in absurd cc
@@ -85,21 +92,46 @@ call_stays : (shape : Shape) → calls shape ≡ true → ends shape ≡ false
 call_stays (shapes.Heap (heap.Call how)) e = refl
 call_stays shape e = absurd cc
 
--- what is asked behind the call, and of its handlers, where the lock is held
-behind_held : (rules : Rules) (site : Site) → holds_round rules.held site.method ≡ true → asked_behind rules site ≡ Given (notes.Owed (in_phase After site) 1 false false)
-behind_held rules site hold = rw hold refl
+-- Behind the call an update is due, at a stage by whether the lock is held,
+abbrev stage_by : Bool → ℕ
+stage_by true = 1
+stage_by false = 0
 
-duty_held : (rules : Rules) (method : ℕ) → holds_round rules.held method ≡ true → is_duty rules method ≡ true
-duty_held rules method hold = rw hold refl
+-- where the lock is held or there is a clause for it.
+abbrev IsDueBehind : Policy → Bool → Site → Type 0
+IsDueBehind policy true site = Unit {0}
+IsDueBehind policy false site = is_some (clause_of policy site) ≡ true
 
-thrown_held : (rules : Rules) (site : Site) → holds_round rules.held site.method ≡ true → asked_thrown rules site ≡ Given (notes.Owed (in_phase Exceptional site) 1 false false)
-thrown_held rules site hold = rw hold refl
+behind_due : (rules : Rules) (mine : Bool) (site : Site) → holds_round rules.held site.method ≡ mine → IsDueBehind rules.policy mine (in_phase After site)
+    → asked_behind rules site ≡ Given (notes.Owed (in_phase After site) (stage_by mine) false false)
+behind_due rules true site round due = rw round refl
+behind_due rules false site round due = rw (round, due) refl
+
+behind_open : (rules : Rules) (site : Site) → holds_round rules.held site.method ≡ false → is_some (clause_of rules.policy (in_phase After site)) ≡ false → asked_behind rules site ≡ Open
+behind_open rules site round none = rw (round, none) refl
+
+duty_due : (rules : Rules) (mine : Bool) (site : Site) → holds_round rules.held site.method ≡ mine → IsDueBehind rules.policy mine (in_phase Exceptional site) → is_duty rules site.method ≡ true
+duty_due rules true site round due = rw round refl
+duty_due rules false site round due = rw (round, due) refl
+
+thrown_due : (rules : Rules) (mine : Bool) (site : Site) → holds_round rules.held site.method ≡ mine → IsDueBehind rules.policy mine (in_phase Exceptional site)
+    → asked_thrown rules site ≡ Given (notes.Owed (in_phase Exceptional site) (stage_by mine) false false)
+thrown_due rules true site round due = rw round refl
+thrown_due rules false site round due = rw (round, due) refl
+
+thrown_open : (rules : Rules) (site : Site) → holds_round rules.held site.method ≡ false → is_some (clause_of rules.policy (in_phase Exceptional site)) ≡ false → asked_thrown rules site ≡ Open
+thrown_open rules site round none = rw (round, none) refl
 
 -- what is thrown is caught in the frame that called
 throws_caught : (program : Program) (world : World) (number : ℕ) (thread : Thread) (frame : Frame) (below : List Frame) (class : Name) (e : Event) (f : Frame)
     → caught_in program (values.Ref (length world.heap)) class frame ≡ Some f
     → throws_new program world number thread (frame ∷ below) class (Some e) ≡ with_event (goes (with_object world (bare_object class)) thread (f ∷ below)) (Some e)
 throws_caught program world number thread frame below class e f is = rw is refl
+
+-- The library sees what it throws.
+throws_seen : (program : Program) (world : World) (number : ℕ) (thread : Thread) (frames : List Frame) (class : Name) (e : Event)
+    → (throws_new program world number thread frames class (Some e)).event ≡ Some e
+throws_seen program world number thread frames class e = refl
 
 -- ---- what an answer gives
 
@@ -171,64 +203,88 @@ returns_then policy recorded now (Owed other) e ends settles = (ends, settles.0,
 -- ---- the frame that waited
 
 module _ (program : Program) (policy : Policy) (annotations : Annotations) (o : IsObeying program policy annotations) (rules_hold : RulesHold program policy annotations)
-    (number : ℕ) (thread : Thread) (method : ℕ) (recorded : Values) (fields : List Value) (part : Part) (ranged : in_range policy recorded ≡ true)
+    (laws : Laws program policy annotations) (mine : Bool) (number : ℕ) (thread : Thread) (method : ℕ) (recorded : Values) (fields : List Value) (part : Part) (ranged : in_range policy recorded ≡ true)
     (frame : Frame) (below : List Frame) (under : AreBelow program policy annotations below)
-    (c : IsOwnerCall program policy annotations recorded fields method frame part) (has : has_clauses policy method ≡ true) where
+    (c : IsBlockCall program policy annotations mine recorded fields method frame part) (has : has_clauses policy method ≡ true)
+    (shared : World) (clean_shared : IsCleanWorld program (state_of program policy annotations) shared)
+    (locked : LocksAre program policy annotations mine number shared shared) (variables : VariablesAre program policy annotations mine fields shared shared) where
   abbrev rules : Rules
   rules = rules_of program policy annotations
 
   abbrev note : Note
-  note = notes.Granted c.site true (needs policy method) false
+  note = notes.Granted c.site mine (needs policy method) false
 
   ruled : IsRuled program policy annotations frame (c.at_call.insn, target.ApiMethod method) note
   ruled = rules_hold frame (c.at_call.insn, target.ApiMethod method) note c.at_call.there c.at_call.told
 
-  row_is : CallsMethod rules c.site true (needs policy method) false (shape_of c.at_call.insn) (target.ApiMethod method) ruled.r
-  row_is = call_row rules c.site (needs policy method) (shape_of c.at_call.insn) (target.ApiMethod method) ruled.r c.at_call.call ruled.has
+  row_is : CallsMethod rules c.site mine (needs policy method) false (shape_of c.at_call.insn) (target.ApiMethod method) ruled.r
+  row_is = call_row rules c.site mine (needs policy method) (shape_of c.at_call.insn) (target.ApiMethod method) ruled.r c.at_call.call ruled.has
 
-  -- the update is due, where there is a clause for it
-  owes : (site : Site) (e : Event) (at : ℕ) (items : List Value) → site.method ≡ method → is_before site.phase ≡ false → IsEventOf site e → AreClean program items
-      → ((clause : Clause) → clause_of policy site ≡ Some clause → HasResultIn clause site.phase false site.base frame.locals items e)
-      → Owns program policy annotations.held recorded fields (moved_to frame at frame.locals items) (notes.Owed site 1 false false) (part_behind (clause_of policy site) e)
-  owes site e at items is behind of clean tells = (
-    ap (holds_round annotations.held) is ∙ c.hold,
-    record {
-      behind = behind;
-      variables = c.variables;
-      above = record { rest = items; is = refl; clean = clean };
-      owed = by (clause_of policy site) refl;
-    },
-  ) where
-    by : (clause : Option Clause) → clause_of policy site ≡ clause → IsOwed site 1 clause (part_behind clause e) false frame.locals items
-    by None there = refl
-    by (Some clause) there = record { event = e; is = refl; of = of; told = tells clause there }
+  round_site : holds_round annotations.held c.site.method ≡ mine
+  round_site = ap (holds_round annotations.held) c.of ∙ c.round
 
-  -- the thread goes on, and the library saw an event of the site
-  goes_seen : (world : World) (site : Site) (e : Event) (f : Frame) → IsEventOf site e → is_return e ≡ true → IsHeldBy program policy annotations o number fields world
-      → Lands program policy annotations o recorded fields f (part_behind (clause_of policy site) e)
-      → ChangesOwner program policy annotations number recorded part (with_event (goes world thread (f ∷ below)) (Some e))
-  goes_seen world site e f of ends held lands = record {
-    begins = refl;
-    now = lands.now;
-    ranged = lands.ranged;
-    due = lands.due;
-    turns = rw c.clear (ended (clause_of policy site) refl lands.settles);
-    goes = λ on. (held.clean, inl (record { locks = held.locks; fields = fields; variables = held.variables; owns = (lands.top, under) }));
+  goes_round : (site : Site) → site.method ≡ method → GoesRound mine (holds_round annotations.held site.method)
+  goes_round site is = by mine (ap (holds_round annotations.held) is ∙ c.round) where
+    by : (b : Bool) → holds_round annotations.held site.method ≡ b → GoesRound b (holds_round annotations.held site.method)
+    by true round = tt
+    by false round = round
+
+  -- the update is due
+  owes : (site : Site) (e : Event) (at : ℕ) (items : List Value) → site.method ≡ method → is_before site.phase ≡ false → IsEventOf site e → FitsRuns program policy annotations.held e → AreClean program items
+      → ((clause : Clause) → clause_of policy site ≡ Some clause → HasResultIn clause site.phase false site.base frame.locals items e) → IsDueBehind policy mine site
+      → Means program policy annotations.held mine recorded fields (moved_to frame at frame.locals items) (notes.Owed site (stage_by mine) false false) (part_behind (clause_of policy site) e)
+  owes site e at items is behind of fit clean tells due = record {
+    behind = behind;
+    round = goes_round site is;
+    variables = c.variables;
+    above = record { rest = items; is = refl; clean = clean };
+    owed = by mine (clause_of policy site) refl due;
   } where
-    ended : (clause : Option Clause) → clause_of policy site ≡ clause → Settles policy recorded (part_behind clause e) lands.now lands.due
-        → Turns policy recorded Clear (clause_event policy (Some e)) lands.now lands.due
-    ended None there settles = rw (no_clause policy (Some e) (has_its_clause policy site e of ∙ ap is_some there)) settles
-    ended (Some clause) there settles =
-        rw (its_clause policy e (has_its_clause policy site e of ∙ ap is_some there)) (returns_then policy recorded lands.now lands.due e ends settles)
+    by : (b : Bool) (clause : Option Clause) → clause_of policy site ≡ clause → IsDueBehind policy b site
+        → IsOwed program policy annotations.held b site (stage_by b) clause (part_behind clause e) false frame.locals items
+    by true None there due = refl
+    by true (Some clause) there due = record { event = e; is = refl; of = of; formed = fit; told = tells clause there }
+    by false None there due = let none : false ≡ true = ap is_some (sym there) ∙ due in absurd cc
+    by false (Some clause) there due = record { event = e; is = refl; of = of; formed = fit; told = tells clause there }
+
+  -- the event of a site that the library saw, and what is loose then
+  seen_loose : (site : Site) (e : Event) → site.method ≡ method → IsEventOf site e → mine ≡ false
+      → IfSome (clause_event policy (Some e)) (IsLooseEvent policy annotations.held (IsFit program policy annotations))
+  seen_loose site e is of other =
+      clause_or (IsLooseEvent policy annotations.held (IsFit program policy annotations)) policy e
+      (event_loose program policy annotations site e of (ap (holds_round annotations.held) is ∙ c.round ∙ other))
+
+  -- the thread goes on in its block
+  goes_seen : (world : World) (site : Site) (e : Event) (f : Frame) → site.method ≡ method → IsEventOf site e → is_return e ≡ true → FitsRuns program policy annotations.held e
+      → IsShared program policy annotations o mine number fields shared world
+      → Lands program policy annotations o mine recorded fields f (part_behind (clause_of policy site) e)
+      → ChangesBlock program policy annotations mine shared number recorded part (with_event (goes world thread (f ∷ below)) (Some e))
+  goes_seen world site e f is of ends fit held lands =
+      goes_in program policy annotations o number recorded fields part shared world thread f below under mine (part_behind (clause_of policy site) e) (Some e)
+      (clause_or (IsFit program policy annotations) policy e fit) held lands (rw c.clear (ended (clause_of policy site) refl lands.settles))
+      (lands_loose program policy annotations o mine recorded fields f (part_behind (clause_of policy site) e) part (clause_event policy (Some e)) (λ other. rw c.clear tt) (seen_loose site e is of) lands)
+    where
+      ended : (clause : Option Clause) → clause_of policy site ≡ clause → Settles policy recorded (part_behind clause e) lands.now lands.due
+          → Turns policy recorded Clear (clause_event policy (Some e)) lands.now lands.due
+      ended None there settles = rw (no_clause policy (Some e) (has_its_clause policy site e of ∙ ap is_some there)) settles
+      ended (Some clause) there settles =
+          rw (its_clause policy e (has_its_clause policy site e of ∙ ap is_some there)) (returns_then policy recorded lands.now lands.due e ends settles)
+
+  -- by whether an update is due
+  due_or_not : (site : Site) {P : Type 0} → (IsDueBehind policy mine site → P) → (mine ≡ false → is_some (clause_of policy site) ≡ false → P) → P
+  due_or_not site {P = P} due not_due = by mine refl (is_some (clause_of policy site)) refl where
+    by : (b : Bool) → mine ≡ b → (some : Bool) → is_some (clause_of policy site) ≡ some → P
+    by true is some there = due (rw is tt)
+    by false is true there = due (rw is there)
+    by false is false there = not_due is there
 
   -- ---- the method returns
 
-  module _ (receiver : Option Value) (arguments : List Value) (answer : ApiAnswer) (world : World) (listed : ListedMethod)
+  module _ (receiver : Option Value) (arguments : List Value) (answer : ApiAnswer) (listed : ListedMethod)
       (there : slice_get program.listing.methods method ≡ Some listed)
-      (fits : answer_fits program world.heap (types_of listed.id.desc).result receiver arguments answer ≡ true)
-      (gave : World × Option Value) (given_is : given world receiver arguments answer ≡ Some gave)
-      (clean : GivesClean program (state_of program policy annotations) world gave)
-      (locked : held_locks program world.monitors ≡ locked_by program number) (variables : slice_get world.statics (state_of program policy annotations) ≡ Some fields) where
+      (fits : answer_fits program shared.heap (types_of listed.id.desc).result receiver arguments answer ≡ true)
+      (gave : World × Option Value) (given_is : given shared receiver arguments answer ≡ Some gave)
+      (clean : GivesClean program (state_of program policy annotations) shared gave) where
     abbrev event : Event
     event = events.Return number method (option_map (value_shown program gave.0.heap) gave.1)
 
@@ -249,7 +305,7 @@ module _ (program : Program) (policy : Policy) (annotations : Annotations) (o : 
         → HasResult result false site.base frame.locals items event
     has_result clause None gives = tt
     has_result clause (Some kind) gives =
-        let v = gives_something program world (types_of listed.id.desc).result receiver arguments answer gave fits (gives refl) given_is in
+        let v = gives_something program shared (types_of listed.id.desc).result receiver arguments answer gave fits (gives refl) given_is in
         result_shown v.0 v.1
 
     tells_result : (clause : Clause) → clause_of policy site ≡ Some clause → HasResult clause.result false site.base frame.locals items event
@@ -267,38 +323,67 @@ module _ (program : Program) (policy : Policy) (annotations : Annotations) (o : 
       by None is = tt
       by (Some v) is = (is, tt)
 
-    leads : LeadsTo program policy annotations frame (frame.at + 1) (Given (notes.Owed site 1 false false))
-    leads =
-        let asked : ruled.r.past ≡ Given (notes.Owed site 1 false false) = ap (λ (r : Row). r.past) row_is.is ∙ behind_held rules c.site (ap (holds_round annotations.held) c.of ∙ c.hold) in
-        subst (LeadsTo program policy annotations frame (frame.at + 1)) asked
-        (ruled.past (goes_behind program policy annotations o frame (c.at_call.insn, target.ApiMethod method) c.at_call.there (call_stays (shape_of c.at_call.insn) c.at_call.call)))
+    behind_call : ends (shape_of c.at_call.insn) ≡ false
+    behind_call = call_stays (shape_of c.at_call.insn) c.at_call.call
 
-    returns : ChangesOwner program policy annotations number recorded part (with_event (goes gave.0 thread (moved_to frame (frame.at + 1) frame.locals items ∷ below)) (Some event))
-    returns =
-        let of : IsEventOf site event = record { method = sym c.of; phase = refl } in
-        goes_seen gave.0 site event (moved_to frame (frame.at + 1) frame.locals items) of refl
-        (record {
-          clean = clean.clean;
-          locks = ap (held_locks program) clean.monitors ∙ locked;
-          variables = ap (λ (statics : List (List Value)). slice_get statics (state_of program policy annotations)) clean.statics ∙ variables;
-        })
-        (owner_frame program policy annotations o frame c.well recorded fields (part_behind (clause_of policy site) event) ranged (frame.at + 1) frame.locals items (notes.Owed site 1 false false) c.well.locals leads
-        (owes site event (frame.at + 1) items c.of refl of result_clean tells_result))
+    leads_past : LeadsTo program policy annotations frame (frame.at + 1) ruled.r.past
+    leads_past = ruled.past (goes_behind program policy annotations o frame (c.at_call.insn, target.ApiMethod method) c.at_call.there behind_call)
 
-    returns_change : (change : Change) → returned program gave.0 thread (frame ∷ below) gave.1 (Some event) ≡ Some change → ChangesOwner program policy annotations number recorded part change
-    returns_change change e =
+    past_is : ruled.r.past ≡ asked_behind rules c.site
+    past_is = ap (λ (r : Row). r.past) row_is.is
+
+    of_site : IsEventOf site event
+    of_site = record { method = sym c.of; phase = refl }
+
+    world_now : IsShared program policy annotations o mine number fields shared gave.0
+    world_now = record { clean = clean.clean; locks = same_locks mine locked; variables = same_variables mine variables } where
+      same_locks : (b : Bool) → LocksAre program policy annotations b number shared shared → LocksAre program policy annotations b number shared gave.0
+      same_locks true l = ap (held_locks program) clean.monitors ∙ l
+      same_locks false l = ap (held_locks program) clean.monitors
+      same_variables : (b : Bool) → VariablesAre program policy annotations b fields shared shared → VariablesAre program policy annotations b fields shared gave.0
+      same_variables true v = ap (λ (statics : List (List Value)). slice_get statics (state_of program policy annotations)) clean.statics ∙ v
+      same_variables false v = ap (λ (statics : List (List Value)). slice_get statics (state_of program policy annotations)) clean.statics
+
+    abbrev Returns : Type 0
+    Returns = ChangesBlock program policy annotations mine shared number recorded part (with_event (goes gave.0 thread (moved_to frame (frame.at + 1) frame.locals items ∷ below)) (Some event))
+
+    returns_due : FitsRuns program policy annotations.held event → IsDueBehind policy mine site → Returns
+    returns_due fit due =
+        let asked : ruled.r.past ≡ Given (notes.Owed site (stage_by mine) false false) = past_is ∙ behind_due rules mine c.site round_site due in
+        let leads : LeadsTo program policy annotations frame (frame.at + 1) (Given (notes.Owed site (stage_by mine) false false)) = subst (LeadsTo program policy annotations frame (frame.at + 1)) asked leads_past in
+        goes_seen gave.0 site event (moved_to frame (frame.at + 1) frame.locals items) c.of of_site refl fit world_now
+        (block_frame program policy annotations o frame c.well mine recorded fields (part_behind (clause_of policy site) event) ranged (frame.at + 1) frame.locals items
+        (notes.Owed site (stage_by mine) false false) c.well.locals leads (owes site event (frame.at + 1) items c.of refl of_site fit result_clean tells_result due))
+
+    returns_open : mine ≡ false → is_some (clause_of policy site) ≡ false → Returns
+    returns_open other none =
+        let asked : ruled.r.past ≡ Open = past_is ∙ behind_open rules c.site (round_site ∙ other) none in
+        let leads : LeadsTo program policy annotations frame (frame.at + 1) Open = subst (LeadsTo program policy annotations frame (frame.at + 1)) asked leads_past in
+        subst (λ (b : Bool). ChangesBlock program policy annotations b shared number recorded part (with_event (goes gave.0 thread (moved_to frame (frame.at + 1) frame.locals items ∷ below)) (Some event))) (sym other)
+        (goes_open program policy annotations o number recorded fields part shared gave.0 thread (moved_to frame (frame.at + 1) frame.locals items) below under (Some event) ranged
+        (record { clean = clean.clean; locks = ap (held_locks program) clean.monitors; variables = ap (λ (statics : List (List Value)). slice_get statics (state_of program policy annotations)) clean.statics })
+        c.clear (no_clause policy (Some event) (has_its_clause policy site event of_site ∙ none))
+        (frame_moved program policy annotations o frame c.well (frame.at + 1) frame.locals items c.well.locals)
+        (client_frame program policy annotations o frame c.well (opens_free program policy annotations) (frame.at + 1) frame.locals items result_clean leads))
+
+    returns : FitsRuns program policy annotations.held event → Returns
+    returns fit = due_or_not site (returns_due fit) returns_open
+
+    returns_change : (change : Change) → IfSome change.event (IsFit program policy annotations) → returned program gave.0 thread (frame ∷ below) gave.1 (Some event) ≡ Some change
+        → ChangesBlock program policy annotations mine shared number recorded part change
+    returns_change change fit e =
         let onward = λ (f : Frame). with_event (goes gave.0 thread (f ∷ below)) (Some event) in
         let m = map_of onward (after frame items) change e in
         let f : moved_to frame (frame.at + 1) frame.locals items ≡ m.0 = unless_of (nat_lt frame.stack.size (length items)) _ _ m.1 in
-        subst (ChangesOwner program policy annotations number recorded part) (ap onward f ∙ m.2) returns
+        let same : onward (moved_to frame (frame.at + 1) frame.locals items) ≡ change = ap onward f ∙ m.2 in
+        subst (ChangesBlock program policy annotations mine shared number recorded part) same
+        (returns (subst (λ (x : Change). IfSome x.event (IsFit program policy annotations)) (sym same) fit))
 
   -- ---- the method throws
 
-  module _ (world : World) (clean : IsCleanWorld program (state_of program policy annotations) world)
-      (locked : held_locks program world.monitors ≡ locked_by program number) (variables : slice_get world.statics (state_of program policy annotations) ≡ Some fields)
-      (class : Name) where
+  module _ (class : Name) where
     abbrev thrown : Value
-    thrown = values.Ref (length world.heap)
+    thrown = values.Ref (length shared.heap)
 
     abbrev excepted : Event
     excepted = events.Except number method
@@ -306,98 +391,137 @@ module _ (program : Program) (policy : Policy) (annotations : Annotations) (o : 
     abbrev thrown_site : Site
     thrown_site = in_phase Exceptional c.site
 
-    catches : (handler : Handler) × (handler_of program frame class ≡ Some handler)
-    catches =
-        ruled.duty method refl c.at_call.call has (duty_held rules method c.hold) class
+    thrown_of : IsEventOf thrown_site excepted
+    thrown_of = record { method = sym c.of; phase = refl }
 
-    abbrev caught : Frame
-    caught = moved_to frame catches.0.at frame.locals (thrown ∷ [])
+    thrown_is : ruled.r.thrown ≡ asked_thrown rules c.site
+    thrown_is = ap (λ (r : Row). r.thrown) row_is.is
 
-    caught_is : caught_in program thrown class frame ≡ Some caught
-    caught_is =
+    catches : IsDueBehind policy mine thrown_site → (handler : Handler) × (handler_of program frame class ≡ Some handler)
+    catches due = ruled.duty method refl c.at_call.call has (subst (λ (m : ℕ). is_duty rules m ≡ true) c.of (duty_due rules mine c.site round_site due)) class
+
+    abbrev caught_at : Handler → Frame
+    caught_at handler = moved_to frame handler.at frame.locals (thrown ∷ [])
+
+    caught_is : (handler : Handler) → handler_of program frame class ≡ Some handler → caught_in program thrown class frame ≡ Some (caught_at handler)
+    caught_is handler there =
         let size : frame.stack.size ≡ ruled.of.max_stack = by _ ruled.there c.well.size in
-        let room : 0 < frame.stack.size = subst (λ (n : ℕ). 0 < n) (sym size) (ruled.room class catches.0 catches.1) in
+        let room : 0 < frame.stack.size = subst (λ (n : ℕ). 0 < n) (sym size) (ruled.room class handler there) in
         let fits : nat_lt 0 frame.stack.size ≡ true = lt-ltb 0 frame.stack.size room in
-        ap (option_and_then (λ (handler : Handler). cond (nat_lt 0 frame.stack.size) (Some (moved_to frame handler.at frame.locals (thrown ∷ []))) None)) catches.1
-        ∙ ap (λ (b : Bool). cond b (Some caught) None) fits where
+        ap (option_and_then (λ (handler : Handler). cond (nat_lt 0 frame.stack.size) (Some (moved_to frame handler.at frame.locals (thrown ∷ []))) None)) there
+        ∙ ap (λ (b : Bool). cond b (Some (caught_at handler)) None) fits where
           by : (m : Option Method) → m ≡ Some ruled.of → IfSome m (λ n. frame.stack.size ≡ n.max_stack) → frame.stack.size ≡ ruled.of.max_stack
           by None e size = absurd cc
           by (Some n) e size = let same : n ≡ ruled.of = cc in subst (λ (x : Method). frame.stack.size ≡ x.max_stack) same size
 
-    leads_caught : LeadsTo program policy annotations frame catches.0.at (Given (notes.Owed thrown_site 1 false false))
-    leads_caught =
-        subst (LeadsTo program policy annotations frame catches.0.at)
-        (ap (λ (r : Row). r.thrown) row_is.is ∙ thrown_held rules c.site (ap (holds_round annotations.held) c.of ∙ c.hold))
-        (ruled.caught class catches.0 catches.1)
+    abbrev with_thrown : World
+    with_thrown = with_object shared (bare_object class)
 
-    throws_well : ChangesOwner program policy annotations number recorded part (with_event (goes (with_object world (bare_object class)) thread (caught ∷ below)) (Some excepted))
-    throws_well =
-        let of : IsEventOf thrown_site excepted = record { method = sym c.of; phase = refl } in
-        goes_seen (with_object world (bare_object class)) thrown_site excepted caught of refl
-        (record { clean = with_clean program (state_of program policy annotations) world (bare_object class) clean (tt, refl); locks = locked; variables = variables })
-        (owner_frame program policy annotations o frame c.well recorded fields (part_behind (clause_of policy thrown_site) excepted) ranged catches.0.at frame.locals (thrown ∷ []) (notes.Owed thrown_site 1 false false) c.well.locals leads_caught
-        (owes thrown_site excepted catches.0.at (thrown ∷ []) c.of refl of (refl, tt) (λ clause is. tt)))
+    thrown_clean : IsCleanWorld program (state_of program policy annotations) with_thrown
+    thrown_clean = with_clean program (state_of program policy annotations) shared (bare_object class) clean_shared (tt, refl)
 
-    throws_change : ChangesOwner program policy annotations number recorded part (throws_new program world number thread (frame ∷ below) class (Some excepted))
-    throws_change = subst (ChangesOwner program policy annotations number recorded part) (sym (throws_caught program world number thread frame below class excepted caught caught_is)) throws_well
+    thrown_world : IsShared program policy annotations o mine number fields shared with_thrown
+    thrown_world = record { clean = thrown_clean; locks = same_locks mine locked; variables = same_variables mine variables } where
+      same_locks : (b : Bool) → LocksAre program policy annotations b number shared shared → LocksAre program policy annotations b number shared with_thrown
+      same_locks true l = l
+      same_locks false l = refl
+      same_variables : (b : Bool) → VariablesAre program policy annotations b fields shared shared → VariablesAre program policy annotations b fields shared with_thrown
+      same_variables true v = v
+      same_variables false v = refl
+
+    abbrev Throws : Change → Type 0
+    Throws change = ChangesBlock program policy annotations mine shared number recorded part change
+
+    throws_due : FitsRuns program policy annotations.held excepted → IsDueBehind policy mine thrown_site → Throws (throws_new program shared number thread (frame ∷ below) class (Some excepted))
+    throws_due fit due =
+        let h = catches due in
+        let leads : LeadsTo program policy annotations frame h.0.at (Given (notes.Owed thrown_site (stage_by mine) false false)) =
+        subst (LeadsTo program policy annotations frame h.0.at) (thrown_is ∙ thrown_due rules mine c.site round_site due) (ruled.caught class h.0 h.1) in
+        subst Throws (sym (throws_caught program shared number thread frame below class excepted (caught_at h.0) (caught_is h.0 h.1)))
+        (goes_seen with_thrown thrown_site excepted (caught_at h.0) c.of thrown_of refl fit thrown_world
+        (block_frame program policy annotations o frame c.well mine recorded fields (part_behind (clause_of policy thrown_site) excepted) ranged h.0.at frame.locals (thrown ∷ [])
+        (notes.Owed thrown_site (stage_by mine) false false) c.well.locals leads (owes thrown_site excepted h.0.at (thrown ∷ []) c.of refl thrown_of fit (refl, tt) (λ clause is. tt) due)))
+
+    -- It is caught in the client's code, in this frame or below, or ends the thread.
+    throws_open : mine ≡ false → is_some (clause_of policy thrown_site) ≡ false → Throws (throws_new program shared number thread (frame ∷ below) class (Some excepted))
+    throws_open other none =
+        let asked : ruled.r.thrown ≡ Open = thrown_is ∙ thrown_open rules c.site (round_site ∙ other) none in
+        let catching : AreCatching program policy annotations (frame ∷ below) = (
+          record {
+            well = c.well;
+            caught = λ name handler there.
+                let leads : LeadsTo program policy annotations frame handler.at Open = subst (LeadsTo program policy annotations frame handler.at) asked (ruled.caught name handler there) in
+                (leads.note, leads.told, leads.meets);
+          },
+          under,
+        ) in
+        let kept = lock_kept program (state_of program policy annotations) shared clean_shared in
+        let unseen : has_clause policy excepted ≡ false = has_its_clause policy thrown_site excepted thrown_of ∙ none in
+        let good = throws_new_good program policy annotations laws shared shared number thread (frame ∷ below) class (Some excepted) kept catching unseen in
+        subst (λ (b : Bool). ChangesBlock program policy annotations b shared number recorded part (throws_new program shared number thread (frame ∷ below) class (Some excepted))) (sym other)
+        (client_changes_block program policy annotations shared number recorded part (throws_new program shared number thread (frame ∷ below) class (Some excepted)) ranged c.clear refl good)
+
+    throws_change : FitsRuns program policy annotations.held excepted → Throws (throws_new program shared number thread (frame ∷ below) class (Some excepted))
+    throws_change fit = due_or_not thrown_site (throws_due fit) throws_open
 
   -- ---- any answer
 
-  module _ (world : World) (clean : IsCleanWorld program (state_of program policy annotations) world)
-      (locked : held_locks program world.monitors ≡ locked_by program number) (variables : slice_get world.statics (state_of program policy annotations) ≡ Some fields)
-      (frames : thread.frames ≡ frame ∷ below) (receiver : Option Value) (arguments : List Value) (passed : ArePassed program receiver arguments) (change : Change) where
+  module _ (frames : thread.frames ≡ frame ∷ below) (receiver : Option Value) (arguments : List Value) (passed : ArePassed program receiver arguments) (change : Change)
+      (fit : IfSome change.event (IsFit program policy annotations)) where
     abbrev Changes : Type 0
-    Changes = ChangesOwner program policy annotations number recorded part change
+    Changes = ChangesBlock program policy annotations mine shared number recorded part change
 
-    throws : (class : Name) → Some (throws_new program world number thread thread.frames class (Some (events.Except number method))) ≡ Some change → Changes
+    throws : (class : Name) → Some (throws_new program shared number thread thread.frames class (Some (events.Except number method))) ≡ Some change → Changes
     throws class e =
-        let same : throws_new program world number thread (frame ∷ below) class (Some (events.Except number method)) ≡ change =
-        ap (λ (fs : List Frame). throws_new program world number thread fs class (Some (events.Except number method))) (sym frames) ∙ some_is _ change e in
-        subst (ChangesOwner program policy annotations number recorded part) same (throws_change world clean locked variables class)
+        let same : throws_new program shared number thread (frame ∷ below) class (Some (events.Except number method)) ≡ change =
+        ap (λ (fs : List Frame). throws_new program shared number thread fs class (Some (events.Except number method))) (sym frames) ∙ some_is _ change e in
+        let seen : change.event ≡ Some (events.Except number method) = sym (ap (λ (x : Change). x.event) same) ∙ throws_seen program shared number thread (frame ∷ below) class (events.Except number method) in
+        subst (ChangesBlock program policy annotations mine shared number recorded part) same
+        (throws_change class (subst (λ (x : Option Event). IfSome x (IsFit program policy annotations)) seen fit))
 
     answers_well : (listed : ListedMethod) (answer : ApiAnswer) → slice_get program.listing.methods method ≡ Some listed
-        → answer_fits program world.heap (types_of listed.id.desc).result receiver arguments answer ≡ true
-        → answered_well program world number thread method receiver arguments answer ≡ Some change → Changes
+        → answer_fits program shared.heap (types_of listed.id.desc).result receiver arguments answer ≡ true
+        → answered_well program shared number thread method receiver arguments answer ≡ Some change → Changes
     answers_well listed answer there fits e = by (thrown_by answer) e where
       by : (o : Option Name)
-          → option_map_or (thrown_by_library program world number thread method) o (option_and_then (returned_by program number thread method) (given world receiver arguments answer)) ≡ Some change
+          → option_map_or (thrown_by_library program shared number thread method) o (option_and_then (returned_by program number thread method) (given shared receiver arguments answer)) ≡ Some change
           → Changes
       by (Some class) e = throws class e
       by None e =
-          let gave = and_then_of (returned_by program number thread method) (given world receiver arguments answer) change e in
+          let gave = and_then_of (returned_by program number thread method) (given shared receiver arguments answer) change e in
           let returns : returned program gave.0.0 thread (frame ∷ below) gave.0.1 (Some (events.Return number method (option_map (value_shown program gave.0.0.heap) gave.0.1))) ≡ Some change =
           subst (λ (fs : List Frame). returned program gave.0.0 thread fs gave.0.1 (Some (events.Return number method (option_map (value_shown program gave.0.0.heap) gave.0.1))) ≡ Some change) frames gave.2 in
-          returns_change receiver arguments answer world listed there fits gave.0 gave.1
-          (gives_clean program (state_of program policy annotations) world clean receiver arguments answer gave.0 passed gave.1) locked variables change returns
+          returns_change receiver arguments answer listed there fits gave.0 gave.1
+          (gives_clean program (state_of program policy annotations) shared clean_shared receiver arguments answer gave.0 passed gave.1) change fit returns
 
-    answers_fit : (answer : ApiAnswer) → answered program world number thread method receiver arguments answer ≡ Some change → Changes
+    answers_fit : (answer : ApiAnswer) → answered program shared number thread method receiver arguments answer ≡ Some change → Changes
     answers_fit answer e =
-        let test = λ (listed : ListedMethod). answer_fits program world.heap (types_of listed.id.desc).result receiver arguments answer in
-        let listed = and_then_of (λ (listed : ListedMethod). cond (test listed) (answered_well program world number thread method receiver arguments answer) None)
+        let test = λ (listed : ListedMethod). answer_fits program shared.heap (types_of listed.id.desc).result receiver arguments answer in
+        let listed = and_then_of (λ (listed : ListedMethod). cond (test listed) (answered_well program shared number thread method receiver arguments answer) None)
         (slice_get program.listing.methods method) change e in
         by (test listed.0) listed.0 refl listed.1 listed.2 where
-          by : (b : Bool) (listed : ListedMethod) → answer_fits program world.heap (types_of listed.id.desc).result receiver arguments answer ≡ b
+          by : (b : Bool) (listed : ListedMethod) → answer_fits program shared.heap (types_of listed.id.desc).result receiver arguments answer ≡ b
               → slice_get program.listing.methods method ≡ Some listed
-              → cond (answer_fits program world.heap (types_of listed.id.desc).result receiver arguments answer) (answered_well program world number thread method receiver arguments answer) None ≡ Some change
+              → cond (answer_fits program shared.heap (types_of listed.id.desc).result receiver arguments answer) (answered_well program shared number thread method receiver arguments answer) None ≡ Some change
               → Changes
-          by true listed fits there e = let well : answered_well program world number thread method receiver arguments answer ≡ Some change = rw fits at e in answers_well listed answer there fits well
+          by true listed fits there e = let well : answered_well program shared number thread method receiver arguments answer ≡ Some change = rw fits at e in answers_well listed answer there fits well
           by false listed fits there e = let none : None ≡ Some change = rw fits at e in absurd cc
 
-    steps : (choice : Choice) → call_stepped program world number thread method receiver arguments choice ≡ Some change → Changes
+    steps : (choice : Choice) → call_stepped program shared number thread method receiver arguments choice ≡ Some change → Changes
     steps choices.Plain e = elim (cases_Bool (is_on_null receiver)) [
-      | inl null ↦ let thrown : Some (throws_new program world number thread thread.frames null_pointer (Some (events.Except number method))) ≡ Some change = rw null at e in throws null_pointer thrown
+      | inl null ↦ let thrown : Some (throws_new program shared number thread thread.frames null_pointer (Some (events.Except number method))) ≡ Some change = rw null at e in throws null_pointer thrown
       | inr there ↦ let none : None ≡ Some change = rw there at e in absurd cc
     ]
     steps (choices.Answer answer) e = elim (cases_Bool (is_on_null receiver)) [
       | inl null ↦ let none : None ≡ Some change = rw null at e in absurd cc
-      | inr there ↦ let answers : answered program world number thread method receiver arguments answer ≡ Some change = rw there at e in answers_fit answer answers
+      | inr there ↦ let answers : answered program shared number thread method receiver arguments answer ≡ Some change = rw there at e in answers_fit answer answers
     ]
 
 module _ (program : Program) (policy : Policy) (annotations : Annotations) (o : IsObeying program policy annotations) (rules_hold : RulesHold program policy annotations) where
   -- An answer to a call that was granted changes what it may.
-  pub owner_answers : OwnerAnswers program policy annotations
-  owner_answers world number thread method receiver arguments choice change recorded fields part clean has call passed ranged locked variables step = by thread.frames refl call where
-    by : (frames : List Frame) → thread.frames ≡ frames → AreOwnerCall program policy annotations recorded fields method frames part → ChangesOwner program policy annotations number recorded part change
+  pub block_answers : Laws program policy annotations → BlockAnswers program policy annotations
+  block_answers laws mine world number thread method receiver arguments choice change recorded fields part fit clean has call passed ranged locked variables step = by thread.frames refl call where
+    by : (frames : List Frame) → thread.frames ≡ frames → AreBlockCall program policy annotations mine recorded fields method frames part → ChangesBlock program policy annotations mine world number recorded part change
     by [] is call = absurd call
     by (frame ∷ below) is call =
-        steps program policy annotations o rules_hold number thread method recorded fields part ranged frame below call.1 call.0 has world clean locked variables is receiver arguments passed change choice step
+        steps program policy annotations o rules_hold laws mine number thread method recorded fields part ranged frame below call.1 call.0 has world clean locked variables is receiver arguments passed change fit choice step

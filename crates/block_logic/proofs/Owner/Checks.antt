@@ -1,5 +1,5 @@
 -- Steps of a check: terms are pushed, added and compared, variables are written, and the lock is left once the check is done.
-use Rattle.std.proofs.Common.{◌≡◌, ℕ, ◌+◌, Bool, true, false, cond, List, [], ◌∷◌, ◌++◌, drop, reverse, Option, Some, refl, sym, ap, ◌∙◌, subst, inl, inr}
+use Rattle.std.proofs.Common.{◌≡◌, ℕ, ◌+◌, Bool, true, false, cond, List, [], ◌∷◌, ◌++◌, drop, reverse, Option, Some, None, refl, sym, ap, ◌∙◌, subst, arith, inl, inr}
 use Rattle.std.specs.Prelude.{not, option_and_then, slice_get, slice_set}
 use Rattle.std.specs.Option.{option_map_or}
 use Rattle.std.specs.Int.{w32, int_wrapping_add}
@@ -16,8 +16,9 @@ use Rattle.insn_codec.specs.Shapes.{shape_of}
 use Rattle.insn_codec.specs.Table.{ends}
 use Rattle.bytecode_model.specs.declared.program.Program.{Program}
 use Rattle.bytecode_model.specs.declared.program.Target.{Target}
-use Rattle.block_logic.specs.Annotations.{Annotations}
+use Rattle.block_logic.specs.Annotations.{Annotations, holds_round, is_always}
 use Rattle.cert_format.specs.declared.note.Note.TheVariants as notes
+use Rattle.cert_format.specs.declared.note.Phase8.TheVariants.{Before}
 use Rattle.cert_format.specs.declared.note.Site.{Site}
 use Rattle.cert_format.specs.declared.note.Term.{Term}
 use Rattle.cert_format.specs.declared.note.Term.TheVariants as terms
@@ -37,26 +38,26 @@ use Rattle.guest_model.specs.Changes.{Change, with_statics, world_of}
 use Rattle.guest_model.specs.Stepping.{Acting}
 use Rattle.guest_model.proofs.Options.{and_then_of, some_is}
 use Rattle.block_logic.specs.Accepted.{rules_of}
-use Rattle.block_logic.specs.Agreement.{Part}
+use Rattle.block_logic.specs.Agreement.{Granted, Part}
 use Rattle.block_logic.specs.Fitting.{IsCleanWorld}
-use Rattle.block_logic.specs.Meaning.{AreTerms, IsAbove, IsTried, MeansHeld, lock_of, term_value}
+use Rattle.block_logic.specs.Meaning.{AreClean, AreTerms, IsAbove, IsTried, MeansHeld, lock_of, term_value}
 use Rattle.block_logic.specs.Obeying.{IsObeying}
 use Rattle.block_logic.specs.Operands.{adds, compared, goes, leaves, variable_named, writes_static}
 use Rattle.block_logic.specs.Rows.{Check, Given, all_hold, Open, Row, Rules, asks_atom, check_row, failing, gives, holding_on, is_negation, is_relation, last_but_one, last_term, leads, leaves_done, left, next_atom, only_if, sum_of, sum_on_top, term_pushed, tested, tests, with_terms, without, writes}
 use Rattle.block_logic.specs.Standing.{branches_of, is_before, is_done}
 use Rattle.block_logic.specs.Terms.{base_term}
-use Rattle.block_logic.proofs.Owner.Acting.{ActsHolding, gives_up, goes_with, goes_with_behind, leads_behind}
-use Rattle.block_logic.proofs.Owner.Going.{compares_there, goes_holding, goes_there, owner_frame}
+use Rattle.block_logic.proofs.Owner.Acting.{ActsIn, OwnLoose, gives_over, gives_up, goes_with, goes_with_behind, leads_behind}
+use Rattle.block_logic.proofs.Owner.Going.{block_frame, compares_there, goes_in, goes_there}
 use Rattle.block_logic.proofs.Owner.Moves.{Goes, adds as adds_up, compared_to, compares as compares_tops, jumps, writes_variable}
 use Rattle.block_logic.proofs.Owner.Pushes.{term_is_pushed, variable_is_named}
 use Rattle.block_logic.proofs.Owner.Rows.{Asks, gives_asks, leads_asks, leaves_is, one_row, where_so}
-use Rattle.block_logic.proofs.Owner.Standing.{passed, passed_settles}
+use Rattle.block_logic.proofs.Owner.Standing.{IsPassed, before_is, granted_by, passed, passed_settles}
 use Rattle.block_logic.proofs.Owner.Terms.{last_is, last_two_are, one_above, one_more, same_terms_are, term_set, top_of}
 use Rattle.block_logic.proofs.Owner.Tests.{AsksAtom, atom_asked, compared_holds, one_more_fails, one_more_holds, relates_not, relates_same, sum_is}
 use Rattle.block_logic.proofs.Owner.Unlocked.{never_unlocked}
 use Rattle.block_logic.proofs.Owner.Variables.{map_some_is, set_elsewhere, set_there}
-use Rattle.block_logic.proofs.Ruled.{LeadsTo, OpenIsFree, RulesHold}
-use Rattle.block_logic.proofs.Steps.{ChangesOwner}
+use Rattle.block_logic.proofs.Ruled.{LeadsTo, OpensFree, RulesHold}
+use Rattle.block_logic.proofs.Steps.{ChangesBlock}
 
 -- ---- shapes
 
@@ -93,11 +94,14 @@ other_tested c rel relation r other e =
 
 -- ---- a check in a frame
 
-module _ (program : Program) (policy : Policy) (annotations : Annotations) (o : IsObeying program policy annotations) (open_is_free : OpenIsFree program policy annotations)
+module _ (program : Program) (policy : Policy) (annotations : Annotations) (o : IsObeying program policy annotations) (opens : OpensFree program policy annotations)
     (machine : Machine) (a : Acting) (next : Insn × Target) (change : Change) (fields : List Value) (recorded : Values) (part : Part) (ranged : in_range policy recorded ≡ true)
     (site : Site) (failed holding : ℕ) (list map : List Term)
-    (h : ActsHolding program policy annotations machine a next change (notes.Held site failed holding list map) fields)
-    (m : MeansHeld program policy recorded fields a.frame site failed holding list map part) where
+    (h : ActsIn program policy annotations true machine a next change (notes.Held site failed holding list map) fields)
+    (m : MeansHeld program policy annotations.held recorded fields a.frame site failed holding list map part) where
+  not_other : OwnLoose program policy annotations true part
+  not_other other = absurd cc
+
   abbrev rules : Rules
   rules = rules_of program policy annotations
 
@@ -105,7 +109,7 @@ module _ (program : Program) (policy : Policy) (annotations : Annotations) (o : 
   check = record { site = site; clause = m.clause; failed = failed; holding = holding; terms = list; map = map }
 
   abbrev Changes : Type 0
-  Changes = ChangesOwner program policy annotations a.number recorded part change
+  Changes = ChangesBlock program policy annotations true (world_of machine) a.number recorded part change
 
   abbrev r : Row
   r = h.ruled.r
@@ -119,12 +123,13 @@ module _ (program : Program) (policy : Policy) (annotations : Annotations) (o : 
   -- the same check, gone on
   means_on : (to : ℕ) (items : List Value) (fail hold : ℕ) (terms others : List Term) (now tops : List Value) → IsTried recorded m.event m.clause.branches fail hold
       → AreTerms program recorded m.event others now → AreTerms program recorded m.event (reverse terms) tops → IsAbove program tops items
-      → MeansHeld program policy recorded now (moved_to a.frame to a.frame.locals items) site fail hold terms others part
+      → MeansHeld program policy annotations.held recorded now (moved_to a.frame to a.frame.locals items) site fail hold terms others part
   means_on to items fail hold terms others now tops tried variables pushed above = record {
     clause = m.clause;
     there = m.there;
     event = m.event;
     of = m.of;
+    formed = m.formed;
     due = m.due;
     told = m.told;
     tried = tried;
@@ -138,14 +143,14 @@ module _ (program : Program) (policy : Policy) (annotations : Annotations) (o : 
 
   pushes : (t : Term) → term_pushed rules site m.clause map (shape_of next.0) next.1 ≡ Some t → Asks r (Given (notes.Held site failed holding (list ++ t ∷ []) map)) → Changes
   pushes t pushed asks =
-      let p = term_is_pushed program policy annotations machine a change next h.step site m.clause map recorded m.event m.told fields m.variables h.there t pushed in
+      let p = term_is_pushed program policy annotations machine a change next h.step site m.clause map recorded m.event (is_always annotations.held) m.told fields m.variables h.there t pushed in
       let items = p.value ∷ a.frame.stack.items in
       let terms : AreTerms program recorded m.event (reverse (list ++ t ∷ [])) (p.value ∷ m.tops) =
       subst (λ (ts : List Term). AreTerms program recorded m.event ts (p.value ∷ m.tops)) (sym (one_more list t))
       (one_above program recorded m.event t p.value (reverse list) m.tops p.stands m.pushed) in
       let above : IsAbove program (p.value ∷ m.tops) items = record { rest = m.above.rest; is = ap (λ (vs : List Value). p.value ∷ vs) m.above.is; clean = m.above.clean } in
-      goes_with_behind program policy annotations o machine a next change _ fields h recorded part ranged items (notes.Held site failed holding (list ++ t ∷ []) map) p.stays asks p.goes
-      (means_on (a.frame.at + 1) items failed holding (list ++ t ∷ []) map fields (p.value ∷ m.tops) m.tried m.variables terms above)
+      goes_with_behind program policy annotations o true machine a next change _ fields h recorded part ranged not_other items (notes.Held site failed holding (list ++ t ∷ []) map) p.stays asks p.goes
+      (refl, means_on (a.frame.at + 1) items failed holding (list ++ t ∷ []) map fields (p.value ∷ m.tops) m.tried m.variables terms above)
 
   -- ---- the two topmost terms
 
@@ -202,8 +207,8 @@ module _ (program : Program) (policy : Policy) (annotations : Annotations) (o : 
       subst (λ (ts : List Term). AreTerms program recorded m.event ts (value ∷ two.below)) (sym (one_more (without 2 list) t))
       (one_above program recorded m.event t value (reverse (without 2 list)) two.below stands two.others) in
       let left : items ≡ value ∷ two.below ++ m.above.rest = ap (λ (vs : List Value). value ∷ drop 2 vs) two.is in
-      goes_with_behind program policy annotations o machine a next change _ fields h recorded part ranged items (notes.Held site failed holding (without 2 list ++ t ∷ []) map) (ap ends is) asks added.4
-      (means_on (a.frame.at + 1) items failed holding (without 2 list ++ t ∷ []) map fields (value ∷ two.below) m.tried m.variables terms (above_rest (value ∷ two.below) items left))
+      goes_with_behind program policy annotations o true machine a next change _ fields h recorded part ranged not_other items (notes.Held site failed holding (without 2 list ++ t ∷ []) map) (ap ends is) asks added.4
+      (refl, means_on (a.frame.at + 1) items failed holding (without 2 list ++ t ∷ []) map fields (value ∷ two.below) m.tried m.variables terms (above_rest (value ∷ two.below) items left))
 
   -- ---- control goes elsewhere
 
@@ -211,9 +216,9 @@ module _ (program : Program) (policy : Policy) (annotations : Annotations) (o : 
   going to is asks =
       let leads : LeadsTo program policy annotations a.frame to (Given (notes.Held site failed holding list map)) =
       subst (LeadsTo program policy annotations a.frame to) asks.jump (h.ruled.jump to (goes_there program policy annotations o a.frame next h.acts.there to is)) in
-      goes_with program policy annotations o machine a next change _ fields h recorded part ranged to a.frame.locals a.frame.stack.items (notes.Held site failed holding list map) h.acts.well.locals leads
+      goes_with program policy annotations o true machine a next change _ fields h recorded part ranged not_other to a.frame.locals a.frame.stack.items (notes.Held site failed holding list map) h.acts.well.locals leads
       (jumps program machine a change next h.step to is)
-      (means_on to a.frame.stack.items failed holding list map fields m.tops m.tried m.variables m.pushed m.above)
+      (refl, means_on to a.frame.stack.items failed holding list map fields m.tops m.tried m.variables m.pushed m.above)
 
   -- ---- an atom is tested
 
@@ -230,14 +235,14 @@ module _ (program : Program) (policy : Policy) (annotations : Annotations) (o : 
         → Goes program machine a change (world_of machine) at a.frame.locals (drop 2 a.frame.stack.items) → Changes
     tells at true outcome leads g =
         let items = drop 2 a.frame.stack.items in
-        goes_with program policy annotations o machine a next change _ fields h recorded part ranged at a.frame.locals items (holding_on check) h.acts.well.locals leads g
-        (means_on at items failed (holding + 1) (without 2 list) map fields tops.below
+        goes_with program policy annotations o true machine a next change _ fields h recorded part ranged not_other at a.frame.locals items (holding_on check) h.acts.well.locals leads g
+        (refl, means_on at items failed (holding + 1) (without 2 list) map fields tops.below
         (one_more_holds program recorded m.event m.clause.branches failed holding branch atom there atom_is m.tried outcome) m.variables tops.others
         (above_rest tops.below items (ap (drop 2) tops.is)))
     tells at false outcome leads g =
         let items = drop 2 a.frame.stack.items in
-        goes_with program policy annotations o machine a next change _ fields h recorded part ranged at a.frame.locals items (failing check) h.acts.well.locals leads g
-        (means_on at items (failed + 1) 0 (without 2 list) map fields tops.below
+        goes_with program policy annotations o true machine a next change _ fields h recorded part ranged not_other at a.frame.locals items (failing check) h.acts.well.locals leads g
+        (refl, means_on at items (failed + 1) 0 (without 2 list) map fields tops.below
         (one_more_fails program recorded m.event m.clause.branches failed holding branch atom there atom_is m.tried outcome) m.variables tops.others
         (above_rest tops.below items (ap (drop 2) tops.is)))
 
@@ -253,7 +258,7 @@ module _ (program : Program) (policy : Policy) (annotations : Annotations) (o : 
         tells to outcome known leads
         (subst (λ (b : Bool). Goes program machine a change (world_of machine) (cond b to (a.frame.at + 1)) a.frame.locals (drop 2 a.frame.stack.items)) relates g)
     jumps_or_not false outcome known asks y x first second relates g =
-        let leads = leads_behind program policy annotations o machine a next change _ fields h recorded part ranged (Given (cond outcome (holding_on check) (failing check))) (ap ends is) asks in
+        let leads = leads_behind program policy annotations o true machine a next change _ fields h recorded part ranged (Given (cond outcome (holding_on check) (failing check))) (ap ends is) asks in
         tells (a.frame.at + 1) outcome known leads
         (subst (λ (b : Bool). Goes program machine a change (world_of machine) (cond b to (a.frame.at + 1)) a.frame.locals (drop 2 a.frame.stack.items)) relates g)
 
@@ -311,13 +316,13 @@ module _ (program : Program) (policy : Policy) (annotations : Annotations) (o : 
       let given = notes.Held site failed holding (without 1 list) (slice_set map var t) in
       let means = means_on (a.frame.at + 1) items failed holding (without 1 list) (slice_set map var t) now top.below m.tried
       (term_set program recorded m.event map fields var t top.value m.variables top.stands) top.others (above_rest top.below items (ap (drop 1) items_are)) in
-      let leads = leads_behind program policy annotations o machine a next change _ fields h recorded part ranged (Given given) (ap ends is) asks.past in
+      let leads = leads_behind program policy annotations o true machine a next change _ fields h recorded part ranged (Given given) (ap ends is) asks.past in
       let here : slice_get (slice_set machine.statics rules.state now) rules.state ≡ Some now =
       set_there machine.statics rules.state now (slice_get_within machine.statics rules.state fields h.there) in
-      subst (ChangesOwner program policy annotations a.number recorded part) (sym g.is)
-      (goes_holding program policy annotations o a.number recorded now part world a.thread (moved_to a.frame (a.frame.at + 1) a.frame.locals items) a.below h.acts.below
-      (record { clean = statics_kept now; locks = h.locked; variables = here })
-      (owner_frame program policy annotations o a.frame h.acts.well recorded now part ranged (a.frame.at + 1) a.frame.locals items given h.acts.well.locals leads means))
+      let lands = block_frame program policy annotations o a.frame h.acts.well true recorded now part ranged (a.frame.at + 1) a.frame.locals items given h.acts.well.locals leads (refl, means) in
+      subst (ChangesBlock program policy annotations true (world_of machine) a.number recorded part) (sym g.is)
+      (goes_in program policy annotations o a.number recorded now part (world_of machine) world a.thread (moved_to a.frame (a.frame.at + 1) a.frame.locals items) a.below h.acts.below
+      true part None tt (record { clean = statics_kept now; locks = h.locked; variables = here }) lands lands.settles tt)
 
   -- ---- the lock is left
 
@@ -330,6 +335,35 @@ module _ (program : Program) (policy : Policy) (annotations : Annotations) (o : 
       let tops : m.tops ≡ lock_of program ∷ [] = top.is ∙ ap (λ (v : Value). v ∷ top.below) lock ∙ ap (λ (vs : List Value). lock_of program ∷ vs) none in
       record { rest = m.above.rest; is = m.above.is ∙ ap (λ (vs : List Value). vs ++ m.above.rest) tops; clean = m.above.clean }
 
+  -- the call is granted, and the lock is let go
+  module _ (is : shape_of next.0 ≡ shapes.Heap heap.Exit) (only : list ≡ terms.Lock ∷ []) (p : IsPassed program policy annotations o recorded fields a.frame part ranged m.event)
+      (before : site.phase ≡ Before) (asks : Asks r (Given (notes.Granted site false 0 false))) where
+    lets_go : holds_round annotations.held site.method ≡ false → Changes
+    lets_go round =
+        let g = granted_by program policy annotations o recorded fields a.frame part ranged site failed holding list map m p before in
+        let above = lock_alone only in
+        let items = drop 1 a.frame.stack.items in
+        let clean : AreClean program items = subst (λ (vs : List Value). AreClean program (drop 1 vs)) (sym above.is) above.clean in
+        gives_over program policy annotations o machine a next change _ fields h recorded part ranged is above (notes.Granted site false 0 false) asks p.end (Granted m.event) p.stays g.0 p.variables
+        (record {
+          holds = refl;
+          round = round;
+          granted = g.1;
+          variables = tt;
+          few = omega arith;
+          loaded = [];
+          are = refl;
+          above = record { rest = items; is = refl; clean = clean };
+        })
+
+    lets_go_or_not : RulesHold program policy annotations → Changes
+    lets_go_or_not rules_hold = elim (cases_Bool (holds_round annotations.held site.method)) [
+      | inl held ↦
+          let leads = leads_behind program policy annotations o true machine a next change _ fields h recorded part ranged (Given (notes.Granted site false 0 false)) (ap ends is) asks.past in
+          absurd (never_unlocked program policy annotations o rules_hold site held a.frame next 0 h.acts.there (ap ends is) leads)
+      | inr round ↦ lets_go round
+    ]
+
   leaving : RulesHold program policy annotations → shape_of next.0 ≡ shapes.Heap heap.Exit → is_done policy site failed holding map ≡ true → list ≡ terms.Lock ∷ []
       → Asks r (left site) → Changes
   leaving rules_hold is done only asks =
@@ -337,12 +371,11 @@ module _ (program : Program) (policy : Policy) (annotations : Annotations) (o : 
       elim (cases_Bool (is_before site.phase)) [
         | inl before ↦
             let asked : left site ≡ Given (notes.Granted site false 0 false) = rw before refl in
-            let leads = leads_behind program policy annotations o machine a next change _ fields h recorded part ranged (Given (notes.Granted site false 0 false)) (ap ends is) (asks.past ∙ asked) in
-            absurd (never_unlocked program policy annotations o rules_hold site (p.hold site.method) a.frame next 0 h.acts.there (ap ends is) leads)
+            lets_go_or_not is only p (before_is site.phase before) (record { past = asks.past ∙ asked; jump = asks.jump ∙ asked; thrown = asks.thrown }) rules_hold
         | inr behind ↦
             let asked : left site ≡ Open = rw behind refl in
-            gives_up program policy annotations o machine a next change _ fields h recorded part ranged open_is_free is (record { past = asks.past ∙ asked; jump = asks.jump ∙ asked; thrown = asks.thrown })
-            (lock_alone only) p.end p.stays (passed_settles program policy annotations o recorded fields a.frame part ranged site.phase p.end m.event behind m.due p.taken) p.variables
+            gives_up program policy annotations o machine a next change _ fields h recorded part ranged is (lock_alone only) opens (record { past = asks.past ∙ asked; jump = asks.jump ∙ asked; thrown = asks.thrown })
+            p.end p.stays (passed_settles program policy annotations o recorded fields a.frame part ranged site.phase p.end m.event behind m.due p.taken) p.variables
       ]
 
   -- ---- by its row

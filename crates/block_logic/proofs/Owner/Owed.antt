@@ -14,7 +14,7 @@ use Rattle.insn_codec.specs.Shapes.{shape_of}
 use Rattle.insn_codec.specs.Table.{ends}
 use Rattle.bytecode_model.specs.declared.program.Program.{Program}
 use Rattle.bytecode_model.specs.declared.program.Target.{Target}
-use Rattle.block_logic.specs.Annotations.{Annotations, holds_round}
+use Rattle.block_logic.specs.Annotations.{Annotations}
 use Rattle.cert_format.specs.declared.note.Note.TheVariants as notes
 use Rattle.cert_format.specs.declared.note.Phase8.{Phase8}
 use Rattle.cert_format.specs.declared.note.Phase8.TheVariants.{Before, After, Exceptional}
@@ -24,7 +24,7 @@ use Rattle.conspec_automaton.specs.declared.policy.Clause.{Clause}
 use Rattle.conspec_automaton.specs.declared.policy.Policy.{Policy}
 use Rattle.guest_heap.specs.declared.value.Value.{Value}
 use Rattle.guest_model.specs.declared.machine.Machine.{Machine}
-use Rattle.guest_model.specs.Changes.{Change}
+use Rattle.guest_model.specs.Changes.{Change, world_of}
 use Rattle.guest_model.specs.Parts.{number_in}
 use Rattle.guest_model.specs.Stepping.{Acting}
 use Rattle.guest_model.proofs.Options.{all_drop, all_get, all_set}
@@ -34,16 +34,17 @@ use Rattle.block_logic.specs.Clauses.{clause_of}
 use Rattle.block_logic.specs.Meaning.{AreClean, HasResult, HasResultIn, IsAbove, IsClean, IsOwed, MeansOwed, lock_of, lock_on}
 use Rattle.block_logic.specs.Obeying.{IsObeying}
 use Rattle.block_logic.specs.Operands.{pushes_state, stored}
-use Rattle.block_logic.specs.Rows.{Given, Open, Row, Rules, may_keep, may_leave, may_push, owed_row}
+use Rattle.block_logic.specs.Rows.{Given, Open, Row, Rules, begins_owed, may_keep, may_leave, may_push, owed_row}
 use Rattle.block_logic.specs.Standing.{is_after}
-use Rattle.block_logic.proofs.Owner.Acting.{ActsHolding, gives_up, goes_with, goes_with_behind, leads_behind}
+use Rattle.block_logic.proofs.Owner.Acting.{ActsIn, OwnLoose, gives_up, goes_with, goes_with_behind, leads_behind}
+use Rattle.block_logic.proofs.Owner.Fair.{means_loose}
 use Rattle.block_logic.proofs.Owner.GrantedRows.{this_slot}
 use Rattle.block_logic.proofs.Owner.Moves.{stores}
 use Rattle.block_logic.proofs.Owner.Pushes.{pushes_lock}
-use Rattle.block_logic.proofs.Owner.Rows.{Asks, gives_asks, leads_asks, leaves_is, one_row, where_so}
+use Rattle.block_logic.proofs.Owner.Rows.{Asks, enters_is, gives_asks, leads_asks, leaves_is, one_row, where_so}
 use Rattle.block_logic.proofs.Owner.Variables.{set_there}
-use Rattle.block_logic.proofs.Ruled.{OpenIsFree}
-use Rattle.block_logic.proofs.Steps.{ChangesOwner}
+use Rattle.block_logic.proofs.Ruled.{OpensFree}
+use Rattle.block_logic.proofs.Steps.{ChangesBlock}
 
 -- ---- the rows
 
@@ -53,7 +54,7 @@ stores_is shape slot e = absurd cc
 
 module _ (rules : Rules) (site : Site) (stage : ℕ) (kept top : Bool) (shape : Shape) (ref : Target) (r : Row) where
   -- The result is put into its local,
-  record KeepsResult : Type 0 where
+  pub record KeepsResult : Type 0 where
     pub behind : is_after site.phase ≡ true
     pub early : nat_lt stage 2 ≡ true
     pub loose : kept ≡ false
@@ -63,23 +64,26 @@ module _ (rules : Rules) (site : Site) (stage : ℕ) (kept top : Bool) (shape : 
     pub asks : Asks r (Given (notes.Owed site stage true false))
 
   -- the lock is pushed,
-  record PushesLock : Type 0 where
+  pub record PushesLock : Type 0 where
     pub bare : top ≡ false
     pub pushes : pushes_state shape ref ≡ true
     pub asks : Asks r (Given (notes.Owed site stage kept true))
 
   -- taken, which it is not where it is held,
-  record TakesLock : Type 0 where
+  pub record TakesLock : Type 0 where
+    pub on : top ≡ true
     pub none : stage ≡ 0
+    pub is : shape ≡ shapes.Heap heap.Enter
+    pub asks : Asks r (begins_owed rules.policy site kept)
 
   -- or left.
-  record LeavesLock : Type 0 where
+  pub record LeavesLock : Type 0 where
     pub on : top ≡ true
     pub may : may_leave rules.policy site stage ≡ true
     pub is : shape ≡ shapes.Heap heap.Exit
     pub asks : Asks r Open
 
-  owed_cases : owed_row rules site stage kept top shape ref ≡ Some r → KeepsResult ⊎ (PushesLock ⊎ (TakesLock ⊎ LeavesLock))
+  pub owed_cases : owed_row rules site stage kept top shape ref ≡ Some r → KeepsResult ⊎ (PushesLock ⊎ (TakesLock ⊎ LeavesLock))
   owed_cases e = elim (one_row _ _ r e) [
     | inl keeping ↦
         let w = where_so _ _ r keeping in
@@ -109,7 +113,7 @@ module _ (rules : Rules) (site : Site) (stage : ℕ) (kept top : Bool) (shape : 
             let w = where_so _ _ r taking in
             let p = and_parts top _ w.0 in
             let q = and_parts (stage == 0) _ p.1 in
-            inl (record { none = eqb-true stage 0 q.0 })
+            inl (record { on = p.0; none = eqb-true stage 0 q.0; is = enters_is shape q.1; asks = leads_asks (begins_owed rules.policy site kept) r w.1 })
         | inr leaving ↦
             let w = where_so _ _ r leaving in
             let p = and_parts top _ w.0 in
@@ -121,15 +125,15 @@ module _ (rules : Rules) (site : Site) (stage : ℕ) (kept top : Bool) (shape : 
 
 -- ---- the steps
 
-module _ (program : Program) (policy : Policy) (annotations : Annotations) (o : IsObeying program policy annotations) (open_is_free : OpenIsFree program policy annotations)
-    (machine : Machine) (a : Acting) (next : Insn × Target) (change : Change) (fields : List Value) (recorded : Values) (part : Part) (ranged : in_range policy recorded ≡ true)
-    (site : Site) (stage : ℕ) (kept top : Bool) (h : ActsHolding program policy annotations machine a next change (notes.Owed site stage kept top) fields)
-    (hold : holds_round annotations.held site.method ≡ true) (m : MeansOwed program policy recorded fields a.frame site stage kept top part) where
+module _ (program : Program) (policy : Policy) (annotations : Annotations) (o : IsObeying program policy annotations) (opens : OpensFree program policy annotations)
+    (mine : Bool) (machine : Machine) (a : Acting) (next : Insn × Target) (change : Change) (fields : List Value) (recorded : Values) (part : Part) (ranged : in_range policy recorded ≡ true)
+    (site : Site) (stage : ℕ) (kept top : Bool) (h : ActsIn program policy annotations mine machine a next change (notes.Owed site stage kept top) fields)
+    (m : MeansOwed program policy annotations.held mine recorded fields a.frame site stage kept top part) where
   abbrev rules : Rules
   rules = rules_of program policy annotations
 
   abbrev Changes : Type 0
-  Changes = ChangesOwner program policy annotations a.number recorded part change
+  Changes = ChangesBlock program policy annotations mine (world_of machine) a.number recorded part change
 
   abbrev r : Row
   r = h.ruled.r
@@ -152,18 +156,27 @@ module _ (program : Program) (policy : Policy) (annotations : Annotations) (o : 
     keeps_in clause After event after first has = keeps clause clause.result event first has
     keeps_in clause Exceptional event after first has = absurd cc
 
-    keeps_owed : (n : ℕ) (clause : Option Clause) → nat_lt n 2 ≡ true → is_after site.phase ≡ true → slice_get m.above.rest 0 ≡ Some v
-        → IsOwed site n clause part false a.frame.locals m.above.rest → IsOwed site n clause part true locals rest
-    keeps_owed zero clause early after first owed = owed
-    keeps_owed (suc zero) None early after first owed = owed
-    keeps_owed (suc zero) (Some clause) early after first owed =
-        record { event = owed.event; is = owed.is; of = owed.of; told = keeps_in clause site.phase owed.event after first owed.told }
-    keeps_owed (suc (suc n)) clause early after first owed = absurd (omega (arith, ltb-true (suc (suc n)) 2 early))
+    keeps_owed : (b : Bool) (n : ℕ) (clause : Option Clause) → nat_lt n 2 ≡ true → is_after site.phase ≡ true → slice_get m.above.rest 0 ≡ Some v
+        → IsOwed program policy annotations.held b site n clause part false a.frame.locals m.above.rest → IsOwed program policy annotations.held b site n clause part true locals rest
+    keeps_owed false zero None early after first owed = absurd owed
+    keeps_owed false zero (Some clause) early after first owed =
+        record { event = owed.event; is = owed.is; of = owed.of; formed = owed.formed; told = keeps_in clause site.phase owed.event after first owed.told }
+    keeps_owed false (suc n) clause early after first owed = absurd owed
+    keeps_owed true zero clause early after first owed = absurd owed
+    keeps_owed true (suc zero) None early after first owed = owed
+    keeps_owed true (suc zero) (Some clause) early after first owed =
+        record { event = owed.event; is = owed.is; of = owed.of; formed = owed.formed; told = keeps_in clause site.phase owed.event after first owed.told }
+    keeps_owed true (suc (suc n)) clause early after first owed = absurd (omega (arith, ltb-true (suc (suc n)) 2 early))
+
+  own_loose : OwnLoose program policy annotations mine part
+  own_loose other =
+      means_loose program policy annotations recorded fields a.frame (notes.Owed site stage kept top) part
+      (subst (λ (b : Bool). MeansOwed program policy annotations.held b recorded fields a.frame site stage kept top part) other m)
 
   bare_above : top ≡ false → a.frame.stack.items ≡ m.above.rest
   bare_above bare = m.above.is ∙ ap (λ (on : Bool). lock_on program on ++ m.above.rest) bare
 
-  keeping : KeepsResult rules site stage kept top (shape_of next.0) next.1 r → Changes
+  pub keeping : KeepsResult rules site stage kept top (shape_of next.0) next.1 r → Changes
   keeping c =
       let s = stores program machine a change next h.step c.kind site.base c.is in
       let same = bare_above c.bare in
@@ -171,60 +184,64 @@ module _ (program : Program) (policy : Policy) (annotations : Annotations) (o : 
       let first : slice_get m.above.rest 0 ≡ Some s.0 = subst (λ (vs : List Value). slice_get vs 0 ≡ Some s.0) same s.1 in
       let clean : AreClean program a.frame.stack.items = subst (AreClean program) (sym same) m.above.clean in
       let value : IsClean program s.0 = all_get (IsClean program) a.frame.stack.items 0 s.0 clean s.1 in
-      let owed : IsOwed site stage (clause_of policy site) part false a.frame.locals m.above.rest =
-      subst (λ (b : Bool). IsOwed site stage (clause_of policy site) part b a.frame.locals m.above.rest) c.loose m.owed in
-      goes_with program policy annotations o machine a next change _ fields h recorded part ranged (a.frame.at + 1) (slice_set a.frame.locals site.base s.0) items (notes.Owed site stage true false)
+      let owed : IsOwed program policy annotations.held mine site stage (clause_of policy site) part false a.frame.locals m.above.rest =
+      subst (λ (b : Bool). IsOwed program policy annotations.held mine site stage (clause_of policy site) part b a.frame.locals m.above.rest) c.loose m.owed in
+      goes_with program policy annotations o mine machine a next change _ fields h recorded part ranged own_loose (a.frame.at + 1) (slice_set a.frame.locals site.base s.0) items (notes.Owed site stage true false)
       (all_set (IsClean program) a.frame.locals site.base s.0 h.acts.well.locals value)
-      (leads_behind program policy annotations o machine a next change _ fields h recorded part ranged (Given (notes.Owed site stage true false)) (ap ends c.is) c.asks.past) s.3 (
-        hold,
-        record {
-          behind = m.behind;
-          variables = m.variables;
-          above = record { rest = items; is = refl; clean = all_drop (IsClean program) 1 a.frame.stack.items clean };
-          owed = keeps_owed s.0 items s.2 stage (clause_of policy site) c.early c.behind first owed;
-        },
-      )
+      (leads_behind program policy annotations o mine machine a next change _ fields h recorded part ranged (Given (notes.Owed site stage true false)) (ap ends c.is) c.asks.past) s.3
+      (record {
+        behind = m.behind;
+        round = m.round;
+        variables = m.variables;
+        above = record { rest = items; is = refl; clean = all_drop (IsClean program) 1 a.frame.stack.items clean };
+        owed = keeps_owed s.0 items s.2 mine stage (clause_of policy site) c.early c.behind first owed;
+      })
 
   -- ---- the lock is pushed
 
-  pushing : PushesLock rules site stage kept top (shape_of next.0) next.1 r → Changes
+  pub pushing : PushesLock rules site stage kept top (shape_of next.0) next.1 r → Changes
   pushing c =
       let p = pushes_lock program policy annotations machine a change next h.step c.pushes in
       let items = lock_of program ∷ a.frame.stack.items in
-      goes_with_behind program policy annotations o machine a next change _ fields h recorded part ranged items (notes.Owed site stage kept true) p.1 c.asks p.0 (
-        hold,
-        record {
-          behind = m.behind;
-          variables = m.variables;
-          above = record { rest = m.above.rest; is = ap (λ (vs : List Value). lock_of program ∷ vs) (bare_above c.bare); clean = m.above.clean };
-          owed = m.owed;
-        },
-      )
+      goes_with_behind program policy annotations o mine machine a next change _ fields h recorded part ranged own_loose items (notes.Owed site stage kept true) p.1 c.asks p.0
+      (record {
+        behind = m.behind;
+        round = m.round;
+        variables = m.variables;
+        above = record { rest = m.above.rest; is = ap (λ (vs : List Value). lock_of program ∷ vs) (bare_above c.bare); clean = m.above.clean };
+        owed = m.owed;
+      })
 
-  -- ---- it is left
+-- ---- it is left
 
+module _ (program : Program) (policy : Policy) (annotations : Annotations) (o : IsObeying program policy annotations) (opens : OpensFree program policy annotations)
+    (machine : Machine) (a : Acting) (next : Insn × Target) (change : Change) (fields : List Value) (recorded : Values) (part : Part) (ranged : in_range policy recorded ≡ true)
+    (site : Site) (stage : ℕ) (kept top : Bool) (h : ActsIn program policy annotations true machine a next change (notes.Owed site stage kept top) fields)
+    (m : MeansOwed program policy annotations.held true recorded fields a.frame site stage kept top part) where
   nothing_owed : (n : ℕ) (clause : Option Clause) → (((n == 1) && not (is_some clause)) || (n == 2)) ≡ true
-      → IsOwed site n clause part kept a.frame.locals m.above.rest → part ≡ Clear
+      → IsOwed program policy annotations.held true site n clause part kept a.frame.locals m.above.rest → part ≡ Clear
   nothing_owed zero clause may owed = absurd owed
   nothing_owed (suc zero) None may owed = owed
   nothing_owed (suc zero) (Some clause) may owed = absurd cc
   nothing_owed (suc (suc zero)) clause may owed = owed
   nothing_owed (suc (suc (suc n))) clause may owed = absurd owed
 
-  leaving : LeavesLock rules site stage kept top (shape_of next.0) next.1 r → Changes
+  clear_settles : (p : Part) → p ≡ Clear → Settles policy recorded p recorded Clear
+  clear_settles p is = rw is refl
+
+  leaving : LeavesLock (rules_of program policy annotations) site stage kept top (shape_of next.0) next.1 h.ruled.r
+      → ChangesBlock program policy annotations true (world_of machine) a.number recorded part change
   leaving c =
       let above : IsAbove program (lock_of program ∷ []) a.frame.stack.items =
       record { rest = m.above.rest; is = m.above.is ∙ ap (λ (on : Bool). lock_on program on ++ m.above.rest) c.on; clean = m.above.clean } in
-      gives_up program policy annotations o machine a next change _ fields h recorded part ranged open_is_free c.is c.asks above recorded ranged
-      (by part (nothing_owed stage (clause_of policy site) c.may m.owed)) m.variables where
-        by : (p : Part) → p ≡ Clear → Settles policy recorded p recorded Clear
-        by p is = rw is refl
+      gives_up program policy annotations o machine a next change _ fields h recorded part ranged c.is above opens c.asks recorded ranged
+      (clear_settles part (nothing_owed stage (clause_of policy site) c.may m.owed)) m.variables
 
-  -- An instruction behind a call changes what it may.
-  pub owed_steps : Changes
-  owed_steps = elim (owed_cases rules site stage kept top (shape_of next.0) next.1 r h.ruled.has) [
-    | inl c ↦ keeping c
-    | inr (inl c) ↦ pushing c
-    | inr (inr (inl c)) ↦ absurd (subst (λ (n : ℕ). IsOwed site n (clause_of policy site) part kept a.frame.locals m.above.rest) c.none m.owed)
+  -- An instruction behind a call, of a thread that holds the lock, changes what it may.
+  pub owed_steps : ChangesBlock program policy annotations true (world_of machine) a.number recorded part change
+  owed_steps = elim (owed_cases (rules_of program policy annotations) site stage kept top (shape_of next.0) next.1 h.ruled.r h.ruled.has) [
+    | inl c ↦ keeping program policy annotations o opens true machine a next change fields recorded part ranged site stage kept top h m c
+    | inr (inl c) ↦ pushing program policy annotations o opens true machine a next change fields recorded part ranged site stage kept top h m c
+    | inr (inr (inl c)) ↦ absurd (subst (λ (n : ℕ). IsOwed program policy annotations.held true site n (clause_of policy site) part kept a.frame.locals m.above.rest) c.none m.owed)
     | inr (inr (inr c)) ↦ leaving c
   ]

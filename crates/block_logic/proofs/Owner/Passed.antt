@@ -1,7 +1,7 @@
 -- What a granted call passes: the arguments that were loaded from locals, in their order, so that the policy sees the call of which
 -- the check told.
 use Rattle.std.proofs.Common.{◌≡◌, ℕ, zero, suc, ◌<◌, ◌+◌, Bool, true, false, cond, List, [], ◌∷◌, ◌++◌, length, map, reverse, take, drop, Option, Some, None, refl, sym, ap, ◌∙◌, subst, arith, inl, inr}
-use Rattle.std.specs.Prelude.{IfSome, nat_le, option_and_then, option_map, slice_get}
+use Rattle.std.specs.Prelude.{◌⊎◌, ℤ, IfSome, is_some, nat_le, option_and_then, option_map, slice_get}
 use Rattle.std.specs.Option.{option_map_or}
 use Rattle.std.proofs.lemmas.Bool.{cases_lt}
 use Rattle.std.proofs.lemmas.Grind.{reverse_onto}
@@ -15,6 +15,10 @@ use Rattle.bytecode_model.specs.declared.program.Program.{Program}
 use Rattle.bytecode_model.specs.Classes.{is_below}
 use Rattle.cert_format.specs.declared.note.Phase8.TheVariants.{Before}
 use Rattle.cert_format.specs.declared.note.Site.{Site}
+use Rattle.conspec_tree.specs.declared.types.Kind.{Kind}
+use Rattle.conspec_tree.specs.declared.types.Kind.TheVariants as kinds
+use Rattle.conspec_automaton.specs.declared.policy.Clause.{Clause}
+use Rattle.conspec_automaton.specs.Events.{FitsClause, IsNumberOf, number_range}
 use Rattle.conspec_automaton.specs.Next.{number_in as shown_number}
 use Rattle.conspec_automaton.specs.Sight.{sight_of}
 use Rattle.guest_heap.specs.declared.object.Object.{Object}
@@ -26,9 +30,9 @@ use Rattle.guest_model.specs.Kinds.{string}
 use Rattle.guest_model.specs.Parts.{number_in}
 use Rattle.guest_model.specs.Seen.{object_shown, value_shown, values_shown}
 use Rattle.guest_model.proofs.Options.{all_drop, all_get, all_reverse, all_take, map_of, some_is}
-use Rattle.block_logic.specs.Meaning.{AreClean, IsClean, IsEventOf, TellsArguments, loads}
+use Rattle.block_logic.specs.Meaning.{AreClean, IsClean, IsEventOf, TellsArguments, TellsOne, loads}
 use Rattle.block_logic.specs.Standing.{in_phase}
-use Rattle.block_logic.proofs.Owner.Standing.{slice_get_there}
+use Rattle.block_logic.proofs.Owner.Standing.{slice_get_there, some_there}
 
 -- ---- lists
 
@@ -110,7 +114,7 @@ module _ (program : Program) (heap : List Object) where
   -- ---- the call
 
   module _ (site : Site) (locals loaded : List Value) (number count : ℕ) (are : map Some loaded ≡ loads site.base locals count) where
-    call : Event
+    abbrev pub call : Event
     call = events.Call number site.method (values_shown program heap (reverse loaded))
 
     numbers_same : (args : List ApiValue) → length (map shown_number args) ≡ count
@@ -142,14 +146,46 @@ module _ (program : Program) (heap : List Object) where
                   ∙ ap (option_map shown_number) (slice_get-map (value_shown program heap) (reverse loaded) i ∙ ap (option_map (value_shown program heap)) is)
                   ∙ ap Some (shown_as v)
 
+    -- a number that is to be passed is known
+    number_passed : (clause : Clause) (i : ℕ) (kind : Kind) → i < count → FitsClause clause call → slice_get clause.args i ≡ Some kind → is_some (number_range kind) ≡ true
+        → option_and_then number_in (slice_get locals (site.base + i)) ≡ None → ⊥
+    number_passed clause i kind inside fits there numeric unknown =
+        let r = some_there (number_range kind) numeric in
+        let passed : IsNumberOf (number_range kinds.Int) (slice_get (values_shown program heap (reverse loaded)) i) =
+        subst (λ (range : Option (ℤ × ℤ)). IsNumberOf (option_and_then (λ own. number_range kinds.Int) range) (slice_get (values_shown program heap (reverse loaded)) i)) r.1 (fits i kind there) in
+        let v = slice_get_there (reverse loaded) i (omega (arith, length-reverse loaded, loaded_many program site.base locals count loaded are)) in
+        let local : slice_get locals (site.base + i) ≡ Some v.0 = sym (loaded_at program site.base locals count loaded i are inside) ∙ v.1 in
+        let none : number_in v.0 ≡ None = rw local at unknown in
+        let shown : slice_get (values_shown program heap (reverse loaded)) i ≡ Some (value_shown program heap v.0) =
+        slice_get-map (value_shown program heap) (reverse loaded) i ∙ ap (option_map (value_shown program heap)) v.1 in
+        let value : value_shown program heap v.0 ≡ api.Int passed.0 = some_is _ _ (sym shown ∙ passed.1) in
+        let number : Some passed.0 ≡ number_in v.0 = ap shown_number (sym value) ∙ shown_as v.0 in
+        let nothing : Some passed.0 ≡ None = number ∙ none in
+        absurd cc
+
     -- The call is to the policy the one of which the locals tell.
-    pub seen_same : (e : Event) → IsEventOf (in_phase Before site) e → TellsArguments site.base count locals e
+    pub seen_same : (clause : Clause) → length clause.args ≡ count → (e : Event) → IsEventOf (in_phase Before site) e → (strict : Bool) → TellsArguments strict site.base clause.args locals e
+        → (strict ≡ true) ⊎ FitsClause clause call
         → sight_of (events.Call number site.method (values_shown program heap (reverse loaded))) ≡ sight_of e
-    seen_same (events.Call thread method args) of told =
-        let numbers = numbers_same args told.many told.each in
+    seen_same clause many (events.Call thread method args) of strict told known =
+        let numbers = numbers_same args (told.many ∙ many) exact in
         rw (of.method, ← numbers) refl
-    seen_same (events.Return thread method value) of told = let not_so : false ≡ true = of.phase in absurd cc
-    seen_same (events.Except thread method) of told = let not_so : false ≡ true = of.phase in absurd cc
+      where
+        one : (i : ℕ) (kind : Kind) → i < count → slice_get clause.args i ≡ Some kind
+            → TellsOne strict kind (option_and_then number_in (slice_get locals (site.base + i))) (option_and_then shown_number (slice_get args i))
+            → option_and_then number_in (slice_get locals (site.base + i)) ≡ option_and_then shown_number (slice_get args i)
+        one i kind inside there (inl same) = same
+        one i kind inside there (inr other) = by known where
+          by : (strict ≡ true) ⊎ FitsClause clause call → option_and_then number_in (slice_get locals (site.base + i)) ≡ option_and_then shown_number (slice_get args i)
+          by (inl is) = let no : true ≡ false = sym is ∙ other.0 in absurd cc
+          by (inr fits) = absurd (number_passed clause i kind inside fits there other.2 other.1)
+
+        exact : (i : ℕ) → i < count → option_and_then number_in (slice_get locals (site.base + i)) ≡ option_and_then shown_number (slice_get args i)
+        exact i inside =
+            let kind = slice_get_there clause.args i (omega (arith, inside, many)) in
+            one i kind.0 inside kind.1 (told.each i kind.0 kind.1)
+    seen_same clause many (events.Return thread method value) of strict told known = let not_so : false ≡ true = of.phase in absurd cc
+    seen_same clause many (events.Except thread method) of strict told known = let not_so : false ≡ true = of.phase in absurd cc
 
 -- ---- what is taken from the operands
 

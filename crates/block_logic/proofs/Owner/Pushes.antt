@@ -39,7 +39,7 @@ use Rattle.guest_model.proofs.Options.{and_then_of, map_of, some_is}
 use Rattle.block_logic.specs.Accepted.{rules_of}
 use Rattle.block_logic.specs.Clauses.{is_number}
 use Rattle.block_logic.specs.Fitting.{state_of}
-use Rattle.block_logic.specs.Meaning.{AreTerms, TellsArguments, TellsIn, TellsResult, lock_of, term_value}
+use Rattle.block_logic.specs.Meaning.{AreTerms, TellsArguments, TellsIn, TellsOne, TellsResult, lock_of, term_value}
 use Rattle.block_logic.specs.Operands.{loaded_number, number_named, number_pushed, pushes_state, reads_static, state_name, variable_named}
 use Rattle.block_logic.specs.Rows.{Rules, argument_in, field_term, local_term, result_in, term_pushed}
 use Rattle.block_logic.specs.Standing.{is_after, is_before}
@@ -94,22 +94,29 @@ passing test (Some x) e = (x, refl)
 
 -- ---- what locals hold
 
-module _ (program : Program) (clause : Clause) (base : ℕ) (locals : List Value) (state : Values) (event : Event) (slot : ℕ) (v : Value)
+module _ (program : Program) (clause : Clause) (base : ℕ) (locals : List Value) (state : Values) (event : Event) (strict : Bool) (slot : ℕ) (v : Value)
     (there : slice_get locals slot ≡ Some v) (number : fits shape_kinds.Int v ≡ true) where
   known : (o : Option ℤ) → option_and_then number_in (slice_get locals slot) ≡ o → option_map values.Int o ≡ Some v
   known o is = let here : number_in v ≡ o = rw there at is in number_known v o number here
 
-  argument_told : (t : Term) → TellsArguments base (length clause.args) locals event → argument_in clause base slot ≡ Some t → term_value program state event t ≡ Some v
+  argument_told : (t : Term) → TellsArguments strict base clause.args locals event → argument_in clause base slot ≡ Some t → term_value program state event t ≡ Some v
   argument_told t told e =
       let c = cond_some (nat_le base slot && option_map_or is_number (slice_get clause.args (slot - base)) false) (terms.Arg (slot - base)) t e in
       let p = and_parts (nat_le base slot) (option_map_or is_number (slice_get clause.args (slot - base)) false) c.0 in
       let kind = passing is_number (slice_get clause.args (slot - base)) p.1 in
       let low : base ≤ slot = leb-true base slot p.0 in
       let place : base + (slot - base) ≡ slot = omega arith in
-      let each = told.each (slot - base) (slice_get_within clause.args (slot - base) kind.0 kind.1) in
       let here : option_and_then number_in (slice_get locals slot) ≡ argument event (slot - base) =
-      subst (λ (n : ℕ). option_and_then number_in (slice_get locals n) ≡ argument event (slot - base)) place each in
+      subst (λ (n : ℕ). option_and_then number_in (slice_get locals n) ≡ argument event (slot - base)) place (exactly kind.0 place (told.each (slot - base) kind.0 kind.1)) in
       rw (← c.1) (known (argument event (slot - base)) here)
+    where
+      exactly : (kind : Kind) → base + (slot - base) ≡ slot → TellsOne strict kind (option_and_then number_in (slice_get locals (base + (slot - base)))) (argument event (slot - base))
+          → option_and_then number_in (slice_get locals (base + (slot - base))) ≡ argument event (slot - base)
+      exactly kind place (inl same) = same
+      exactly kind place (inr other) =
+          let none : option_and_then number_in (slice_get locals slot) ≡ None = subst (λ (n : ℕ). option_and_then number_in (slice_get locals n) ≡ None) place other.1 in
+          let nothing : None ≡ Some v = known None none in
+          absurd cc
 
   result_told : (t : Term) (kind : Option Kind) → kind ≡ clause.result → TellsResult base kind locals event → result_in clause base slot ≡ Some t
       → term_value program state event t ≡ Some v
@@ -127,7 +134,7 @@ module _ (program : Program) (clause : Clause) (base : ℕ) (locals : List Value
       subst (λ (n : ℕ). option_and_then number_in (slice_get locals n) ≡ returned event) place told in
       rw (← c.1) (known (returned event) here)
 
-  local_told : (t : Term) (phase : Phase8) → TellsIn clause phase base locals event
+  local_told : (t : Term) (phase : Phase8) → TellsIn strict clause phase base locals event
       → cond (is_before phase) (argument_in clause base slot) (cond (is_after phase) (result_in clause base slot) None) ≡ Some t
       → term_value program state event t ≡ Some v
   local_told t Before told e = argument_told t told e
@@ -160,7 +167,7 @@ module _ (program : Program) (policy : Policy) (annotations : Annotations) (mach
         (subst (λ (v : Value). Behind program machine a change (world_of machine) a.frame.locals (v ∷ a.frame.stack.items)) (sym value) p.2, ap ends is.0)
   ]
 
-  module _ (site : Site) (clause : Clause) (map : List Term) (state : Values) (event : Event) (told : TellsIn clause site.phase site.base a.frame.locals event)
+  module _ (site : Site) (clause : Clause) (map : List Term) (state : Values) (event : Event) (strict : Bool) (told : TellsIn strict clause site.phase site.base a.frame.locals event)
       (fields : List Value) (variables : AreTerms program state event map fields) (there : slice_get machine.statics (state_of program policy annotations) ≡ Some fields) where
     abbrev rules : Rules
     rules = rules_of program policy annotations
@@ -179,7 +186,7 @@ module _ (program : Program) (policy : Policy) (annotations : Annotations) (mach
         let l = loads program machine a change next step shape_kinds.Int slot.0 is in
         record {
           value = l.0;
-          stands = local_told program clause site.base a.frame.locals state event slot.0 l.0 l.1.there l.1.fit t site.phase told slot.2;
+          stands = local_told program clause site.base a.frame.locals state event strict slot.0 l.0 l.1.there l.1.fit t site.phase told slot.2;
           goes = l.2;
           stays = ap ends is;
         }

@@ -6,7 +6,7 @@ use Rattle.std.specs.Option.{option_map_or}
 use Rattle.std.proofs.lemmas.Bool.{and_from, and_parts, cases_Bool, not-true, or_cases}
 use Rattle.api_listing.specs.declared.events.Event.{Event}
 use Rattle.bytecode_model.specs.declared.program.Program.{Program}
-use Rattle.block_logic.specs.Annotations.{Annotations, holds_round}
+use Rattle.block_logic.specs.Annotations.{Annotations, is_always}
 use Rattle.cert_format.specs.declared.note.Note.{Note}
 use Rattle.cert_format.specs.declared.note.Note.TheVariants as notes
 use Rattle.cert_format.specs.declared.note.Phase8.{Phase8}
@@ -17,7 +17,7 @@ use Rattle.conspec_tree.specs.declared.types.Kind.{Kind}
 use Rattle.conspec_automaton.specs.declared.policy.Branch.{Branch}
 use Rattle.conspec_automaton.specs.declared.policy.Clause.{Clause}
 use Rattle.conspec_automaton.specs.declared.policy.Policy.{Policy}
-use Rattle.conspec_automaton.specs.Denying.{Denies}
+use Rattle.conspec_automaton.specs.Denying.{Denies, DeniesOnly}
 use Rattle.conspec_automaton.specs.Next.{Values, moment, next, updated}
 use Rattle.conspec_automaton.specs.Range.{in_range}
 use Rattle.conspec_automaton.specs.Sight.{sight_of}
@@ -26,11 +26,12 @@ use Rattle.guest_heap.specs.declared.frame.Frame.{Frame}
 use Rattle.guest_heap.specs.declared.value.Value.{Value}
 use Rattle.block_logic.specs.Clauses.{clause_at, clause_of, is_of_phase, result_kind}
 use Rattle.block_logic.specs.Agreement.{Clear, Granted, Owed, Part, Settles}
-use Rattle.block_logic.specs.Meaning.{AreClean, AreState, AreTerms, HasResult, HasResultIn, IsAbove, IsChecked, IsDue, IsEventOf, IsGranted, IsJudged, IsOwed, IsPending, IsRefused, IsTried, MeansHeld, MeansOwed, Owns, TellsArguments, TellsIn, TellsResult}
+use Rattle.block_logic.specs.Formed.{FitsRuns}
+use Rattle.block_logic.specs.Meaning.{AreClean, AreState, AreTerms, HasResult, HasResultIn, IsAbove, IsChecked, IsDue, IsEventOf, IsGranted, IsOwed, IsPending, IsRefused, IsTried, Means, MeansHeld, MeansOwed, MeansStop, TellsArguments, TellsIn, TellsResult}
 use Rattle.block_logic.specs.Obeying.{FitsListing, IsObeying}
 use Rattle.block_logic.specs.Standing.{asks_kept, branches_of, done, fails, in_phase, is_after, is_before, is_done, is_empty, may_begin, may_stand, same_note, same_phase, same_site, stands_for_held}
 use Rattle.block_logic.specs.Terms.{after_updates, as_taken, same_terms}
-use Rattle.block_logic.proofs.Owner.Events.{stays_ranged, taken_by}
+use Rattle.block_logic.proofs.Owner.Events.{denies_no_end, is_end, stays_ranged, taken_by}
 use Rattle.block_logic.proofs.Owner.Terms.{same_terms_are}
 use Rattle.block_logic.proofs.Owner.Variables.{as_taken_are, branch_well, done_are, map_some_is}
 
@@ -51,7 +52,7 @@ same_site_is s t e =
     let bases : s.base ≡ t.base = eqb-true s.base t.base q.1 in
     rw (methods, phases, bases) refl
 
-beq_is : (a b : Bool) → beq a b ≡ true → a ≡ b
+pub beq_is : (a b : Bool) → beq a b ≡ true → a ≡ b
 beq_is true true e = refl
 beq_is false false e = refl
 beq_is a b e = absurd cc
@@ -154,28 +155,26 @@ done_by policy site clause failed holding map there e =
 
 module _ (program : Program) (policy : Policy) (annotations : Annotations) (o : IsObeying program policy annotations) where
   -- Where a clause has a branch, calls are not denied outright.
-  holds_lock : (site : Site) (clause : Clause) (i : ℕ) (branch : Branch) → clause_of policy site ≡ Some clause → slice_get clause.branches i ≡ Some branch
-      → (method : ℕ) → holds_round annotations.held method ≡ true
-  holds_lock site clause i branch there is = by o.judged where
-    by : IsJudged annotations.held policy → (method : ℕ) → holds_round annotations.held method ≡ true
-    by (inl hold) = hold
-    by (inr denies) =
-        let none : clause.branches ≡ [] = (found_is Denies _ policy.clauses clause denies.clauses there).so.all in
-        let nowhere : slice_get [] i ≡ Some branch = rw none at is in
-        absurd cc
+  some_accepts : (site : Site) (clause : Clause) (i : ℕ) (branch : Branch) → clause_of policy site ≡ Some clause → slice_get clause.branches i ≡ Some branch
+      → DeniesOnly policy → ⊥
+  some_accepts site clause i branch there is denies =
+      let none : clause.branches ≡ [] = (found_is Denies _ policy.clauses clause denies.clauses there).so.all in
+      let nowhere : slice_get [] i ≡ Some branch = rw none at is in
+      absurd cc
 
   -- What may stand for what was given: the state that is recorded then, and the part of the thread.
-  pub record Stood (recorded : Values) (fields : List Value) (frame : Frame) (part : Part) (note : Note) : Type 0 where
+  pub record Stood (mine : Bool) (recorded : Values) (fields : List Value) (frame : Frame) (part : Part) (note : Note) : Type 0 where
     pub now : Values
     pub ranged : in_range policy now ≡ true
     pub due : Part
     pub settles : Settles policy recorded part now due
-    pub owns : Owns program policy annotations.held now fields frame note due
+    pub still : mine ≡ false → (now ≡ recorded) × (due ≡ part)
+    pub means : Means program policy annotations.held mine now fields frame note due
 
   module _ (recorded : Values) (fields : List Value) (frame : Frame) (part : Part) (ranged : in_range policy recorded ≡ true) where
     -- as it was
-    as_given : (note : Note) → Owns program policy annotations.held recorded fields frame note part → Stood recorded fields frame part note
-    as_given note owns = record { now = recorded; ranged = ranged; due = part; settles = by part; owns = owns } where
+    as_given : (mine : Bool) (note : Note) → Means program policy annotations.held mine recorded fields frame note part → Stood mine recorded fields frame part note
+    as_given mine note means = record { now = recorded; ranged = ranged; due = part; settles = by part; still = λ other. (refl, refl); means = means } where
       by : (p : Part) → Settles policy recorded p recorded p
       by Clear = refl
       by (Granted call) = (refl, refl)
@@ -183,13 +182,13 @@ module _ (program : Program) (policy : Policy) (annotations : Annotations) (o : 
 
     -- The event of a check is accepted, and the variables are the state that it leads to.
     pub record IsPassed (event : Event) : Type 0 where
-      pub hold : (method : ℕ) → holds_round annotations.held method ≡ true
+      pub accepts : DeniesOnly policy → ⊥
       pub end : Values
       pub taken : next policy recorded event ≡ Some end
       pub stays : in_range policy end ≡ true
       pub variables : AreState fields end
 
-    pub passed : (site : Site) (failed holding : ℕ) (list map : List Term) (h : MeansHeld program policy recorded fields frame site failed holding list map part)
+    pub passed : (site : Site) (failed holding : ℕ) (list map : List Term) (h : MeansHeld program policy annotations.held recorded fields frame site failed holding list map part)
         → is_done policy site failed holding map ≡ true → IsPassed h.event
     passed site failed holding list map h e =
         let d = done_by policy site h.clause failed holding map h.there e in
@@ -199,7 +198,7 @@ module _ (program : Program) (policy : Policy) (annotations : Annotations) (o : 
         let written : AreTerms program recorded h.event (after_updates policy d.branch.updates) fields =
         subst (λ (m : List Term). AreTerms program recorded h.event m fields) d.written h.variables in
         record {
-          hold = holds_lock site h.clause failed d.branch h.there d.there;
+          accepts = some_accepts site h.clause failed d.branch h.there d.there;
           end = end;
           taken = taken;
           stays = stays_ranged policy recorded end h.event o.good ranged taken;
@@ -214,38 +213,46 @@ module _ (program : Program) (policy : Policy) (annotations : Annotations) (o : 
     passed_settles After end event not due taken = rw due taken
     passed_settles Exceptional end event not due taken = rw due taken
 
-    granted_stands : (site : Site) (failed holding : ℕ) (map : List Term) (h : MeansHeld program policy recorded fields frame site failed holding [] map part)
-        → IsPassed h.event → site.phase ≡ Before → Stood recorded fields frame part (notes.Granted site true 0 false)
-    granted_stands site failed holding map h p is =
+    -- a check for a call that is done: the call is granted
+    pub granted_by : (site : Site) (failed holding : ℕ) (list map : List Term) (h : MeansHeld program policy annotations.held recorded fields frame site failed holding list map part)
+        → (p : IsPassed h.event) → site.phase ≡ Before
+        → Settles policy recorded part p.end (Granted h.event) × IsGranted program policy annotations.held site (clause_at policy site.method Before) (Granted h.event) frame.locals
+    granted_by site failed holding list map h p is =
         let due : part ≡ Clear = subst (λ (x : Phase8). IsDue x h.event part) is h.due in
-        let told : TellsArguments site.base (length h.clause.args) frame.locals h.event = subst (λ (x : Phase8). TellsIn h.clause x site.base frame.locals h.event) is h.told in
+        let told : TellsArguments (is_always annotations.held) site.base h.clause.args frame.locals h.event = subst (λ (x : Phase8). TellsIn (is_always annotations.held) h.clause x site.base frame.locals h.event) is h.told in
         let there : clause_at policy site.method Before ≡ Some h.clause = subst (λ (x : Phase8). clause_at policy site.method x ≡ Some h.clause) is h.there in
         let of : IsEventOf (in_phase Before site) h.event =
         record { method = h.of.method; phase = subst (λ (x : Phase8). is_of_phase x (sight_of h.event).phase ≡ true) is h.of.phase } in
-        let checked : IsChecked site h.clause (Granted h.event) frame.locals = record { event = h.event; is = refl; of = of; told = told } in
-        let none : h.tops ≡ [] = map_some_is h.tops [] (sym h.pushed) in
+        let checked : IsChecked program policy annotations.held site h.clause (Granted h.event) frame.locals =
+        record { event = h.event; is = refl; of = of; formed = h.formed; accepts = p.accepts; told = told } in
         let settles : Settles policy recorded part p.end (Granted h.event) = rw due p.taken in
+        (settles, subst (λ (c : Option Clause). IsGranted program policy annotations.held site c (Granted h.event) frame.locals) (sym there) checked)
+
+    granted_stands : (site : Site) (failed holding : ℕ) (map : List Term) (h : MeansHeld program policy annotations.held recorded fields frame site failed holding [] map part)
+        → IsPassed h.event → site.phase ≡ Before → Stood true recorded fields frame part (notes.Granted site true 0 false)
+    granted_stands site failed holding map h p is =
+        let g = granted_by site failed holding [] map h p is in
+        let none : h.tops ≡ [] = map_some_is h.tops [] (sym h.pushed) in
         record {
           now = p.end;
           ranged = p.stays;
           due = Granted h.event;
-          settles = settles;
-          owns = (
-            p.hold site.method,
-            record {
-              holds = refl;
-              granted = subst (λ (c : Option Clause). IsGranted site c (Granted h.event) frame.locals) (sym there) checked;
-              variables = p.variables;
-              few = omega arith;
-              loaded = [];
-              are = refl;
-              above = subst (λ (tops : List Value). IsAbove program tops frame.stack.items) none h.above;
-            },
-          );
+          settles = g.0;
+          still = λ other. absurd cc;
+          means = record {
+            holds = refl;
+            round = tt;
+            granted = g.1;
+            variables = p.variables;
+            few = omega arith;
+            loaded = [];
+            are = refl;
+            above = subst (λ (tops : List Value). IsAbove program tops frame.stack.items) none h.above;
+          };
         }
 
-    owed_settles : (site : Site) (failed holding : ℕ) (map : List Term) (kept : Bool) (h : MeansHeld program policy recorded fields frame site failed holding [] map part)
-        → IsPassed h.event → is_before site.phase ≡ false → Stood recorded fields frame part (notes.Owed site 2 kept false)
+    owed_settles : (site : Site) (failed holding : ℕ) (map : List Term) (kept : Bool) (h : MeansHeld program policy annotations.held recorded fields frame site failed holding [] map part)
+        → IsPassed h.event → is_before site.phase ≡ false → Stood true recorded fields frame part (notes.Owed site 2 kept false)
     owed_settles site failed holding map kept h p not =
         let none : h.tops ≡ [] = map_some_is h.tops [] (sym h.pushed) in
         record {
@@ -253,19 +260,18 @@ module _ (program : Program) (policy : Policy) (annotations : Annotations) (o : 
           ranged = p.stays;
           due = Clear;
           settles = passed_settles site.phase p.end h.event not h.due p.taken;
-          owns = (
-            p.hold site.method,
-            record {
-              behind = not;
-              variables = p.variables;
-              above = subst (λ (tops : List Value). IsAbove program tops frame.stack.items) none h.above;
-              owed = refl;
-            },
-          );
+          still = λ other. absurd cc;
+          means = record {
+            behind = not;
+            round = tt;
+            variables = p.variables;
+            above = subst (λ (tops : List Value). IsAbove program tops frame.stack.items) none h.above;
+            owed = refl;
+          };
         }
 
-    done_stands : (site : Site) (failed holding : ℕ) (map : List Term) (h : MeansHeld program policy recorded fields frame site failed holding [] map part)
-        → IsPassed h.event → Stood recorded fields frame part (done policy site)
+    done_stands : (site : Site) (failed holding : ℕ) (map : List Term) (h : MeansHeld program policy annotations.held recorded fields frame site failed holding [] map part)
+        → IsPassed h.event → Stood true recorded fields frame part (done policy site)
     done_stands site failed holding map h p = elim (cases_Bool (is_before site.phase)) [
       | inl before ↦
           let is : done policy site ≡ notes.Granted site true 0 false = rw before refl in
@@ -276,33 +282,36 @@ module _ (program : Program) (policy : Policy) (annotations : Annotations) (o : 
     ]
 
     -- the way out
-    due_refused : (phase : Phase8) (event : Event) → IsDue phase event part → IsRefused part
-    due_refused Before event due = rw due tt
-    due_refused After event due = rw due tt
-    due_refused Exceptional event due = rw due tt
+    due_refused : (site : Site) (clause : Clause) (phase : Phase8) (event : Event) → site.phase ≡ phase → clause_of policy site ≡ Some clause → IsEventOf site event
+        → FitsRuns program policy annotations.held event → IsDue phase event part → IsRefused program policy annotations.held part
+    due_refused site clause Before event is there of formed due = rw due tt
+    due_refused site clause After event is there of formed due =
+        rw due (record { ends = is_end site event of (ap is_before is); formed = formed; accepts = denies_no_end policy site clause there (ap is_before is) })
+    due_refused site clause Exceptional event is there of formed due =
+        rw due (record { ends = is_end site event of (ap is_before is); formed = formed; accepts = denies_no_end policy site clause there (ap is_before is) })
 
-    stop_means : (site : Site) (failed holding : ℕ) (list map : List Term) → MeansHeld program policy recorded fields frame site failed holding list map part
-        → Owns program policy annotations.held recorded fields frame (notes.Stop site 0) part
-    stop_means site failed holding list map h = record { refused = due_refused site.phase h.event h.due; stopping = tt }
+    stop_means : (site : Site) (failed holding : ℕ) (list map : List Term) → MeansHeld program policy annotations.held recorded fields frame site failed holding list map part
+        → MeansStop program policy annotations.held frame 0 part
+    stop_means site failed holding list map h = record { refused = due_refused site h.clause site.phase h.event refl h.there h.of h.formed h.due; stopping = tt }
 
     -- What may stand for the note of a check means what is so.
-    pub held_stands : (site : Site) (failed holding : ℕ) (list map : List Term) (note : Note) → MeansHeld program policy recorded fields frame site failed holding list map part
-        → stands_for_held policy site failed holding list map note ≡ true → Stood recorded fields frame part note
+    pub held_stands : (site : Site) (failed holding : ℕ) (list map : List Term) (note : Note) → MeansHeld program policy annotations.held recorded fields frame site failed holding list map part
+        → stands_for_held policy site failed holding list map note ≡ true → Stood true recorded fields frame part note
     held_stands site failed holding list map note h e = elim (or_cases (same_note (notes.Held site failed holding list map) note) _ e) [
-      | inl same ↦ subst (Stood recorded fields frame part) (same_note_is (notes.Held site failed holding list map) note same) (as_given (notes.Held site failed holding list map) h)
+      | inl same ↦ subst (Stood true recorded fields frame part) (same_note_is (notes.Held site failed holding list map) note same) (as_given true (notes.Held site failed holding list map) (refl, h))
       | inr other ↦ elim (or_cases ((is_done policy site failed holding map && is_empty list) && same_note (done policy site) note) _ other) [
         | inl is ↦
             let p = and_parts (is_done policy site failed holding map && is_empty list) _ is in
             let q = and_parts (is_done policy site failed holding map) (is_empty list) p.0 in
             let none : list ≡ [] = empty_is list q.1 in
-            let h' : MeansHeld program policy recorded fields frame site failed holding [] map part =
-            subst (λ (l : List Term). MeansHeld program policy recorded fields frame site failed holding l map part) none h in
-            subst (Stood recorded fields frame part) (same_note_is (done policy site) note p.1)
+            let h' : MeansHeld program policy annotations.held recorded fields frame site failed holding [] map part =
+            subst (λ (l : List Term). MeansHeld program policy annotations.held recorded fields frame site failed holding l map part) none h in
+            subst (Stood true recorded fields frame part) (same_note_is (done policy site) note p.1)
             (done_stands site failed holding map h' (passed site failed holding [] map h' q.0))
         | inr is ↦
             let p = and_parts (fails policy site failed) _ is in
-            subst (Stood recorded fields frame part) (same_note_is (notes.Stop site 0) note p.1)
-            (as_given (notes.Stop site 0) (stop_means site failed holding list map h))
+            subst (Stood true recorded fields frame part) (same_note_is (notes.Stop site 0) note p.1)
+            (as_given true (notes.Stop site 0) (refl, stop_means site failed holding list map h))
       ]
     ]
 
@@ -337,7 +346,7 @@ module _ (program : Program) (policy : Policy) (annotations : Annotations) (o : 
 
     tells_kept : (site : Site) (clause : Clause) (phase : Phase8) (kept : Bool) (rest : List Value) (event : Event) → clause_of policy site ≡ Some clause
         → site.phase ≡ phase → is_before phase ≡ false → kept ≡ asks_kept policy site → HasResultIn clause phase kept site.base frame.locals rest event
-        → TellsIn clause phase site.base frame.locals event
+        → TellsIn (is_always annotations.held) clause phase site.base frame.locals event
     tells_kept site clause Before kept rest event there is behind asks has = absurd cc
     tells_kept site clause After kept rest event there is behind asks has =
         let after : is_after site.phase ≡ true = ap is_after is in
@@ -352,13 +361,15 @@ module _ (program : Program) (policy : Policy) (annotations : Annotations) (o : 
 
     -- a check that has just begun
     pub begun_means : (site : Site) (clause : Clause) (event : Event) → clause_of policy site ≡ Some clause → in_range policy recorded ≡ true
-        → AreState fields recorded → IsEventOf site event → IsDue site.phase event part → TellsIn clause site.phase site.base frame.locals event
-        → AreClean program frame.stack.items → MeansHeld program policy recorded fields frame site 0 0 [] (as_taken policy) part
-    begun_means site clause event there ranged are of due told clean = record {
+        → AreState fields recorded → IsEventOf site event → FitsRuns program policy annotations.held event → IsDue site.phase event part
+        → TellsIn (is_always annotations.held) clause site.phase site.base frame.locals event
+        → AreClean program frame.stack.items → MeansHeld program policy annotations.held recorded fields frame site 0 0 [] (as_taken policy) part
+    begun_means site clause event there ranged are of formed due told clean = record {
       clause = clause;
       there = there;
       event = event;
       of = of;
+      formed = formed;
       due = due;
       told = told;
       tried = record { few = omega arith; fail = λ j b less is. absurd (omega arith); hold = λ b is. (omega arith, λ j atom less is. absurd (omega arith)) };
@@ -369,46 +380,63 @@ module _ (program : Program) (policy : Policy) (annotations : Annotations) (o : 
     }
 
     module _ (ranged : in_range policy recorded ≡ true) where
-      owed_begins : (site : Site) (kept : Bool) (clause : Clause) → clause_of policy site ≡ Some clause → kept ≡ asks_kept policy site
-          → MeansOwed program policy recorded fields frame site 1 kept false part → MeansHeld program policy recorded fields frame site 0 0 [] (as_taken policy) part
-      owed_begins site kept clause there asks m =
-          let p : IsPending site clause part kept frame.locals m.above.rest =
-          subst (λ (c : Option Clause). IsOwed site 1 c part kept frame.locals m.above.rest) there m.owed in
-          begun_means site clause p.event there ranged m.variables p.of (is_due_behind site.phase p.event m.behind p.is)
-          (tells_kept site clause site.phase kept m.above.rest p.event there refl m.behind asks p.told)
-          (subst (AreClean program) (sym m.above.is) m.above.clean)
+      pub begins_behind : (site : Site) (kept : Bool) (clause : Clause) → clause_of policy site ≡ Some clause → kept ≡ asks_kept policy site → is_before site.phase ≡ false
+          → (rest : List Value) → IsPending program policy annotations.held site clause part kept frame.locals rest → AreState fields recorded → AreClean program frame.stack.items
+          → MeansHeld program policy annotations.held recorded fields frame site 0 0 [] (as_taken policy) part
+      begins_behind site kept clause there asks behind rest p are clean =
+          begun_means site clause p.event there ranged are p.of p.formed (is_due_behind site.phase p.event behind p.is)
+          (tells_kept site clause site.phase kept rest p.event there refl behind asks p.told) clean
 
-      owed_stands : (site : Site) (stage : ℕ) (kept top : Bool) (note : Note) → Owns program policy annotations.held recorded fields frame (notes.Owed site stage kept top) part
+      owed_begins : (site : Site) (kept : Bool) (clause : Clause) → clause_of policy site ≡ Some clause → kept ≡ asks_kept policy site
+          → MeansOwed program policy annotations.held true recorded fields frame site 1 kept false part
+          → MeansHeld program policy annotations.held recorded fields frame site 0 0 [] (as_taken policy) part
+      owed_begins site kept clause there asks m =
+          let p : IsPending program policy annotations.held site clause part kept frame.locals m.above.rest =
+          subst (λ (c : Option Clause). IsOwed program policy annotations.held true site 1 c part kept frame.locals m.above.rest) there m.owed in
+          begins_behind site kept clause there asks m.behind m.above.rest p m.variables (subst (AreClean program) (sym m.above.is) m.above.clean)
+
+      owed_stands : (mine : Bool) (site : Site) (stage : ℕ) (kept top : Bool) (note : Note)
+          → MeansOwed program policy annotations.held mine recorded fields frame site stage kept top part
           → (may_begin policy site stage kept top && stands_for_held policy site 0 0 [] (as_taken policy) note) ≡ true
-          → Stood recorded fields frame part note
-      owed_stands site stage kept top note m e =
+          → Stood mine recorded fields frame part note
+      owed_stands mine site stage kept top note m e =
           let p = and_parts (may_begin policy site stage kept top) _ e in
           let q = and_parts (stage == 1) _ p.0 in
           let r = and_parts (not top) _ q.1 in
           let u = and_parts (is_some (clause_of policy site)) _ r.1 in
-          let clause = some_there (clause_of policy site) u.0 in
           let one : stage ≡ 1 = eqb-true stage 1 q.0 in
           let bare : top ≡ false = not-true top r.0 in
-          let m' : MeansOwed program policy recorded fields frame site 1 kept false part =
-          subst (λ (t : Bool). MeansOwed program policy recorded fields frame site 1 kept t part) bare (subst (λ (n : ℕ). MeansOwed program policy recorded fields frame site n kept top part) one m.1) in
-          held_stands recorded fields frame part ranged site 0 0 [] (as_taken policy) note (owed_begins site kept clause.0 clause.1 (beq_is kept _ u.1) m') p.1
+          let m' : MeansOwed program policy annotations.held mine recorded fields frame site 1 kept false part =
+          subst (λ (t : Bool). MeansOwed program policy annotations.held mine recorded fields frame site 1 kept t part) bare
+          (subst (λ (n : ℕ). MeansOwed program policy annotations.held mine recorded fields frame site n kept top part) one m) in
+          by mine m' where
+            by : (b : Bool) → MeansOwed program policy annotations.held b recorded fields frame site 1 kept false part → Stood b recorded fields frame part note
+            by true n =
+                let p = and_parts (may_begin policy site stage kept top) _ e in
+                let q = and_parts (stage == 1) _ p.0 in
+                let r = and_parts (not top) _ q.1 in
+                let u = and_parts (is_some (clause_of policy site)) _ r.1 in
+                let clause = some_there (clause_of policy site) u.0 in
+                held_stands recorded fields frame part ranged site 0 0 [] (as_taken policy) note (owed_begins site kept clause.0 clause.1 (beq_is kept _ u.1) n) p.1
+            by false n = absurd n.owed
 
       -- ---- any note
 
-      -- What may stand for a note of a block that holds the lock means what is so.
-      pub stands : (given note : Note) → Owns program policy annotations.held recorded fields frame given part → may_stand policy given note ≡ true
-          → Stood recorded fields frame part note
-      stands notes.Free note m e = absurd m
-      stands (notes.Taking site) note m e = absurd m
-      stands (notes.Held site failed holding list map) note m e = held_stands recorded fields frame part ranged site failed holding list map note m e
-      stands (notes.Granted site locked loaded top) note m e =
-          subst (Stood recorded fields frame part) (same_note_is (notes.Granted site locked loaded top) note e)
-          (as_given recorded fields frame part ranged (notes.Granted site locked loaded top) m)
-      stands (notes.Owed site stage kept top) note m e = elim (or_cases (same_note (notes.Owed site stage kept top) note) _ e) [
+      -- What may stand for the note of a block means what is so.
+      pub stands : (mine : Bool) (given note : Note) → Means program policy annotations.held mine recorded fields frame given part → may_stand policy given note ≡ true
+          → Stood mine recorded fields frame part note
+      stands mine notes.Free note m e = absurd m
+      stands mine (notes.Taking site) note m e = absurd m
+      stands mine (notes.Held site failed holding list map) note m e =
+          subst (λ (b : Bool). Stood b recorded fields frame part note) (sym m.0) (held_stands recorded fields frame part ranged site failed holding list map note m.1 e)
+      stands mine (notes.Granted site locked loaded top) note m e =
+          subst (Stood mine recorded fields frame part) (same_note_is (notes.Granted site locked loaded top) note e)
+          (as_given recorded fields frame part ranged mine (notes.Granted site locked loaded top) m)
+      stands mine (notes.Owed site stage kept top) note m e = elim (or_cases (same_note (notes.Owed site stage kept top) note) _ e) [
         | inl same ↦
-            subst (Stood recorded fields frame part) (same_note_is (notes.Owed site stage kept top) note same)
-            (as_given recorded fields frame part ranged (notes.Owed site stage kept top) m)
-        | inr begins ↦ owed_stands site stage kept top note m begins
+            subst (Stood mine recorded fields frame part) (same_note_is (notes.Owed site stage kept top) note same)
+            (as_given recorded fields frame part ranged mine (notes.Owed site stage kept top) m)
+        | inr begins ↦ owed_stands mine site stage kept top note m begins
       ]
-      stands (notes.Stop site place) note m e =
-          subst (Stood recorded fields frame part) (same_note_is (notes.Stop site place) note e) (as_given recorded fields frame part ranged (notes.Stop site place) m)
+      stands mine (notes.Stop site place) note m e =
+          subst (Stood mine recorded fields frame part) (same_note_is (notes.Stop site place) note e) (as_given recorded fields frame part ranged mine (notes.Stop site place) m)

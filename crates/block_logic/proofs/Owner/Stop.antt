@@ -35,13 +35,14 @@ use Rattle.block_logic.specs.Agreement.{Clear, Granted, Owed, Part, Settles}
 use Rattle.block_logic.specs.Meaning.{MeansStop}
 use Rattle.block_logic.specs.Obeying.{IsObeying}
 use Rattle.block_logic.specs.Operands.{calls, is_way_out, number_pushed, stops}
-use Rattle.block_logic.proofs.Owner.Acting.{ActsHolding, goes_with_behind}
+use Rattle.block_logic.proofs.Owner.Fair.{means_fair}
+use Rattle.block_logic.proofs.Owner.Acting.{ActsIn, goes_with_behind}
 use Rattle.block_logic.proofs.Owner.Granted.{how_calls}
 use Rattle.block_logic.proofs.Owner.Moves.{on_heap}
 use Rattle.block_logic.proofs.Owner.Pushes.{pushes_this}
 use Rattle.block_logic.proofs.Owner.Rows.{gives_asks, where_so}
 use Rattle.block_logic.proofs.Owner.Terms.{same_number}
-use Rattle.block_logic.proofs.Steps.{ChangesOwner}
+use Rattle.block_logic.proofs.Steps.{ChangesBlock}
 
 -- ---- the method that stops the program
 
@@ -91,21 +92,24 @@ exit_stops program machine a change how index exit e =
 module _ (program : Program) (policy : Policy) (annotations : Annotations) (o : IsObeying program policy annotations)
     (machine : Machine) (a : Acting) (next : Insn × Target) (change : Change) (fields : List Value) (recorded : Values) (part : Part) (ranged : in_range policy recorded ≡ true) (site : Site) where
   abbrev Changes : Type 0
-  Changes = ChangesOwner program policy annotations a.number recorded part change
+  Changes = ChangesBlock program policy annotations true (world_of machine) a.number recorded part change
 
   settles_still : (p : Part) → Settles policy recorded p recorded p
   settles_still Clear = refl
   settles_still (Granted call) = (refl, refl)
   settles_still (Owed end) = (refl, refl)
 
-  stopping : Stops change → Changes
-  stopping s =
+  stopping : (place : ℕ) → MeansStop program policy annotations.held a.frame place part → Stops change → Changes
+  stopping place m s =
       record {
         begins = s.begins;
         now = recorded;
         ranged = ranged;
         due = part;
         turns = rw s.silent (settles_still part);
+        fair = means_fair program policy annotations true recorded fields a.frame (notes.Stop site place) part (refl, m);
+        fit = rw s.silent tt;
+        loose = tt;
         goes = λ on. let not_so : Some s.stops ≡ None = sym s.is ∙ on in absurd cc;
       }
 
@@ -114,13 +118,13 @@ module _ (program : Program) (policy : Policy) (annotations : Annotations) (o : 
   value_pushed n (Some m) e = ap Some (same_number m n e)
 
   -- An instruction of the way out changes what it may.
-  pub stop_steps : (place : ℕ) → ActsHolding program policy annotations machine a next change (notes.Stop site place) fields → MeansStop a.frame place part → Changes
+  pub stop_steps : (place : ℕ) → ActsIn program policy annotations true machine a next change (notes.Stop site place) fields → MeansStop program policy annotations.held a.frame place part → Changes
   stop_steps zero h m =
       let w = where_so _ _ h.ruled.r h.ruled.has in
       let value = value_pushed (pos 77) (number_pushed (shape_of next.0) next.1) w.0 in
       let p = pushes_this program policy annotations machine a change next h.step (pos 77) value in
-      goes_with_behind program policy annotations o machine a next change _ fields h recorded part ranged (values.Int (pos 77) ∷ a.frame.stack.items) (notes.Stop site 1) p.1
-      (gives_asks (notes.Stop site 1) h.ruled.r w.1) p.0 (record { refused = m.refused; stopping = refl })
+      goes_with_behind program policy annotations o true machine a next change _ fields h recorded part ranged (λ other. absurd cc) (values.Int (pos 77) ∷ a.frame.stack.items) (notes.Stop site 1) p.1
+      (gives_asks (notes.Stop site 1) h.ruled.r w.1) p.0 (refl, record { refused = m.refused; stopping = refl })
   stop_steps (suc zero) h m =
       let w = where_so _ _ h.ruled.r h.ruled.has in
       let p = and_parts (calls (shape_of next.0)) _ w.0 in
@@ -128,5 +132,5 @@ module _ (program : Program) (policy : Policy) (annotations : Annotations) (o : 
       let how = how_calls (shape_of next.0) p.0 in
       let made : calls_out program machine a.number a.thread a.frame a.below how.0 (target.Builtin index.0) ≡ Some change =
       subst (λ (ref : Target). calls_out program machine a.number a.thread a.frame a.below how.0 ref ≡ Some change) index.1 (on_heap program machine a change next h.step (heap.Call how.0) how.1) in
-      stopping (exit_stops program machine a change how.0 index.0 index.2 made)
+      stopping 1 m (exit_stops program machine a change how.0 index.0 index.2 made)
   stop_steps (suc (suc n)) h m = absurd m.stopping
