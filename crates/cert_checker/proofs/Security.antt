@@ -16,12 +16,14 @@ use Rattle.cert_format.specs.declared.certificate.Mode.{Mode}
 use Rattle.cert_format.specs.declared.certificate.Mode.TheVariants as modes
 use Rattle.code_typing.specs.Closed.{BeginsReached, GoesToReached, IsCaughtReached}
 use Rattle.conspec_automaton.specs.declared.policy.Policy.{Policy}
+use Rattle.conspec_automaton.specs.Racing.{IsRaceFree}
 use Rattle.conspec_automaton.specs.Sound.{IsPolicy, NamesMethods}
 use Rattle.guest_model.specs.Places.{method_at, insn_in}
 use Rattle.guest_model.specs.Standing.{HasInsns, IsClosed}
 use Rattle.block_logic.specs.Accepted.{IsAccepted}
 use Rattle.block_logic.specs.Annotations.{annotations_of, held_in}
-use Rattle.block_logic.specs.Meaning.{IsJudged, Promised}
+use Rattle.block_logic.specs.Formed.{RunsAreFormed}
+use Rattle.block_logic.specs.Meaning.{IsJudged, IsReleasing, Promised}
 use Rattle.block_logic.specs.Obeying.{AcceptedObeys, EventsAreLocked, FitsListing, IsObeying, LockIsHeld}
 use Rattle.cert_checker.specs.Secure.{Secure}
 use Rattle.cert_checker.proofs.Options.{all_at, and_then_of}
@@ -66,9 +68,21 @@ pub record Laws : Type 0 where
   pub caught : IsCaughtReached
 
 -- what is promised of the mode, as it is said of the calls round which the lock is held
-judged : (mode : Mode) (policy : Policy) → Promised mode policy → IsJudged (held_in mode) policy
-judged mode policy (inl hold) = inl (λ method. rw hold refl)
-judged mode policy (inr denies) = inr denies
+judged : (program : Program) (mode : Mode) (policy : Policy) → Promised mode policy → IsJudged program policy (held_in mode)
+judged program mode policy (inl hold) = inl (inl (rw hold refl))
+judged program mode policy (inr denies) = inl (inr denies)
+
+-- a race-free policy is race-free of each two methods
+releasing : (program : Program) (mode : Mode) (policy : Policy) → IsRaceFree policy → RunsAreFormed program policy → IsReleasing program policy (held_in mode)
+releasing program mode policy race formed = record {
+  race = record {
+    ends_are_taken = race.ends_are_taken;
+    calls_turn = λ first second tested. race.calls_turn first second refl;
+    ends_turn = λ first second tested. race.ends_turn first second refl;
+    ends_come_first = λ call end tested. race.ends_come_first call end refl;
+  };
+  formed = formed;
+}
 
 -- what is known of a program and a policy before the check
 pub record IsGiven (program : Program) (policy : Policy) : Type 0 where
@@ -123,9 +137,9 @@ module _ (laws : Laws) (program : Program) (policy : Policy) (certificate : Cert
         laws.caught program certificate.typing accepted.typed class method at of i.0 handler there i.1 inside has from to;
   }
 
-  obeying : Promised certificate.mode policy → IsObeying program policy (annotations_of certificate)
-  obeying promised = record {
-    judged = judged certificate.mode policy promised;
+  obeying : IsJudged program policy (held_in certificate.mode) → IsObeying program policy (annotations_of certificate)
+  obeying judged = record {
+    judged = judged;
     sound = given.sound;
     good = given.good;
     named = given.named;
@@ -136,7 +150,10 @@ module _ (laws : Laws) (program : Program) (policy : Policy) (certificate : Cert
   }
 
   pub secure : Promised certificate.mode policy → Secure certificate.mode program policy
-  secure promised steps = laws.obeys program policy certificate (obeying promised) steps
+  secure promised steps = laws.obeys program policy certificate (obeying (judged program certificate.mode policy promised)) steps
+
+  pub released : IsRaceFree policy → RunsAreFormed program policy → Secure certificate.mode program policy
+  released race formed steps = laws.obeys program policy certificate (obeying (inr (releasing program certificate.mode policy race formed))) steps
 
   pub locked : certificate.mode ≡ modes.Hold → EventsAreLocked program policy
-  locked hold = laws.held program policy certificate (obeying (inl hold)) hold
+  locked hold = laws.held program policy certificate (obeying (judged program certificate.mode policy (inl hold))) hold

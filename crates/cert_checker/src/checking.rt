@@ -5,8 +5,10 @@ ghost use Rattle.std.specs.List.{AllByRecursion};
 ghost use Rattle.bytecode_model.specs.declared.program.Method.{Method as AMethod};
 ghost use Rattle.bytecode_model.specs.Sound.{IsSound, IsSoundClass};
 ghost use Rattle.cert_format.specs.declared.certificate.Mode.TheVariants as modes;
+ghost use Rattle.conspec_automaton.specs.Racing.{IsRaceFree};
 ghost use Rattle.conspec_automaton.specs.Sound.{IsPolicy, NamesMethods};
 ghost use Rattle.block_logic.specs.Accepted.{IsAccepted};
+ghost use Rattle.block_logic.specs.Formed.{RunsAreFormed};
 ghost use Rattle.block_logic.specs.Meaning.{Promised};
 ghost use Rattle.block_logic.specs.Obeying.{EventsAreLocked, FitsListing};
 ghost use Rattle.block_logic.specs.Operands.{has_clause};
@@ -46,9 +48,10 @@ pub fn check(
     requires named { NamesMethods (length program.now.listing.methods) policy.now }
     requires listed { AllByRecursion (FitsListing program.now.listing) policy.now.clauses }
     // It is accepted exactly where the conditions hold. Then, in mode hold or where calls are denied outright, every list of steps
-    // obeys; of another policy in mode release nothing is promised, since its races are not decided here.
+    // obeys; and in either mode where the policy is race-free and runs are well formed.
     ensures ok { IsOk result ↔ IsAccepted program.now policy.now certificate.now }
     ensures secure { IsOk result → Promised certificate.now.mode policy.now → Secure certificate.now.mode program.now policy.now }
+    ensures released { IsOk result → IsRaceFree policy.now → RunsAreFormed program.now policy.now → Secure certificate.now.mode program.now policy.now }
 
     // In mode hold each step whose event has a clause is of the thread that holds the lock: the lock's order is that of the events.
     ensures locked { IsOk result → certificate.now.mode ≡ modes.Hold → EventsAreLocked program.now policy.now }

@@ -6,6 +6,7 @@
 
 mod checking;
 mod fault;
+mod judging;
 mod laws;
 mod note_rules;
 mod notes;
@@ -15,6 +16,7 @@ mod state;
 
 pub use checking::{Accepted, check};
 pub use fault::CheckFault;
+pub use judging::{Denial, judge};
 pub use laws::denied_call_disobeys;
 pub use note_rules::note_fault;
 pub use notes::check_note;
