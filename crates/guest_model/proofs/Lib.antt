@@ -30,3 +30,6 @@ mod Moving
 mod Calls
 mod Making
 mod Rows
+mod Described
+mod Ends
+pub mod Asks

@@ -6,6 +6,7 @@ use Rattle.api_listing.specs.declared.events.ApiAnswer.{ApiAnswer}
 use Rattle.api_listing.specs.declared.events.ApiAnswer.TheVariants as answers
 use Rattle.api_listing.specs.declared.events.Event.TheVariants as events
 use Rattle.api_listing.specs.declared.types.ListedClass.{ListedClass}
+use Rattle.api_listing.specs.declared.types.ListedMethod.{ListedMethod}
 use Rattle.api_listing.specs.BuiltIn.{built_in_classes, object}
 use Rattle.api_listing.specs.Descriptor.{type_spelled}
 use Rattle.api_listing.specs.Listing.{is_known}
@@ -74,6 +75,11 @@ answer_fits program heap result receiver arguments (answers.Arg i) =
 answer_fits program heap result receiver arguments answers.Receiver =
     option_map_or (λ (v : Value). of_class result (is_of program heap v)) receiver false
 answer_fits program heap result receiver arguments (answers.Throws class) = may_throw program class
+
+-- the answer fits a call of the listed method with this index; none fits where there is no such method
+abbrev pub method_takes : Program → List Object → ℕ → Option Value → List Value → ApiAnswer → Bool
+method_takes program heap method receiver arguments answer =
+    option_map_or (λ (listed : ListedMethod). answer_fits program heap (types_of listed.id.desc).result receiver arguments answer) (slice_get program.listing.methods method) false
 
 -- ---- what they give
 

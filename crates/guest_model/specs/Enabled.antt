@@ -2,7 +2,6 @@
 -- waited for. (docs/MACHINE.md)
 use Rattle.std.specs.Prelude.{◌≡◌, ℕ, ◌==◌, ◌&&◌, Bool, true, false, not, if◌then◌else◌, List, [], ◌∷◌, find, slice_get, Option, Some, None, option_and_then}
 use Rattle.std.specs.Option.{option_map_or}
-use Rattle.api_listing.specs.declared.types.ListedMethod.{ListedMethod}
 use Rattle.insn_codec.specs.declared.insn.Insn.{Insn}
 use Rattle.insn_codec.specs.declared.shape.Heap.{Heap}
 use Rattle.insn_codec.specs.declared.shape.Heap.TheVariants as heap
@@ -23,12 +22,12 @@ use Rattle.guest_model.specs.declared.machine.Choice.{Choice}
 use Rattle.guest_model.specs.declared.machine.Choice.TheVariants as choices
 use Rattle.guest_model.specs.declared.machine.Machine.{Machine}
 use Rattle.guest_model.specs.declared.machine.Step.{Step}
-use Rattle.guest_model.specs.Calls.{Taken, arity, taken, types_of}
+use Rattle.guest_model.specs.Calls.{Taken, arity, taken}
 use Rattle.guest_model.specs.Places.{insn_at, method_at}
 use Rattle.guest_frames.specs.Values.{are_one, is_null}
 use Rattle.guest_model.specs.declared.builtin.Builtin.{Builtin}
 use Rattle.guest_model.specs.declared.builtin.Builtin.TheVariants as builtins
-use Rattle.guest_model.specs.Answering.{answer_fits}
+use Rattle.guest_model.specs.Answering.{method_takes}
 use Rattle.guest_model.specs.Builtins.{builtin_at}
 use Rattle.guest_model.specs.Calling.{desc_named, has_ended, is_static_call, thread_of_value}
 use Rattle.guest_model.specs.Changes.{Change, lock_of}
@@ -133,8 +132,7 @@ MayGoOn program machine number frames (choices.Answer answer) = ⊥
 abbrev pub MayAnswer : Program → Machine → ℕ → Option Value → List Value → Choice → Type 0
 MayAnswer program machine method receiver arguments choices.Plain = is_on_null receiver ≡ true
 MayAnswer program machine method receiver arguments (choices.Answer answer) =
-    (is_on_null receiver ≡ false)
-    × (option_map_or (λ (listed : ListedMethod). answer_fits program machine.heap (types_of listed.id.desc).result receiver arguments answer) (slice_get program.listing.methods method) false ≡ true)
+    (is_on_null receiver ≡ false) × (method_takes program machine.heap method receiver arguments answer ≡ true)
 
 abbrev pub MayStep : Program → Machine → ℕ → List Frame → Doing → Choice → Type 0
 MayStep program machine number frames doings.Running choice = MayGoOn program machine number frames choice

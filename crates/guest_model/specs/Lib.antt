@@ -28,3 +28,6 @@ pub mod First
 pub mod Moving
 pub mod Numbers
 pub mod Ready
+pub mod Did
+pub mod Ending
+pub mod Asking

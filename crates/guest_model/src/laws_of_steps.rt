@@ -1,6 +1,8 @@
 //! What holds of every step.
 
+ghost use Rattle.guest_model.specs.Asking.{EnabledAreSteps, FittingAreSteps};
 ghost use Rattle.guest_model.specs.Enabled.{StepsAreEnabled};
+ghost use Rattle.guest_model.specs.Ending.{EndsWhereNoneIsEnabled};
 ghost use Rattle.guest_model.specs.Moving.{
   ReadyWorks,
   LeavesAsMany,
@@ -65,4 +67,16 @@ pub fn ready_calls_are_made()
 /// operands, of their kinds, and room for what is left.
 pub fn enabled_steps_are_made()
     ensures made { EnabledIsMade }
+{}
+
+/// A machine has ended exactly where the rules enable no step of any thread, whatever the library answers.
+pub fn ends_where_none_is_enabled()
+    ensures ends { EndsWhereNoneIsEnabled }
+{}
+
+/// A thread can make a step exactly where the rules enable one with some choice; and an answer fits exactly where they enable
+/// the step that takes it.
+pub fn asks_what_the_rules_say()
+    ensures threads { EnabledAreSteps }
+    ensures answers { FittingAreSteps }
 {}

@@ -21,11 +21,11 @@ use Rattle.guest_model.specs.Answering.{answer_fits, answered_well, given, retur
 use Rattle.guest_model.specs.Changes.{Change, World, returned, world_of}
 use Rattle.guest_model.specs.Seeing.{EventsAreOfTheirThread, thread_of}
 use Rattle.guest_model.specs.Stepping.{call_stepped, doing_stepped, is_on_null, stepped}
-use Rattle.guest_threads.specs.declared.fault.StepFault.{StepFault}
-use Rattle.guest_threads.specs.declared.fault.StepFault.TheVariants as faults
+use Rattle.guest_model.specs.declared.fault.StepFault.{StepFault}
+use Rattle.guest_model.specs.declared.fault.StepFault.TheVariants as faults
 use Rattle.guest_threads.specs.Acts.{ActsIn, IsDone}
 use Rattle.guest_step.specs.Turns.{doing_this}
-use Rattle.guest_threads.specs.Did.{Did}
+use Rattle.guest_model.specs.Did.{Did}
 use Rattle.guest_step.proofs.Alike.{with_threads}
 use Rattle.guest_step.proofs.Putting.{did, has_place}
 

@@ -17,7 +17,7 @@ use Rattle.guest_model.specs.Changes.{Change}
 use Rattle.guest_model.specs.Stepping.{Acting}
 use Rattle.guest_threads.specs.Acts.{ActsIn, acting}
 use Rattle.guest_threads.specs.Calls.{calling, taken_from}
-use Rattle.guest_threads.specs.declared.fault.StepFault.{StepFault}
+use Rattle.guest_model.specs.declared.fault.StepFault.{StepFault}
 use Rattle.guest_threads.specs.declared.passing.Call.{Call}
 
 inside : {X : Type 0} (x y : X) → Some x ≡ Some y → x ≡ y

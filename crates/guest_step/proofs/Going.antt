@@ -15,11 +15,11 @@ use Rattle.guest_model.specs.declared.machine.Machine.{Machine}
 use Rattle.guest_model.specs.Places.{insn_at}
 use Rattle.guest_model.specs.Changes.{Change, world_of}
 use Rattle.guest_model.specs.Stepping.{Acting, acts_on, frames_stepped, heap_in, heap_stepped, insn_stepped}
-use Rattle.guest_threads.specs.declared.fault.StepFault.{StepFault}
-use Rattle.guest_threads.specs.declared.fault.StepFault.TheVariants as faults
+use Rattle.guest_model.specs.declared.fault.StepFault.{StepFault}
+use Rattle.guest_model.specs.declared.fault.StepFault.TheVariants as faults
 use Rattle.guest_threads.specs.Acts.{ActsIn, IsDone, acting}
 use Rattle.guest_step.specs.Turns.{thread_stepped, unseen}
-use Rattle.guest_threads.specs.Did.{Becomes}
+use Rattle.guest_threads.specs.Becomes.{Becomes}
 
 -- the change of a thread alone
 abbrev pub alone : Machine → Thread → Change

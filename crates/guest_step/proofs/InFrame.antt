@@ -19,8 +19,8 @@ use Rattle.guest_model.specs.Stepping.{Acting, comes_to, works}
 use Rattle.guest_model.specs.Working.{Worked, worked}
 use Rattle.guest_work.specs.declared.outcome.Outcome.{Outcome}
 use Rattle.guest_work.specs.declared.outcome.Outcome.TheVariants as outcomes
-use Rattle.guest_threads.specs.declared.fault.StepFault.{StepFault}
-use Rattle.guest_threads.specs.declared.fault.StepFault.TheVariants as faults
+use Rattle.guest_model.specs.declared.fault.StepFault.{StepFault}
+use Rattle.guest_model.specs.declared.fault.StepFault.TheVariants as faults
 use Rattle.guest_model.specs.declared.thrown.Thrown.{Thrown}
 use Rattle.guest_threads.specs.Acts.{ActsIn, IsDone, acting}
 use Rattle.guest_step.specs.InFrame.{Inside, WorksIn, at_after, gone, inside}

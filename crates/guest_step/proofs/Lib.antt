@@ -5,10 +5,7 @@ mod Apart
 mod InFrame
 mod Called
 mod NextWaits
-mod Ends
 mod Given
-mod Asks
-mod Runs
 mod Standing
 mod Initialisers
 mod Writing

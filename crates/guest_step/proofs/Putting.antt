@@ -12,10 +12,10 @@ use Rattle.guest_model.specs.declared.machine.Machine.{Machine}
 use Rattle.guest_model.specs.declared.machine.Step.{Step}
 use Rattle.guest_model.specs.Changes.{Change, applied}
 use Rattle.guest_model.specs.Stepping.{changed, doing_stepped, stepped}
-use Rattle.guest_threads.specs.declared.fault.StepFault.{StepFault}
-use Rattle.guest_threads.specs.declared.fault.StepFault.TheVariants as faults
+use Rattle.guest_model.specs.declared.fault.StepFault.{StepFault}
+use Rattle.guest_model.specs.declared.fault.StepFault.TheVariants as faults
 use Rattle.guest_threads.specs.Acts.{ActsIn, IsDone, with_begun}
-use Rattle.guest_threads.specs.Did.{Did}
+use Rattle.guest_model.specs.Did.{Did}
 use Rattle.guest_step.proofs.Alike.{doing_alike, with_threads}
 use Rattle.guest_threads.proofs.Held.{set_same}
 

@@ -1,17 +1,14 @@
 -- Which answers fit a result that is a class or an array. (docs/MACHINE.md)
-use Rattle.std.specs.Prelude.{ℕ, ◌&&◌, ◌||◌, Bool, true, false, nat_le, List, length, Option, option_map, slice_get}
+use Rattle.std.specs.Prelude.{◌&&◌, ◌||◌, Bool, true, false, nat_le, List, length, Option, slice_get}
 use Rattle.std.specs.Option.{option_map_or}
 use Rattle.api_listing.specs.declared.events.ApiAnswer.{ApiAnswer}
 use Rattle.api_listing.specs.declared.events.ApiAnswer.TheVariants as answers
-use Rattle.api_listing.specs.declared.types.ListedMethod.{ListedMethod}
 use Rattle.bytecode_model.specs.declared.program.Program.{Program}
 use Rattle.bytecode_model.specs.Classes.{is_below, is_interface}
 use Rattle.bytecode_model.specs.SearchOrder.{Name}
 use Rattle.guest_heap.specs.declared.object.Object.{Object}
 use Rattle.guest_heap.specs.declared.value.Value.{Value}
-use Rattle.guest_model.specs.Answering.{answer_fits, is_listed_class, is_no_object, is_of, takes_text}
-use Rattle.guest_tables.specs.declared.library.ListedResult.{ListedResult}
-use Rattle.guest_tables.specs.Library.{gives}
+use Rattle.guest_model.specs.Answering.{is_listed_class, is_no_object, is_of, takes_text}
 
 -- what an answer gives that is no number fits a result of this class
 abbrev pub object_fits : Program → List Object → Name → Option Value → List Value → ApiAnswer → Bool
@@ -24,9 +21,3 @@ object_fits program heap name receiver arguments (answers.Arg i) =
     option_map_or (λ (v : Value). is_no_object v || is_of program heap v name) (slice_get arguments i) false
 object_fits program heap name receiver arguments answers.Receiver = option_map_or (λ (v : Value). is_of program heap v name) receiver false
 object_fits program heap name receiver arguments (answers.Throws class) = true
-
--- the answer fits a call of the listed method with this index; none fits where there is no such method
-abbrev pub method_takes : Program → List Object → ℕ → Option Value → List Value → ApiAnswer → Bool
-method_takes program heap method receiver arguments answer =
-    option_map_or (λ (result : ListedResult). answer_fits program heap result.of receiver arguments answer)
-    (option_map (λ (listed : ListedMethod). gives listed.id.desc) (slice_get program.listing.methods method)) false

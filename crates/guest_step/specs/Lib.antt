@@ -3,7 +3,4 @@ pub mod Built
 pub mod InFrame
 pub mod Writing
 pub mod Start
-pub mod Ending
 pub mod Fitting
-pub mod Asking
-pub mod Replaying

@@ -7,7 +7,7 @@ use Rattle.guest_heap.specs.declared.thread.Doing.{Doing}
 use Rattle.guest_heap.specs.declared.thread.Thread.{Thread}
 use Rattle.guest_frames.specs.Stepping.{frame_stepped}
 use Rattle.guest_model.specs.Parts.{running}
-use Rattle.guest_threads.specs.declared.fault.StepFault.{StepFault}
+use Rattle.guest_model.specs.declared.fault.StepFault.{StepFault}
 
 -- the thread once an instruction that changes its frame alone is done in the first of these frames
 abbrev pub thread_stepped : Thread → List Frame → Insn → Option Thread

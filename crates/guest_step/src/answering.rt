@@ -13,9 +13,9 @@ use crate::fitting::fits_call;
 use api_listing::{ApiAnswer, ApiValue, Event};
 use guest_frames::is_null;
 use guest_heap::{Object, Thread, Value, new_object};
-use guest_model::{Choice, Machine, Thrown};
+use guest_model::{Choice, Machine, StepFault, Thrown};
 use guest_tables::{Guest, value_shown};
-use guest_threads::{StepFault, resume, throw_new};
+use guest_threads::{resume, throw_new};
 use mon_base::{Bytes, List, NoMemory};
 use std::alloc::Global;
 

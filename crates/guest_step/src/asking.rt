@@ -3,8 +3,8 @@
 ghost use Rattle.std.specs.Option.{option_map_or};
 ghost use Rattle.std.specs.Prelude.{false, slice_get, ◌≡◌};
 ghost use Rattle.guest_heap.specs.declared.thread.Thread.{Thread};
-ghost use Rattle.guest_step.specs.Asking.{EnabledAreSteps, FittingAreSteps, doing_takes, is_enabled, takes_answer};
-ghost use Rattle.guest_step.specs.Ending.{can_step};
+ghost use Rattle.guest_model.specs.Asking.{doing_takes, is_enabled, takes_answer};
+ghost use Rattle.guest_model.specs.Ending.{can_step};
 
 use crate::answering::is_on_null;
 use crate::ending::can_step;
@@ -63,10 +63,3 @@ fn doing_takes(guest: &Guest, heap: &List<Object>, doing: &Doing, answer: &ApiAn
         }
     }
 }
-
-/// A thread can make a step exactly where the rules enable one with some choice; and an answer fits exactly where they enable
-/// the step that takes it.
-pub fn asks_what_the_rules_say()
-    ensures threads { EnabledAreSteps }
-    ensures answers { FittingAreSteps }
-{}

@@ -13,11 +13,11 @@ use crate::running::{run_object, run_of};
 use api_listing::Event;
 use guest_frames::is_null;
 use guest_heap::{Object, Thread, Value};
-use guest_model::{Builtin, Machine, Thrown};
+use guest_model::{Builtin, Machine, StepFault, Thrown};
 use guest_tables::{Guest, characters, string_of};
 use guest_threads::{
-    Call, StepFault, begin_beside, begun_thread, call_throws, exit, go_past, join, make_on,
-    mark_started, target_of, thread_of_value,
+    Call, begin_beside, begun_thread, call_throws, exit, go_past, join, make_on, mark_started,
+    target_of, thread_of_value,
 };
 use insn_codec::How;
 use mon_base::List;

@@ -5,7 +5,7 @@ ghost use Rattle.std.specs.Prelude.{false, not, slice_get, ◌&&◌, ◌≡◌};
 ghost use Rattle.guest_frames.specs.Values.{is_null};
 ghost use Rattle.guest_heap.specs.declared.value.Value.{Value};
 ghost use Rattle.guest_model.specs.Enabled.{heap_waits, is_held_by_other, waits};
-ghost use Rattle.guest_step.specs.Ending.{can_step, end_of, have_ended, some_can_step};
+ghost use Rattle.guest_model.specs.Ending.{can_step, end_of, have_ended, some_can_step};
 
 use crate::answering::is_on_null;
 use crate::stepping::{heap_in, insn_at};

@@ -2,9 +2,9 @@
 
 ghost use Rattle.std.specs.Prelude.{◌&&◌, ◌||◌, ◌≡◌};
 ghost use Rattle.bytecode_model.specs.Classes.{is_below, is_interface};
-ghost use Rattle.guest_model.specs.Answering.{answer_fits, is_listed_class, is_no_object, is_of, result_class, takes_text};
+ghost use Rattle.guest_model.specs.Answering.{answer_fits, is_listed_class, is_no_object, is_of, method_takes, result_class, takes_text};
 ghost use Rattle.guest_model.specs.Answers.{fits_number, is_number_of, may_throw};
-ghost use Rattle.guest_step.specs.Fitting.{method_takes, object_fits};
+ghost use Rattle.guest_step.specs.Fitting.{object_fits};
 
 use api_listing::{ApiAnswer, Element, FieldType};
 use guest_frames::is_null;

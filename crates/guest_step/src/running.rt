@@ -10,9 +10,9 @@ ghost use Rattle.guest_threads.specs.Calls.{calling};
 
 use api_listing::Event;
 use guest_heap::{Object, Thread, Value};
-use guest_model::{Machine, class_of_value};
+use guest_model::{Machine, StepFault, class_of_value};
 use guest_tables::{Guest, client_run, is_thread};
-use guest_threads::{Call, StepFault, enter_method, go_past, target_of};
+use guest_threads::{Call, enter_method, go_past, target_of};
 use insn_codec::How;
 use mon_base::List;
 use std::alloc::Global;

@@ -5,12 +5,13 @@ ghost use Rattle.std.specs.Prelude.{IfOk, IfSome, if◌then◌else◌, option_ma
 ghost use Rattle.bytecode_model.specs.declared.program.Target.{Target};
 ghost use Rattle.guest_frames.specs.Stepping.{frame_stepped};
 ghost use Rattle.guest_heap.specs.declared.thread.Doing.TheVariants as doings;
+ghost use Rattle.guest_model.specs.Did.{Did};
 ghost use Rattle.guest_model.specs.Places.{insn_at};
 ghost use Rattle.guest_model.specs.Seeing.{thread_of};
 ghost use Rattle.guest_model.specs.Stepping.{Acting, doing_stepped, frames_stepped, heap_in, heap_stepped, running_stepped, stepped};
 ghost use Rattle.guest_step.specs.Turns.{StandsInCode, doing_this, thread_stepped, unseen};
 ghost use Rattle.guest_threads.specs.Acts.{ActsIn, acting};
-ghost use Rattle.guest_threads.specs.Did.{Becomes, Did};
+ghost use Rattle.guest_threads.specs.Becomes.{Becomes};
 ghost use Rattle.insn_codec.specs.declared.insn.Insn.{Insn};
 
 use crate::answering::{InCall, step_in_call};
@@ -20,9 +21,9 @@ use api_listing::Event;
 use bytecode_model::Target;
 use guest_frames::local_step;
 use guest_heap::{Doing, Frame, Frames, Thread};
-use guest_model::{Choice, Machine, Step, events_are_of_their_thread};
+use guest_model::{Choice, Machine, Step, StepFault, events_are_of_their_thread};
 use guest_tables::Guest;
-use guest_threads::{OnTop, StepFault, act_on_top, method_of, return_from};
+use guest_threads::{OnTop, act_on_top, method_of, return_from};
 use insn_codec::{Heap, Insn, Shape, shape_of};
 use mon_base::List;
 use std::alloc::Global;

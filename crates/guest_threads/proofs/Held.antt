@@ -11,9 +11,9 @@ use Rattle.guest_heap.specs.declared.value.Value.{Value}
 use Rattle.guest_frames.specs.Values.{are_one}
 use Rattle.guest_model.specs.Monitors.{entered, left, held_once_less, held_once_more}
 use Rattle.guest_model.specs.Enabled.{is_held_by_other}
-use Rattle.guest_threads.specs.Did.{Becomes}
-use Rattle.guest_threads.specs.declared.fault.StepFault.{StepFault}
-use Rattle.guest_threads.specs.declared.fault.StepFault.TheVariants as faults
+use Rattle.guest_threads.specs.Becomes.{Becomes}
+use Rattle.guest_model.specs.declared.fault.StepFault.{StepFault}
+use Rattle.guest_model.specs.declared.fault.StepFault.TheVariants as faults
 use Rattle.guest_threads.specs.Monitors.{entered_again, left_at}
 
 -- ---- places

@@ -12,8 +12,8 @@ use Rattle.guest_model.specs.declared.machine.Machine.{Machine}
 use Rattle.guest_model.specs.Parts.{running}
 use Rattle.guest_model.specs.Changes.{Change, rests, world_of}
 use Rattle.guest_model.specs.Stepping.{Acting}
-use Rattle.guest_threads.specs.declared.fault.StepFault.{StepFault}
-use Rattle.guest_threads.specs.declared.fault.StepFault.TheVariants as faults
+use Rattle.guest_model.specs.declared.fault.StepFault.{StepFault}
+use Rattle.guest_model.specs.declared.fault.StepFault.TheVariants as faults
 
 -- the threads, and behind them the one that begins
 abbrev pub with_begun : List Thread → Option Thread → List Thread

@@ -1,5 +1,5 @@
 pub mod Acts
 pub mod Calls
-pub mod Did
+pub mod Becomes
 pub mod Monitors
 pub mod OnTop

@@ -7,13 +7,12 @@ ghost use Rattle.guest_model.specs.Parts.{number_in};
 ghost use Rattle.guest_threads.specs.Acts.{ActsIn};
 ghost use Rattle.guest_threads.specs.Calls.{calling};
 
-use crate::fault::StepFault;
 use crate::going::{go_past, pass_by};
 use crate::passing::Call;
 use crate::threads::{aim, has_ended, thread_of_value};
 use api_listing::Event;
 use guest_heap::{Thread, Value};
-use guest_model::Machine;
+use guest_model::{Machine, StepFault};
 
 /// Waits for a thread: that is not enabled while it is started and has not ended.
 pub fn join(

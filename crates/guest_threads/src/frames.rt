@@ -25,11 +25,11 @@ ghost use Rattle.guest_model.specs.Changes.{frame_of, lock_of};
 ghost use Rattle.guest_model.specs.Places.{method_at};
 ghost use Rattle.guest_model.specs.Ready.{IsReady};
 ghost use Rattle.guest_threads.specs.Acts.{CanGoOn};
-ghost use Rattle.guest_threads.specs.Did.{Becomes};
+ghost use Rattle.guest_threads.specs.Becomes.{Becomes};
 
-use crate::fault::StepFault;
 use bytecode_model::{Method, Program, is_synchronized};
 use guest_heap::{Frame, Stack, Value};
+use guest_model::StepFault;
 use mon_base::{List, NoMemory};
 use std::alloc::Global;
 use type_lattice::Indexed;

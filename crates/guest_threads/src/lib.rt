@@ -7,7 +7,6 @@
 mod acting;
 mod beginning;
 mod built;
-mod fault;
 mod frames;
 mod going;
 mod monitors;
@@ -20,7 +19,6 @@ mod throwing;
 pub use acting::{OnTop, act_on_top};
 pub use beginning::rest;
 pub use built::{exit, join, make_on};
-pub use fault::StepFault;
 pub use frames::{lock_of, method_of};
 pub use going::{call_throws, end_thread, enter_method, go_past, wait};
 pub use monitors::is_held_by_other;

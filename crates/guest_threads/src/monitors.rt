@@ -9,12 +9,12 @@ ghost use Rattle.guest_heap.specs.declared.object.Monitor.{Monitor};
 ghost use Rattle.guest_model.specs.Changes.{lock_taken};
 ghost use Rattle.guest_model.specs.Enabled.{is_held_by_other};
 ghost use Rattle.guest_model.specs.Monitors.{all_given_up, entered, left};
-ghost use Rattle.guest_threads.specs.Did.{Becomes};
+ghost use Rattle.guest_threads.specs.Becomes.{Becomes};
 ghost use Rattle.guest_threads.specs.Monitors.{entered_again, left_at};
 
-use crate::fault::StepFault;
 use guest_frames::are_one;
 use guest_heap::{Monitor, Value};
+use guest_model::StepFault;
 use mon_base::List;
 
 /// The place of the first monitor of the value.

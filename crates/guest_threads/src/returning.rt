@@ -6,16 +6,15 @@ ghost use Rattle.guest_model.specs.Parts.{result_of};
 ghost use Rattle.guest_model.specs.Ready.{IsReady};
 ghost use Rattle.guest_model.specs.Stepping.{Acting, returns};
 ghost use Rattle.guest_threads.specs.Acts.{ActsIn, acting, thread_returned};
-ghost use Rattle.guest_threads.specs.Did.{Becomes};
+ghost use Rattle.guest_threads.specs.Becomes.{Becomes};
 
 use crate::beginning::rest;
-use crate::fault::StepFault;
 use crate::frames::go_on;
 use crate::monitors::give_up;
 use api_listing::Event;
 use guest_frames::fits;
 use guest_heap::{Doing, Stack, Thread, Value};
-use guest_model::Machine;
+use guest_model::{Machine, StepFault};
 use insn_codec::ValueKind;
 use std::alloc::Global;
 use type_lattice::Indexed;

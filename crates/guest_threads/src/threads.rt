@@ -15,13 +15,12 @@ ghost use Rattle.guest_model.specs.Calling.{
 ghost use Rattle.guest_model.specs.Changes.{ended_thread};
 ghost use Rattle.guest_model.specs.Ready.{IsReady};
 ghost use Rattle.guest_threads.specs.Calls.{gone_past};
-ghost use Rattle.guest_threads.specs.Did.{Becomes};
+ghost use Rattle.guest_threads.specs.Becomes.{Becomes};
 
-use crate::fault::StepFault;
 use crate::frames::{frame_of, method_of};
 use crate::going::pass_by;
 use guest_heap::{Doing, Frames, Object, Thread, Value};
-use guest_model::Machine;
+use guest_model::{Machine, StepFault};
 use mon_base::{List, NoMemory};
 use std::alloc::Global;
 use type_lattice::Indexed;

@@ -11,13 +11,12 @@ ghost use Rattle.guest_model.specs.Parts.{thrown_thread};
 ghost use Rattle.guest_model.specs.Throwing.{bare_object, catches, caught_in, handler_of, locks_left, unwound};
 ghost use Rattle.guest_threads.specs.Acts.{ActsIn, lock_on_top};
 
-use crate::fault::StepFault;
 use crate::frames::method_at;
 use crate::monitors::give_up;
 use api_listing::Event;
 use bytecode_model::{Handler, Handlers};
 use guest_heap::{Doing, Frame, Frames, Monitor, Object, Thread, Value, new_object};
-use guest_model::Machine;
+use guest_model::{Machine, StepFault};
 use mon_base::{Bytes, List, NoMemory};
 use std::alloc::Global;
 use type_lattice::{Indexed, is_below};

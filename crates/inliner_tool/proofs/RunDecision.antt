@@ -8,10 +8,10 @@ use Rattle.bytecode_model.specs.declared.program.Side.TheVariants.{Inlined}
 use Rattle.bytecode_model.specs.Typed.{frames_in, frames_told}
 use Rattle.command_words.specs.ReplayWords.{NamedReplay}
 use Rattle.command_words.specs.Words.{Replay}
-use Rattle.guest_step.specs.declared.replaying.Replayed.{Replayed}
-use Rattle.guest_step.specs.declared.replaying.ReplayFault.{ReplayFault}
-use Rattle.guest_step.specs.declared.replaying.ReplayFault.TheVariants as faults
-use Rattle.guest_step.specs.Replaying.{replayed}
+use Rattle.guest_replay.specs.declared.replaying.Replayed.{Replayed}
+use Rattle.guest_replay.specs.declared.replaying.ReplayFault.{ReplayFault}
+use Rattle.guest_replay.specs.declared.replaying.ReplayFault.TheVariants as faults
+use Rattle.guest_replay.specs.Replaying.{replayed}
 use Rattle.mon_store.specs.Store.{Files, Rose}
 use Rattle.input_files.specs.declared.files.Stop.{Stop}
 use Rattle.input_files.specs.declared.files.Stop.TheVariants as stops

@@ -10,11 +10,11 @@ use Rattle.event_record.specs.Writing.{events_text}
 use Rattle.guest_model.specs.declared.machine.End.{End}
 use Rattle.guest_model.specs.declared.machine.End.TheVariants as ends
 use Rattle.guest_model.specs.declared.machine.Step.{Step as GuestStep}
-use Rattle.guest_step.specs.declared.replaying.Replayed.{Replayed}
-use Rattle.guest_step.specs.declared.replaying.ReplayFault.{ReplayFault}
-use Rattle.guest_step.specs.declared.replaying.ReplayFault.TheVariants as faults
-use Rattle.guest_step.specs.Ending.{end_of}
-use Rattle.guest_step.specs.Replaying.{replayed}
+use Rattle.guest_model.specs.Ending.{end_of}
+use Rattle.guest_replay.specs.declared.replaying.Replayed.{Replayed}
+use Rattle.guest_replay.specs.declared.replaying.ReplayFault.{ReplayFault}
+use Rattle.guest_replay.specs.declared.replaying.ReplayFault.TheVariants as faults
+use Rattle.guest_replay.specs.Replaying.{replayed}
 use Rattle.input_files.specs.declared.files.Stop.{Stop}
 use Rattle.input_files.specs.declared.replay_inputs.ReplayInputs.{ReplayInputs}
 use Rattle.input_files.specs.Forms.{Then}

@@ -5,7 +5,7 @@ ghost use Rattle.inliner_tool.specs.Replay.{replay_refusal};
 ghost use Rattle.inliner_tool.specs.declared.refusal.Refusal.TheVariants as refusals;
 
 use class_linking::LinkFault;
-use guest_step::ReplayFault;
+use guest_replay::ReplayFault;
 use mon_base::{Bytes, NoMemory};
 use offset_patch::Size;
 

@@ -22,9 +22,9 @@ use crate::running::linked_programs_run_typed;
 use bytecode_model::Side;
 use command_words::ReplayWords;
 use event_record::{EndLine, events_text};
-use guest_model::{End, Step};
-use guest_step::{Replayed, ended, replay};
-use guest_tables::Guest;
+use guest_model::{End, Step, Steps};
+use guest_replay::{Replayed, replay};
+use guest_step::Stepper;
 use input_files::{ReplayInputs, read_replay};
 use mon_base::{Bytes, NoMemory};
 use mon_store::Store;
@@ -90,30 +90,30 @@ fn steps_told(alloc: Global, program: Indexed, steps: &[Step]) -> Result<Bytes, 
     requires { IsReady program }
     ensures { UnlessMemory (Equals (steps_told program steps.now)) result }
 {
-    let guest = Guest::new(alloc, program)?;
-    let told = run_told(alloc, &guest, steps);
-    drop(guest);
+    let stepper = Stepper::new(alloc, program)?;
+    let told = run_told(alloc, &stepper, steps);
+    drop(stepper);
     told
 }
 
-/// What is told of the run that these steps are of the guest's program.
-fn run_told(alloc: Global, guest: &Guest, steps: &[Step]) -> Result<Bytes, Refusal>
-    ensures { UnlessMemory (Equals (steps_told guest.now steps.now)) result }
+/// What is told of the run that these steps are of the stepper's program.
+fn run_told(alloc: Global, stepper: &Stepper, steps: &[Step]) -> Result<Bytes, Refusal>
+    ensures { UnlessMemory (Equals (steps_told stepper.now steps.now)) result }
 {
-    let run = replay(alloc, guest, steps)?;
-    let text = run_text(alloc, guest, steps.len() as u64, &run);
+    let run = replay(alloc, stepper, steps)?;
+    let text = run_text(alloc, stepper, steps.len() as u64, &run);
     drop(run);
     Ok(text?)
 }
 
 /// The lines of the events of a run of so many steps, and its end line.
-fn run_text(alloc: Global, guest: &Guest, count: u64, run: &Replayed) -> Result<Bytes, NoMemory>
-    ensures { IfOk result (λ text. text ≡ run_text guest.now count run.now) }
+fn run_text(alloc: Global, stepper: &Stepper, count: u64, run: &Replayed) -> Result<Bytes, NoMemory>
+    ensures { IfOk result (λ text. text ≡ run_text stepper.now count run.now) }
 {
-    let end = end_told(ended(guest, &run.machine));
+    let end = end_told(stepper.ended(&run.machine));
     events_text(
         alloc,
-        &guest.program().listing,
+        &stepper.program().listing,
         run.events.as_slice(),
         end,
         count,

@@ -1,7 +1,7 @@
 use Rattle.std.proofs.Common.{◌≡◌, true, Option, subst, sym, rules, ◌∙◌}
 use Rattle.guest_model.specs.Changes.{Change, world_of}
 use Rattle.guest_threads.specs.Acts.{ActsIn}
-use Rattle.guest_step.proofs.Asks.{answered_is}
+use Rattle.guest_model.proofs.Asks.{answered_is}
 use Rattle.guest_step.proofs.answering.answer_call.Goals as goal
 
 pub returns : goal.returns

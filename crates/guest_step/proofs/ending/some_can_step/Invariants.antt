@@ -1,5 +1,5 @@
 use Rattle.std.proofs.Common.{◌≡◌, ◌+◌, length}
-use Rattle.guest_step.specs.Ending.{some_can_step}
+use Rattle.guest_model.specs.Ending.{some_can_step}
 use Rattle.guest_step.proofs.ending.some_can_step.Given as goal
 
 abbrev pub invariant-loop-left : goal.invariant-loop-left

@@ -5,7 +5,7 @@ use Rattle.insn_codec.specs.Shapes.{shape_of}
 use Rattle.guest_model.specs.Places.{insn_at}
 use Rattle.guest_model.specs.Changes.{Change}
 use Rattle.guest_model.specs.Stepping.{frames_stepped, heap_in}
-use Rattle.guest_threads.specs.declared.fault.StepFault.{StepFault}
+use Rattle.guest_model.specs.declared.fault.StepFault.{StepFault}
 use Rattle.guest_threads.specs.Acts.{ActsIn}
 use Rattle.guest_step.specs.Turns.{thread_stepped}
 use Rattle.guest_step.proofs.Going.{alone_acts, goes_alone, goes_heap}

@@ -1,4 +1,4 @@
 use Rattle.inliner_tool.proofs.replay.steps_told.Goals as goal
 
 pub returns : goal.returns
-returns c = rw (← c.in_ok-guest.ensures) c.run_told-told.ensures
+returns c = rw (← c.in_ok-stepper.ensures) c.run_told-told.ensures

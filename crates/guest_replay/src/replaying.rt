@@ -1,17 +1,12 @@
 //! The steps of a run, made one after the other from the start.
 
 ghost use Rattle.std.specs.Prelude.{◌≡◌};
-ghost use Rattle.guest_step.specs.Ending.{EndsWhereNoneIsEnabled};
-ghost use Rattle.guest_step.specs.Replaying.{ReplaysAreRuns, after_step, replayed, replayed_from};
-ghost use Rattle.guest_step.specs.declared.replaying.ReplayFault.TheVariants as faults;
+ghost use Rattle.guest_replay.specs.Replaying.{ReplaysAreRuns, after_step, replayed, replayed_from};
+ghost use Rattle.guest_replay.specs.declared.replaying.ReplayFault.TheVariants as faults;
 ghost use Rattle.mon_base.specs.Answer.{Answers, AnswersAs};
 
-use crate::starting::start;
-use crate::stepping::step;
 use api_listing::Event;
-use guest_model::{Machine, Step};
-use guest_tables::Guest;
-use guest_threads::StepFault;
+use guest_model::{Machine, Step, StepFault, Steps};
 use mon_base::{List, NoMemory};
 use std::alloc::Global;
 use thiserror::Error;
@@ -42,25 +37,25 @@ impl From<NoMemory> for ReplayFault {
 }
 
 /// Makes these steps from the start, or tells the first that is not enabled in its place. Nothing is copied but the events.
-pub fn replay(alloc: Global, guest: &Guest, steps: &[Step]) -> Result<Replayed, ReplayFault>
-    ensures { Answers ReplayFault.Memory result (replayed guest.now steps.now) }
+pub fn replay<S: Steps>(alloc: Global, guest: &S, steps: &[Step]) -> Result<Replayed, ReplayFault>
+    ensures { Answers ReplayFault.Memory result (replayed (S.program guest.now) steps.now) }
 {
     let mut run = Replayed {
         events: List::new(alloc),
-        machine: start(alloc, guest)?,
+        machine: guest.start(alloc)?,
     };
     make_all(alloc, guest, &mut run, steps)?;
     Ok(run)
 }
 
 /// Makes these steps in the run, of which the first has the index 0.
-fn make_all(
+fn make_all<S: Steps>(
     alloc: Global,
-    guest: &Guest,
+    guest: &S,
     run: &mut Replayed,
     steps: &[Step],
 ) -> Result<(), ReplayFault>
-    ensures { AnswersAs ReplayFault.Memory (λ done. run.new) result (replayed_from guest.now 0 run.old steps.now) }
+    ensures { AnswersAs ReplayFault.Memory (λ done. run.new) result (replayed_from (S.program guest.now) 0 run.old steps.now) }
 {
     let mut index = 0u64;
     let mut left = steps;
@@ -73,16 +68,16 @@ fn make_all(
 }
 
 /// Makes one more step in the run, which has this index.
-fn make_next(
+fn make_next<S: Steps>(
     alloc: Global,
-    guest: &Guest,
+    guest: &S,
     index: u64,
     run: &mut Replayed,
     next: &Step,
 ) -> Result<(), ReplayFault>
-    ensures { AnswersAs ReplayFault.Memory (λ done. run.new) result (after_step guest.now index run.old next.now) }
+    ensures { AnswersAs ReplayFault.Memory (λ done. run.new) result (after_step (S.program guest.now) index run.old next.now) }
 {
-    match step(alloc, guest, &mut run.machine, next) {
+    match guest.step(alloc, &mut run.machine, next) {
         Ok(Some(event)) => {
             run.events.push(event)?;
             Ok(())
@@ -97,9 +92,4 @@ fn make_next(
 /// else the step that is told is the first that is not.
 pub fn replays_are_runs()
     ensures runs { ReplaysAreRuns }
-{}
-
-/// A machine has ended exactly where the rules enable no step of any thread, whatever the library answers.
-pub fn ends_where_none_is_enabled()
-    ensures ends { EndsWhereNoneIsEnabled }
 {}

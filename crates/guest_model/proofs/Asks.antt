@@ -1,12 +1,11 @@
 -- What is asked of a machine is what the rules say.
-use Rattle.std.proofs.Common.{◌≡◌, ℕ, ◌&&◌, Bool, true, false, not, cond, List, Option, Some, None, refl, sym, ap, ◌∙◌}
-use Rattle.std.specs.Prelude.{if◌then◌else◌, is_some, option_and_then, option_map, slice_get}
+use Rattle.std.proofs.Common.{◌≡◌, ℕ, ◌&&◌, Bool, true, false, not, cond, List, Option, Some, None, refl, sym, ap}
+use Rattle.std.specs.Prelude.{if◌then◌else◌, is_some, option_and_then, slice_get}
 use Rattle.std.specs.Option.{option_map_or}
 use Rattle.api_listing.specs.declared.events.ApiAnswer.{ApiAnswer}
 use Rattle.api_listing.specs.declared.types.ListedMethod.{ListedMethod}
 use Rattle.bytecode_model.specs.declared.program.Program.{Program}
 use Rattle.guest_heap.specs.declared.frame.Frame.{Frame}
-use Rattle.guest_heap.specs.declared.object.Object.{Object}
 use Rattle.guest_heap.specs.declared.thread.Doing.{Doing}
 use Rattle.guest_heap.specs.declared.thread.Doing.TheVariants as doings
 use Rattle.guest_heap.specs.declared.thread.Thread.{Thread}
@@ -14,17 +13,14 @@ use Rattle.guest_heap.specs.declared.value.Value.{Value}
 use Rattle.guest_model.specs.declared.machine.Choice.{Choice}
 use Rattle.guest_model.specs.declared.machine.Choice.TheVariants as choices
 use Rattle.guest_model.specs.declared.machine.Machine.{Machine}
-use Rattle.guest_model.specs.Answering.{answer_fits, answered, answered_well}
+use Rattle.guest_model.specs.Answering.{answer_fits, answered, answered_well, method_takes}
 use Rattle.guest_model.specs.Calls.{types_of}
 use Rattle.guest_model.specs.Changes.{Change, World}
 use Rattle.guest_model.specs.Enabled.{IsEnabled, MayStep}
 use Rattle.guest_model.specs.Stepping.{is_on_null}
-use Rattle.guest_tables.specs.declared.library.ListedResult.{ListedResult}
-use Rattle.guest_step.specs.Fitting.{method_takes}
-use Rattle.guest_tables.specs.Library.{gives}
-use Rattle.guest_step.specs.Asking.{EnabledAreSteps, FittingAreSteps, doing_takes, is_enabled, takes_answer}
-use Rattle.guest_step.specs.Ending.{can_step}
-use Rattle.guest_step.proofs.Ends.{can_may, may_can}
+use Rattle.guest_model.specs.Asking.{EnabledAreSteps, FittingAreSteps, doing_takes, is_enabled, takes_answer}
+use Rattle.guest_model.specs.Ending.{can_step}
+use Rattle.guest_model.proofs.Ends.{can_may, may_can}
 
 both : (a b : Bool) → (a && b) ≡ true → (a ≡ true) × (b ≡ true)
 both true b is = (refl, is)
@@ -54,25 +50,17 @@ module _ (program : Program) (machine : Machine) (number : ℕ) where
   may_enabled : (choice : Choice) → IsEnabled program machine (record { thread = number; choice = choice }) → is_enabled program machine number ≡ true
   may_enabled choice is = rw (is.runs, is.there) (may_can program machine number is.thread.frames is.thread.doing choice is.may)
 
--- the test of the definition, over the method rather than over what it gives
-over : (program : Program) (heap : List Object) (receiver : Option Value) (arguments : List Value) (answer : ApiAnswer) (o : Option ListedMethod)
-    → option_map_or (λ (listed : ListedMethod). answer_fits program heap (types_of listed.id.desc).result receiver arguments answer) o false
-    ≡ option_map_or (λ (result : ListedResult). answer_fits program heap result.of receiver arguments answer) (option_map (λ (listed : ListedMethod). gives listed.id.desc) o) false
-over program heap receiver arguments answer None = refl
-over program heap receiver arguments answer (Some listed) = refl
-
 module _ (program : Program) (machine : Machine) (number : ℕ) (answer : ApiAnswer) where
   takes_may : (frames : List Frame) (doing : Doing) → doing_takes program machine.heap doing answer ≡ true → MayStep program machine number frames doing (choices.Answer answer)
   takes_may frames doings.Running is = absurd cc
   takes_may frames (doings.InCall method receiver arguments) is =
       let parts = both (not (is_on_null receiver)) _ is in
-      (is_false (is_on_null receiver) parts.0, over program machine.heap receiver arguments answer (slice_get program.listing.methods method) ∙ parts.1)
+      (is_false (is_on_null receiver) parts.0, parts.1)
   takes_may frames doings.Ended is = absurd cc
 
   may_take : (frames : List Frame) (doing : Doing) → MayStep program machine number frames doing (choices.Answer answer) → doing_takes program machine.heap doing answer ≡ true
   may_take frames doings.Running may = absurd may
-  may_take frames (doings.InCall method receiver arguments) may =
-      rw may.0 (sym (over program machine.heap receiver arguments answer (slice_get program.listing.methods method)) ∙ may.1)
+  may_take frames (doings.InCall method receiver arguments) may = rw may.0 may.1
   may_take frames doings.Ended may = absurd may
 
   fits_enabled : takes_answer program machine number answer ≡ true → IsEnabled program machine (record { thread = number; choice = choices.Answer answer })
@@ -104,5 +92,4 @@ pub answered_is : (program : Program) (world : World) (number : ℕ) (thread : T
     → answered program world number thread method receiver arguments answer ≡ (if b then answered_well program world number thread method receiver arguments answer else None)
 answered_is program world number thread method receiver arguments answer b is =
     answered_so (slice_get program.listing.methods method) (λ (listed : ListedMethod). answer_fits program world.heap (types_of listed.id.desc).result receiver arguments answer)
-    (answered_well program world number thread method receiver arguments answer) b
-    (over program world.heap receiver arguments answer (slice_get program.listing.methods method) ∙ sym is)
+    (answered_well program world number thread method receiver arguments answer) b (sym is)

@@ -32,8 +32,8 @@ use Rattle.guest_model.specs.Answering.{answer_fits}
 use Rattle.guest_model.specs.Calling.{is_ended}
 use Rattle.guest_model.specs.Enabled.{MayStep, waits}
 use Rattle.guest_model.specs.Stepping.{is_on_null}
-use Rattle.guest_step.specs.Ending.{EndsWhereNoneIsEnabled, SomeIsEnabled, can_step, end_of, end_of_threads, have_ended, some_can_step}
-use Rattle.type_lattice.proofs.Arrays.{named_described}
+use Rattle.guest_model.specs.Ending.{EndsWhereNoneIsEnabled, SomeIsEnabled, can_step, end_of, end_of_threads, have_ended, some_can_step}
+use Rattle.guest_model.proofs.Described.{named_described}
 
 -- ---- a call takes some answer
 

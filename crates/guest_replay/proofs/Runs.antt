@@ -9,10 +9,10 @@ use Rattle.guest_model.specs.declared.machine.Machine.{Machine}
 use Rattle.guest_model.specs.declared.machine.Step.{Step}
 use Rattle.guest_model.specs.Runs.{exec_from, start_of, trace_from}
 use Rattle.guest_model.specs.Stepping.{stepped}
-use Rattle.guest_step.specs.declared.replaying.Replayed.{Replayed}
-use Rattle.guest_step.specs.declared.replaying.ReplayFault.{ReplayFault}
-use Rattle.guest_step.specs.declared.replaying.ReplayFault.TheVariants as faults
-use Rattle.guest_step.specs.Replaying.{AreMade, ReplaysAreRuns, TellsRun, replayed, replayed_from, run_to}
+use Rattle.guest_replay.specs.declared.replaying.Replayed.{Replayed}
+use Rattle.guest_replay.specs.declared.replaying.ReplayFault.{ReplayFault}
+use Rattle.guest_replay.specs.declared.replaying.ReplayFault.TheVariants as faults
+use Rattle.guest_replay.specs.Replaying.{AreMade, ReplaysAreRuns, TellsRun, replayed, replayed_from, run_to}
 
 -- ---- from any machine
 

@@ -10,10 +10,10 @@ use Rattle.guest_heap.specs.declared.thread.Thread.{Thread}
 use Rattle.guest_model.specs.declared.machine.Choice.{Choice}
 use Rattle.guest_model.specs.declared.machine.Choice.TheVariants as choices
 use Rattle.guest_model.specs.declared.machine.Machine.{Machine}
+use Rattle.guest_model.specs.Answering.{method_takes}
 use Rattle.guest_model.specs.Enabled.{IsEnabled}
+use Rattle.guest_model.specs.Ending.{can_step}
 use Rattle.guest_model.specs.Stepping.{is_on_null}
-use Rattle.guest_step.specs.Fitting.{method_takes}
-use Rattle.guest_step.specs.Ending.{can_step}
 
 -- whether the thread with this number can, if there is one and the program goes on
 abbrev pub is_enabled : Program → Machine → ℕ → Bool

@@ -8,9 +8,9 @@ use Rattle.guest_model.specs.declared.machine.Machine.{Machine}
 use Rattle.guest_model.specs.declared.machine.Step.{Step}
 use Rattle.guest_model.specs.Runs.{start_of, exec, trace}
 use Rattle.guest_model.specs.Stepping.{stepped}
-use Rattle.guest_step.specs.declared.replaying.Replayed.{Replayed}
-use Rattle.guest_step.specs.declared.replaying.ReplayFault.{ReplayFault}
-use Rattle.guest_step.specs.declared.replaying.ReplayFault.TheVariants as faults
+use Rattle.guest_replay.specs.declared.replaying.Replayed.{Replayed}
+use Rattle.guest_replay.specs.declared.replaying.ReplayFault.{ReplayFault}
+use Rattle.guest_replay.specs.declared.replaying.ReplayFault.TheVariants as faults
 
 -- ---- the recursion
 

@@ -1,7 +1,7 @@
 //! Why a step is not made.
 
 ghost use Rattle.std.specs.Prelude.{◌≡◌};
-ghost use Rattle.guest_threads.specs.declared.fault.StepFault.TheVariants as faults;
+ghost use Rattle.guest_model.specs.declared.fault.StepFault.TheVariants as faults;
 
 use mon_base::NoMemory;
 use thiserror::Error;

@@ -1,9 +1,9 @@
--- What a call did, beside what the machine's definition says. (docs/MACHINE.md)
+-- What a step did that is made in place, beside what the machine's definition says. (docs/MACHINE.md)
 use Rattle.std.specs.Prelude.{◌≡◌, Option, Some, None, Result, Ok, Err}
 use Rattle.api_listing.specs.declared.events.Event.{Event}
+use Rattle.guest_model.specs.declared.fault.StepFault.{StepFault}
+use Rattle.guest_model.specs.declared.fault.StepFault.TheVariants as faults
 use Rattle.guest_model.specs.declared.machine.Machine.{Machine}
-use Rattle.guest_threads.specs.declared.fault.StepFault.{StepFault}
-use Rattle.guest_threads.specs.declared.fault.StepFault.TheVariants as faults
 
 -- The step was made, as the definition says, and the library saw this; or it is not enabled, or memory ran out, and the
 -- machine is as it was.
@@ -11,9 +11,3 @@ abbrev pub Did : Result (Option Event) StepFault → Machine → Machine → Opt
 Did (Ok event) old new made = made ≡ Some (new, event)
 Did (Err faults.NotEnabled) old new made = (made ≡ None) × (new ≡ old)
 Did (Err faults.Memory) old new made = new ≡ old
-
--- The same of a part of the machine.
-abbrev pub Becomes : {A : Type 0} → Result (Unit {0}) StepFault → A → A → Option A → Type 0
-Becomes (Ok done) old new made = made ≡ Some new
-Becomes (Err faults.NotEnabled) old new made = (made ≡ None) × (new ≡ old)
-Becomes (Err faults.Memory) old new made = new ≡ old

@@ -1,5 +1,0 @@
-use Rattle.guest_step.proofs.Ends.{ends_where_none_is_enabled}
-use Rattle.guest_step.proofs.replaying.ends_where_none_is_enabled.Goals as goal
-
-pub returns : goal.returns
-returns c = record { ends = ends_where_none_is_enabled }

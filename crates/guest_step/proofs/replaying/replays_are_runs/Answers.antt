@@ -1,5 +1,0 @@
-use Rattle.guest_step.proofs.Runs.{replays_are_runs}
-use Rattle.guest_step.proofs.replaying.replays_are_runs.Goals as goal
-
-pub returns : goal.returns
-returns c = record { runs = replays_are_runs }
