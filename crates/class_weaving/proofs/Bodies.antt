@@ -12,7 +12,8 @@ use Rattle.offset_patch.specs.declared.block.Block.{Block}
 use Rattle.offset_patch.specs.declared.block.BlockInsn.{BlockInsn}
 use Rattle.offset_patch.specs.Plan.{Plan}
 use Rattle.offset_patch.specs.Splicing.{fronts_of, parts_from, put, spliced}
-use Rattle.class_weaving.specs.Outcome.{IsWovenMethod, at_fronts, handlers_with, own_handlers, part_named, parts_named}
+use Rattle.offset_patch.specs.Splicing.{at_fronts, handlers_with, own_handlers, part_named, parts_named}
+use Rattle.class_weaving.specs.Outcome.{IsWovenMethod}
 use Rattle.class_weaving.specs.Woven.{is_woven, sites_of}
 use Rattle.class_weaving.proofs.Parts as parts
 use Rattle.class_weaving.proofs.Unwoven.{AreAlone, all_alone, front_alone, handlers_same, insns_alone, named_alone, own_alone}

@@ -12,7 +12,7 @@ use Rattle.bytecode_model.specs.declared.program.Target.{Target}
 use Rattle.offset_patch.specs.declared.block.BlockInsn.{BlockInsn}
 use Rattle.offset_patch.specs.Plan.{Plan}
 use Rattle.offset_patch.specs.Splicing.{fronts_from, part_of, parts_from, put}
-use Rattle.class_weaving.specs.Outcome.{part_named, parts_named}
+use Rattle.offset_patch.specs.Splicing.{part_named, parts_named}
 use Rattle.class_weaving.proofs.Lists.{get_left, get_right}
 
 module _ (plan : Plan) (base : ℕ) where

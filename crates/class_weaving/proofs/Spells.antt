@@ -22,7 +22,7 @@ use Rattle.conspec_tree.specs.declared.types.Var.{Var}
 use Rattle.offset_patch.specs.declared.fault.SpliceFault.{SpliceFault}
 use Rattle.mon_base.specs.Answer.{Answers}
 use Rattle.offset_patch.specs.declared.fault.SpliceFault.TheVariants as faults
-use Rattle.offset_patch.specs.Fault.{Spliced}
+use Rattle.offset_patch.specs.Fault.{Fitting}
 use Rattle.offset_patch.specs.Splicing.{grown, wants_of, fronts_of}
 use Rattle.offset_patch.proofs.Lists.{all_append}
 use Rattle.offset_patch.proofs.PoolFits.{code_on, member_on, attrs_on, index_on, counted_on, each_on, read_on}
@@ -36,7 +36,7 @@ use Rattle.class_weaving.specs.declared.woven.Members.{Members}
 use Rattle.class_weaving.specs.declared.woven.Woven.{Woven}
 use Rattle.class_weaving.proofs.CodeCases.{with_blocks, IsPut, code_cases}
 use Rattle.class_weaving.proofs.FirstCode.{first_fits}
-use Rattle.class_weaving.specs.Woven.{WovenCode, folded, is_woven, sites_of, locals_of, code_woven, first_code, attr_with, member_with, bare_put, code_put, body_woven, member_woven, members_woven, none_made, file_with, file_put, class_woven, classes_woven, state_put, woven}
+use Rattle.class_weaving.specs.Woven.{WovenCode, folded, is_woven, sites_of, locals_of, code_woven, first_code, attr_with, member_with, bare_put, code_put, body_woven, member_woven, members_woven, none_made, file_with, file_put, class_woven, classes_woven, nothing_woven, state_put, woven}
 
 -- ---- the code of a method
 
@@ -44,12 +44,12 @@ use Rattle.class_weaving.specs.Woven.{WovenCode, folded, is_woven, sites_of, loc
 record IsCode (pool : List Const) (code : Code) (w : WovenCode) : Type 0 where
   grown : (more : List Const) × (w.entries ≡ pool ++ more)
   pool_fits : FitsPool w.entries
-  code_fits : FitsCode w.entries w.code
-  named : w.code.name ≡ code.name
+  code_fits : FitsCode w.entries w.made.code
+  named : w.made.code.name ≡ code.name
 
-put_fits : (kinds : List Bool) (plan : Plan) (good : IsGood kinds plan) (class : List ℕ) (number : ℕ) (pool : List Const) (method : Method) (code : Code) → FitsPool pool → FitsCode pool code → IsSoundMethod method
-    → is_woven plan method ≡ true → (new : Code) → IsPut plan class number pool method code new → IsCode pool code (with_blocks plan pool method code new)
-put_fits kinds plan good class number pool method code p h sound some new put =
+put_fits : (kinds : List Bool) (plan : Plan) (good : IsGood kinds plan) (state : ℕ) (class : List ℕ) (number : ℕ) (pool : List Const) (method : Method) (code : Code) → FitsPool pool → FitsCode pool code → IsSoundMethod method
+    → is_woven plan method ≡ true → (new : Code) → IsPut plan state class number pool method code new → IsCode pool code (with_blocks plan state pool method code new)
+put_fits kinds plan good state class number pool method code p h sound some new put =
     let locals = locals_of plan method in
     let sites = sites_of plan code.max_locals method in
     let all = grown pool sites in
@@ -70,10 +70,10 @@ put_fits kinds plan good class number pool method code p h sound some new put =
       named = code_named class number all method code locals sites new put.1;
     }
 
-woven_fits : (kinds : List Bool) (plan : Plan) (good : IsGood kinds plan) (class : List ℕ) (number : ℕ) (pool : List Const) (method : Method) (code : Code) (w : WovenCode) → FitsPool pool → FitsCode pool code → IsSoundMethod method
-    → code_woven plan class number pool method code ≡ Ok w → IsCode pool code w
-woven_fits kinds plan good class number pool method code w p h sound =
-    code_cases plan class number pool method code (IsCode pool code) w (put_fits kinds plan good class number pool method code p h sound)
+woven_fits : (kinds : List Bool) (plan : Plan) (good : IsGood kinds plan) (state : ℕ) (class : List ℕ) (number : ℕ) (pool : List Const) (method : Method) (code : Code) (w : WovenCode) → FitsPool pool → FitsCode pool code → IsSoundMethod method
+    → code_woven plan state class number pool method code ≡ Ok w → IsCode pool code w
+woven_fits kinds plan good state class number pool method code w p h sound =
+    code_cases plan state class number pool method code (IsCode pool code) w (put_fits kinds plan good state class number pool method code p h sound)
     (λ none. record { grown = ([], sym (append-nil pool)); pool_fits = p; code_fits = h; named = refl })
 
 -- ---- members
@@ -96,26 +96,27 @@ record IsMade (pool : List Const) (made : Members) : Type 0 where
   fits : FitsPool made.entries
   items : AllByRecursion (FitsMember made.entries true) made.items
 
-bare_fits : (pool : List Const) (made : Members) (member : Member) → IsMade pool made → FitsMember pool true member → IsMade pool (bare_put made member)
-bare_fits pool made member m h =
+bare_fits : (pool : List Const) (made : Members) (member : Member) (method : Option Method) → IsMade pool made → FitsMember pool true member
+    → IsMade pool (bare_put made member method)
+bare_fits pool made member method m h =
     let here = subst (λ (q : List Const). FitsMember q true member) (sym m.grown.1) (member_on pool m.grown.0 true member h) in
     record { grown = m.grown; fits = m.fits; items = all_append (FitsMember made.entries true) made.items (member ∷ []) m.items (here, tt) }
 
-coded_fits : (kinds : List Bool) (plan : Plan) (good : IsGood kinds plan) (class : List ℕ) (pool : List Const) (made : Members) (member : Member) (method : Method) (code : Code) (w : WovenCode) → IsMade pool made → FitsMember pool true member
-    → IsSoundMethod method → first_code member.attrs ≡ Some code → code_woven plan class made.number made.entries method code ≡ Ok w → IsMade pool (code_put made member w)
-coded_fits kinds plan good class pool made member method code w m h sound first e =
+coded_fits : (kinds : List Bool) (plan : Plan) (good : IsGood kinds plan) (state : ℕ) (class : List ℕ) (pool : List Const) (made : Members) (member : Member) (method : Method) (code : Code) (w : WovenCode) → IsMade pool made → FitsMember pool true member
+    → IsSoundMethod method → first_code member.attrs ≡ Some code → code_woven plan state class made.number made.entries method code ≡ Ok w → IsMade pool (code_put made member w)
+coded_fits kinds plan good state class pool made member method code w m h sound first e =
     let here = subst (λ (q : List Const). FitsMember q true member) (sym m.grown.1) (member_on pool m.grown.0 true member h) in
     let old = first_fits made.entries member.attrs code here.attrs.each first in
-    let c = woven_fits kinds plan good class made.number made.entries method code w m.fits old.1 sound e in
+    let c = woven_fits kinds plan good state class made.number made.entries method code w m.fits old.1 sound e in
     let more = c.grown.0 in
     let on = λ (x : Member) (f : FitsMember made.entries true x). subst (λ (q : List Const). FitsMember q true x) (sym c.grown.1) (member_on made.entries more true x f) in
-    let read : is_read_as_code w.entries true w.code.name ≡ true =
+    let read : is_read_as_code w.entries true w.made.code.name ≡ true =
     ap (is_read_as_code w.entries true) c.named ∙ ap (λ (q : List Const). is_read_as_code q true code.name) c.grown.1 ∙ read_on made.entries more true true code.name old.1.name.named old.0 in
-    let one = with_fits w.entries member w.code (on member here) (read, c.code_fits) in
+    let one = with_fits w.entries member w.made.code (on member here) (read, c.code_fits) in
     record {
       grown = (m.grown.0 ++ more, c.grown.1 ∙ ap (λ (q : List Const). q ++ more) m.grown.1 ∙ append_assoc pool m.grown.0 more);
       fits = c.pool_fits;
-      items = all_append (FitsMember w.entries true) made.items (member_with member w.code ∷ [])
+      items = all_append (FitsMember w.entries true) made.items (member_with member w.made.code ∷ [])
           (each_on (FitsMember made.entries true) (FitsMember w.entries true) on made.items m.items) (one, tt);
     }
 
@@ -126,33 +127,33 @@ all_at P (y ∷ xs) zero x h e =
     subst P is h.0
 all_at P (y ∷ xs) (suc i) x h e = all_at P xs i x h.1 e
 
-body_fits : (kinds : List Bool) (plan : Plan) (good : IsGood kinds plan) (class : List ℕ) (pool : List Const) (made next : Members) (member : Member) (methods : List Method) → IsMade pool made → FitsMember pool true member
+body_fits : (kinds : List Bool) (plan : Plan) (good : IsGood kinds plan) (state : ℕ) (class : List ℕ) (pool : List Const) (made next : Members) (member : Member) (methods : List Method) → IsMade pool made → FitsMember pool true member
     → AllByRecursion IsSoundMethod methods → (m : Option Method) (c : Option Code) → slice_get methods made.number ≡ m → first_code member.attrs ≡ c
-    → body_woven plan class made member m c ≡ Ok next → IsMade pool next × (length next.items ≡ length made.items + 1)
-body_fits kinds plan good class pool made next member methods i h sound (Some method) (Some code) m c e =
-    let one = bind_ok (code_woven plan class made.number made.entries method code) (λ w. Ok (code_put made member w)) next e in
+    → body_woven plan state class made member m c ≡ Ok next → IsMade pool next × (length next.items ≡ length made.items + 1)
+body_fits kinds plan good state class pool made next member methods i h sound (Some method) (Some code) m c e =
+    let one = bind_ok (code_woven plan state class made.number made.entries method code) (λ w. Ok (code_put made member w)) next e in
     let is : code_put made member one.0 ≡ next = ok_is SpliceFault (code_put made member one.0) next one.2 in
     let P : Members → Type 0 = λ x. IsMade pool x × (length x.items ≡ length made.items + 1) in
-    subst P is (coded_fits kinds plan good class pool made member method code one.0 i h (all_at IsSoundMethod methods made.number method sound m) c one.1, length-append made.items (member_with member one.0.code ∷ []))
-body_fits kinds plan good class pool made next member methods i h sound None c m d e =
-    let is : bare_put made member ≡ next = ok_is SpliceFault (bare_put made member) next e in
+    subst P is (coded_fits kinds plan good state class pool made member method code one.0 i h (all_at IsSoundMethod methods made.number method sound m) c one.1, length-append made.items (member_with member one.0.made.code ∷ []))
+body_fits kinds plan good state class pool made next member methods i h sound None c m d e =
+    let is : bare_put made member None ≡ next = ok_is SpliceFault (bare_put made member None) next e in
     let P : Members → Type 0 = λ x. IsMade pool x × (length x.items ≡ length made.items + 1) in
-    subst P is (bare_fits pool made member i h, length-append made.items (member ∷ []))
-body_fits kinds plan good class pool made next member methods i h sound (Some method) None m d e =
-    let is : bare_put made member ≡ next = ok_is SpliceFault (bare_put made member) next e in
+    subst P is (bare_fits pool made member None i h, length-append made.items (member ∷ []))
+body_fits kinds plan good state class pool made next member methods i h sound (Some method) None m d e =
+    let is : bare_put made member (Some method) ≡ next = ok_is SpliceFault (bare_put made member (Some method)) next e in
     let P : Members → Type 0 = λ x. IsMade pool x × (length x.items ≡ length made.items + 1) in
-    subst P is (bare_fits pool made member i h, length-append made.items (member ∷ []))
+    subst P is (bare_fits pool made member (Some method) i h, length-append made.items (member ∷ []))
 
-members_fit : (kinds : List Bool) (plan : Plan) (good : IsGood kinds plan) (class : LinkedClass) (pool : List Const) (made last : Members) (members : List Member) → AllByRecursion IsSoundMethod class.methods → IsMade pool made
-    → AllByRecursion (FitsMember pool true) members → folded (member_woven plan class) made members ≡ Ok last → IsMade pool last × (length last.items ≡ length made.items + length members)
-members_fit kinds plan good class pool made last [] sound i h e =
+members_fit : (kinds : List Bool) (plan : Plan) (good : IsGood kinds plan) (state : ℕ) (class : LinkedClass) (pool : List Const) (made last : Members) (members : List Member) → AllByRecursion IsSoundMethod class.methods → IsMade pool made
+    → AllByRecursion (FitsMember pool true) members → folded (member_woven plan state class) made members ≡ Ok last → IsMade pool last × (length last.items ≡ length made.items + length members)
+members_fit kinds plan good state class pool made last [] sound i h e =
     let is : made ≡ last = ok_is SpliceFault made last e in
     let P : Members → Type 0 = λ x. IsMade pool x × (length x.items ≡ length made.items + 0) in
     subst P is (i, omega arith)
-members_fit kinds plan good class pool made last (member ∷ members) sound i h e =
-    let one = bind_ok (member_woven plan class made member) (λ next. folded (member_woven plan class) next members) last e in
-    let here = body_fits kinds plan good class.name pool made one.0 member class.methods i h.0 sound (slice_get class.methods made.number) (first_code member.attrs) refl refl one.1 in
-    let later = members_fit kinds plan good class pool one.0 last members sound here.0 h.1 one.2 in
+members_fit kinds plan good state class pool made last (member ∷ members) sound i h e =
+    let one = bind_ok (member_woven plan state class made member) (λ next. folded (member_woven plan state class) next members) last e in
+    let here = body_fits kinds plan good state class.name pool made one.0 member class.methods i h.0 sound (slice_get class.methods made.number) (first_code member.attrs) refl refl one.1 in
+    let later = members_fit kinds plan good state class pool one.0 last members sound here.0 h.1 one.2 in
     (later.0, omega (arith, here.1, later.1))
 
 -- ---- classes
@@ -178,31 +179,31 @@ file_fits file made h m count =
 none_fits : (pool : List Const) → FitsPool pool → IsMade pool (none_made pool)
 none_fits pool p = record { grown = ([], sym (append-nil pool)); fits = p; items = tt }
 
-classes_fit : (kinds : List Bool) (plan : Plan) (good : IsGood kinds plan) (made last : Woven) (classes : List LinkedClass) → AllByRecursion IsSoundClass classes → AllByRecursion CanSpell made.files
-    → folded (class_woven plan) made classes ≡ Ok last → AllByRecursion CanSpell last.files
-classes_fit kinds plan good made last [] sound h e = subst (λ (x : Woven). AllByRecursion CanSpell x.files) (ok_is SpliceFault made last e) h
-classes_fit kinds plan good made last (class ∷ classes) sound h e =
-    let one = bind_ok (class_woven plan made class) (λ next. folded (class_woven plan) next classes) last e in
-    let two = bind_ok (members_woven plan class (none_made class.file.pool) class.file.methods) (λ done. Ok (file_put made class done)) one.0 one.1 in
+classes_fit : (kinds : List Bool) (plan : Plan) (good : IsGood kinds plan) (state : ℕ) (made last : Woven) (classes : List LinkedClass) → AllByRecursion IsSoundClass classes → AllByRecursion CanSpell made.files
+    → folded (class_woven plan state) made classes ≡ Ok last → AllByRecursion CanSpell last.files
+classes_fit kinds plan good state made last [] sound h e = subst (λ (x : Woven). AllByRecursion CanSpell x.files) (ok_is SpliceFault made last e) h
+classes_fit kinds plan good state made last (class ∷ classes) sound h e =
+    let one = bind_ok (class_woven plan state made class) (λ next. folded (class_woven plan state) next classes) last e in
+    let two = bind_ok (members_woven plan state class (none_made class.file.pool) class.file.methods) (λ done. Ok (file_put made class done)) one.0 one.1 in
     let fits = sound.0.fits in
-    let all = members_fit kinds plan good class class.file.pool (none_made class.file.pool) two.0 class.file.methods sound.0.methods (none_fits class.file.pool fits.pool) fits.methods.each two.1 in
+    let all = members_fit kinds plan good state class class.file.pool (none_made class.file.pool) two.0 class.file.methods sound.0.methods (none_fits class.file.pool fits.pool) fits.methods.each two.1 in
     let file = file_fits class.file two.0 fits all.0 (all.1 ∙ omega arith) in
     let is : file_put made class two.0 ≡ one.0 = ok_is SpliceFault (file_put made class two.0) one.0 two.2 in
     let here : AllByRecursion CanSpell (file_put made class two.0).files = all_append CanSpell made.files (file_with class.file two.0.entries two.0.items ∷ []) h (file, tt) in
-    classes_fit kinds plan good one.0 last classes sound.1 (subst (λ (x : Woven). AllByRecursion CanSpell x.files) is here) one.2
+    classes_fit kinds plan good state one.0 last classes sound.1 (subst (λ (x : Woven). AllByRecursion CanSpell x.files) is here) one.2
 
 -- ---- the program
 
 pub woven_spells : (program : Program) (plan : Plan) (vars : List Var) (w : Woven) → IsSound program → IsGood (map (λ (v : Var). v.is_bool) vars) plan → length vars ≤ 16
     → AllByRecursion (λ (v : Var). FitsSigned w32 v.first) vars → woven program plan vars ≡ Ok w → AllByRecursion CanSpell w.files
 woven_spells program plan vars w sound good few firsts e =
-    let none : Woven = record { files = []; origins = [] } in
-    let one = bind_ok (classes_woven plan none program.classes) (λ made. Ok (state_put vars made)) w e in
+    let state = length program.classes in
+    let one = bind_ok (classes_woven plan state nothing_woven program.classes) (λ made. Ok (state_put vars made)) w e in
     let is : state_put vars one.0 ≡ w = ok_is SpliceFault (state_put vars one.0) w one.2 in
-    let all = classes_fit (map (λ (v : Var). v.is_bool) vars) plan good none one.0 program.classes sound.classes tt one.1 in
+    let all = classes_fit (map (λ (v : Var). v.is_bool) vars) plan good state nothing_woven one.0 program.classes sound.classes tt one.1 in
     subst (λ (x : Woven). AllByRecursion CanSpell x.files) is (all_append CanSpell one.0.files (state_file vars ∷ []) all (state_fits vars few firsts, tt))
 
-pub spells_if : (program : Program) (plan : Plan) (vars : List Var) (r : Spliced Woven) → IsSound program → IsGood (map (λ (v : Var). v.is_bool) vars) plan → length vars ≤ 16
+pub spells_if : (program : Program) (plan : Plan) (vars : List Var) (r : Fitting Woven) → IsSound program → IsGood (map (λ (v : Var). v.is_bool) vars) plan → length vars ≤ 16
     → Answers faults.Memory r (woven program plan vars) → AllByRecursion (λ (v : Var). FitsSigned w32 v.first) vars → IfOk r (λ w. AllByRecursion CanSpell w.files)
 spells_if program plan vars (Ok w) sound good few told firsts = woven_spells program plan vars w sound good few firsts told
 spells_if program plan vars (Err e) sound good few told firsts = tt

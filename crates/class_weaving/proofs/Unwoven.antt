@@ -14,7 +14,7 @@ use Rattle.offset_patch.specs.declared.block.BlockInsn.{BlockInsn}
 use Rattle.offset_patch.specs.declared.block.BlockInsn.TheVariants.{Call}
 use Rattle.offset_patch.specs.Plan.{Plan}
 use Rattle.offset_patch.specs.Splicing.{fronts_of, aimed, part_of, put, parts_from}
-use Rattle.class_weaving.specs.Outcome.{at_fronts, own_handlers, part_named, parts_named, site_handlers}
+use Rattle.offset_patch.specs.Splicing.{at_fronts, own_handlers, part_named, parts_named, site_handlers}
 use Rattle.class_weaving.proofs.Parts.{part, before, front_is}
 
 neither_or : (a b : Bool) → (a || b) ≡ false → (a ≡ false) × (b ≡ false)

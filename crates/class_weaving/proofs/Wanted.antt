@@ -12,7 +12,7 @@ use Rattle.bytecode_model.specs.Operands.{id_at}
 use Rattle.offset_patch.specs.declared.block.PoolWant.{PoolWant}
 use Rattle.offset_patch.specs.declared.block.PoolWant.TheVariants as wants
 use Rattle.offset_patch.specs.Entries.{Placed, entry, text, class, name_and_type, state_name, variable_name, variable_type, wanted, place_in, IsThere}
-use Rattle.class_weaving.specs.Outcome.{way_out}
+use Rattle.offset_patch.specs.Splicing.{way_out}
 use Rattle.offset_patch.proofs.EntryFits.{entry_is}
 use Rattle.offset_patch.proofs.PoolFits.{get_on}
 use Rattle.offset_patch.proofs.Steady.{IsSteady, steady_text, steady_class_at, steady_name_and_type_at, steady_name_and_type, steady_field_at, steady_method_at, steady_wanted}

@@ -7,7 +7,7 @@ use Rattle.bytecode_model.specs.Sound.{IsWithin}
 use Rattle.offset_patch.specs.declared.block.Block.{Block}
 use Rattle.offset_patch.specs.Fits.{IsSite}
 use Rattle.offset_patch.specs.Splicing.{fronts_of, part_of}
-use Rattle.class_weaving.specs.Outcome.{at_fronts}
+use Rattle.offset_patch.specs.Splicing.{at_fronts}
 
 -- A client's handler, with its bounds at their fronts, covers each instruction of the part of a client's instruction exactly where
 -- it covered that instruction.

@@ -1,7 +1,6 @@
 -- What class files that were woven link to: the classes of the program, in which each instruction to which the plan gives a
 -- block stands in it, and behind them conspec/State. (docs/BLOCKS.md)
-use Rattle.mon_base.specs.declared.method.MethodId.{MethodId}
-use Rattle.std.specs.Prelude.{◌≡◌, ◌≢◌, ℕ, ◌+◌, true, false, codes, if◌then◌else◌, List, [], ◌∷◌, ◌++◌, length, map, slice_index, Contains, Option, Some, None, ⊤}
+use Rattle.std.specs.Prelude.{◌≡◌, ◌≢◌, ℕ, ◌+◌, true, false, if◌then◌else◌, List, [], ◌∷◌, ◌++◌, length, Contains, Some, ⊤}
 use Rattle.std.specs.List.{AllByRecursion}
 use Rattle.class_codec.specs.declared.tree.Attr.{Attr}
 use Rattle.class_codec.specs.declared.tree.Attr.TheVariants as attributes
@@ -14,9 +13,6 @@ use Rattle.bytecode_model.specs.declared.program.Target.{Target}
 use Rattle.bytecode_model.specs.declared.program.Target.TheVariants as target
 use Rattle.bytecode_model.specs.Heads.{head_of}
 use Rattle.class_codec.specs.Pool.{reference_at}
-use Rattle.offset_patch.specs.declared.block.Block.{Block}
-use Rattle.offset_patch.specs.declared.block.BlockInsn.{BlockInsn}
-use Rattle.offset_patch.specs.declared.block.BlockInsn.TheVariants.{Plain, Byte, Short, Local, Want, Jump, Call}
 use Rattle.offset_patch.specs.declared.block.PoolWant.{PoolWant}
 use Rattle.offset_patch.specs.declared.block.PoolWant.TheVariants as wants
 use Rattle.bytecode_model.specs.declared.program.Handler.{Handler}
@@ -24,7 +20,8 @@ use Rattle.bytecode_model.specs.declared.program.LinkedClass.{LinkedClass}
 use Rattle.bytecode_model.specs.declared.program.Method.{Method}
 use Rattle.bytecode_model.specs.declared.program.Program.{Program}
 use Rattle.offset_patch.specs.Entries.{state_name, place_in, with_wants}
-use Rattle.offset_patch.specs.Splicing.{attrs_spliced, call_place, part_of, fronts_of, spliced, wants_of, operands_needed}
+use Rattle.offset_patch.specs.Splicing.{attrs_spliced, handlers_with, operands_needed, parts_named, spliced, wants_of}
+pub use Rattle.offset_patch.specs.Splicing.{at_fronts, handlers_by, own_handler, own_handlers, part_named, site_handlers, way_out}
 use Rattle.offset_patch.specs.Plan.{Plan}
 use Rattle.conspec_tree.specs.declared.types.Var.{Var}
 use Rattle.class_weaving.specs.State.{state_file}
@@ -49,71 +46,8 @@ stack_woven plan method = if is_woven plan method then method.max_stack + operan
 abbrev pub locals_woven : Plan → Method → ℕ
 locals_woven plan method = if is_woven plan method then method.max_locals + locals_of plan method else method.max_locals
 
--- the handler with its bounds and its target at their fronts
-abbrev pub at_fronts : List ℕ → Handler → Handler
-at_fronts fronts handler = record {
-  from = slice_index fronts handler.from;
-  to = slice_index fronts handler.to;
-  at = slice_index fronts handler.at;
-  class = handler.class;
-}
-
--- A block that begins at `begin` catches at this place of it what its call throws, of any class.
-abbrev pub own_handler : ℕ → List BlockInsn → ℕ → Handler
-own_handler begin insns place = record { from = begin + call_place insns; to = begin + call_place insns + 1; at = begin + place; class = None }
-
-abbrev pub handlers_by : ℕ → List BlockInsn → Option ℕ → List Handler
-handlers_by begin insns None = []
-handlers_by begin insns (Some place) = own_handler begin insns place ∷ []
-
-abbrev pub site_handlers : ℕ → Option Block → List Handler
-site_handlers begin None = []
-site_handlers begin (Some block) = handlers_by begin block.insns block.handler
-
--- those of the blocks, where the part of the first instruction begins at `begin`
-abbrev pub own_handlers : ℕ → List (Option Block) → List Handler
-own_handlers begin [] = []
-own_handlers begin (site ∷ sites) = site_handlers begin site ++ own_handlers (begin + length (part_of site)) sites
-
--- The blocks' handlers come first.
-abbrev pub handlers_with : List (Option Block) → List Handler → List Handler
-handlers_with sites handlers = own_handlers 0 sites ++ map (at_fronts (fronts_of sites)) handlers
-
 abbrev pub handlers_woven : Plan → Method → List Handler
 handlers_woven plan method = if is_woven plan method then handlers_with (sites_of plan method.max_locals method) method.handlers else method.handlers
-
--- ---- what operands name
-
--- the method that stops the program
-abbrev pub way_out : MethodId
-way_out = record { class = codes "java/lang/System"; name = codes "exit"; desc = codes "(I)V" }
-
--- the place of that method in the table of the built-in ones
-abbrev pub way_out_index : ℕ
-way_out_index = 7
-
--- what an entry that a block names is, where conspec/State is the class of the index `state`
-abbrev pub want_named : ℕ → PoolWant → Target
-want_named state wants.StateClass = target.ClassName state_name
-want_named state (wants.StateField var is_bool) = target.Field state var
-want_named state wants.Exit = target.Builtin way_out_index
-want_named state (wants.Integer n) = target.Number n
-
--- what the operand of an instruction of a part names, where that of the client's instruction names `own`
-abbrev pub part_named : ℕ → Target → BlockInsn → Target
-part_named state own (Want op want) = want_named state want
-part_named state own Call = own
-part_named state own (Plain op) = target.None
-part_named state own (Byte n) = target.None
-part_named state own (Short n) = target.None
-part_named state own (Local op slot wide) = target.None
-part_named state own (Jump op place) = target.None
-
--- the operands of the parts one after another
-abbrev pub parts_named : ℕ → List Target → List (Option Block) → List Target
-parts_named state [] sites = []
-parts_named state (own ∷ refs) [] = []
-parts_named state (own ∷ refs) (site ∷ sites) = map (part_named state own) (part_of site) ++ parts_named state refs sites
 
 abbrev pub refs_woven : Plan → ℕ → Method → List Target
 refs_woven plan state method =

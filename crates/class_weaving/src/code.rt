@@ -9,38 +9,54 @@ ghost use Rattle.bytecode_model.specs.Sound.{IsSoundMethod};
 ghost use Rattle.mon_base.specs.Answer.{AnswersAs};
 ghost use Rattle.offset_patch.specs.Fits.{IsSite};
 ghost use Rattle.class_weaving.specs.Known.{AreMade};
-ghost use Rattle.class_weaving.specs.Woven.{is_woven, sites_of, most_locals, locals_of, clients_from, with_blocks, blocks_put, code_woven};
+ghost use Rattle.class_weaving.specs.Woven.{is_woven, sites_of, most_locals, locals_of, clients_from, as_it_is};
+ghost use Rattle.class_weaving.specs.Woven.{with_blocks, blocks_put, code_woven};
 
 use bytecode_model::{Method, Origin, Target};
-use class_codec::{Code, copy_list};
+use class_codec::{Code, Copied, copy_list};
 use insn_codec::Insn;
 use mon_base::{Bytes, List, NoMemory};
-use offset_patch::{Block, Entries, Planner, SpliceFault, origins_of, room, splice};
+use offset_patch::{Block, Entries, Planner, SpliceFault, Spliced, room, splice};
 use std::alloc::Global;
 use std::collections::BTreeMap;
 
-/// The code of a method with its blocks, and where its instructions come from. The constants that the blocks need are added.
+/// A method with its blocks, and its code. The constants that the blocks need are added.
 pub fn code_woven<P: Planner>(
     alloc: Global,
     planner: &P,
+    state: u32,
     class: &Bytes,
     number: u32,
     entries: &mut Entries,
     method: &Method,
     code: &Code,
-) -> Result<(Code, List<Origin>), SpliceFault>
+) -> Result<Spliced, SpliceFault>
     requires method { IsSoundMethod method.now }
     requires pool { length entries.old < 2 ^ 16 }
-    ensures is { AnswersAs SpliceFault.Memory (λ made. record { code = made.0; entries = entries.new; origins = made.1 }) result
-        (code_woven (P.plan planner.now) class.now number entries.old method.now code.now) }
+    ensures is { AnswersAs SpliceFault.Memory (λ made. record { made = made; entries = entries.new }) result
+        (code_woven (P.plan planner.now) state class.now number entries.old method.now code.now) }
     ensures pool { OnOk result (length entries.new < 2 ^ 16) }
 {
     if is_woven(planner, method) {
-        return blocks_put(alloc, planner, class, number, entries, method, code);
+        return blocks_put(alloc, planner, state, class, number, entries, method, code);
     }
-    let code = copy_code(alloc, code)?;
+    let made = as_it_is(alloc, method, code)?;
+    Ok(made)
+}
+
+/// A method without a block stays as it is.
+fn as_it_is(alloc: Global, method: &Method, code: &Code) -> Result<Spliced, NoMemory>
+    requires { length method.now.insns < 2 ^ 16 }
+    ensures { IfOk result (λ made. made ≡ as_it_is method.now code.now) }
+{
     let origins = clients(alloc, method.insns.as_slice())?;
-    Ok((code, origins))
+    let code = copy_code(alloc, code)?;
+    let method = method.copy(alloc)?;
+    Ok(Spliced {
+        method,
+        origins,
+        code,
+    })
 }
 
 /// Whether one of the instructions has a block.
@@ -57,15 +73,16 @@ pub fn is_woven<P: Planner>(planner: &P, method: &Method) -> bool
 fn blocks_put<P: Planner>(
     alloc: Global,
     planner: &P,
+    state: u32,
     class: &Bytes,
     number: u32,
     entries: &mut Entries,
     method: &Method,
     code: &Code,
-) -> Result<(Code, List<Origin>), SpliceFault>
+) -> Result<Spliced, SpliceFault>
     requires { IsSoundMethod method.now }
-    ensures is { AnswersAs SpliceFault.Memory (λ made. record { code = made.0; entries = entries.new; origins = made.1 }) result
-        (blocks_put (P.plan planner.now) class.now number entries.old method.now code.now
+    ensures is { AnswersAs SpliceFault.Memory (λ made. record { made = made; entries = entries.new }) result
+        (blocks_put (P.plan planner.now) state class.now number entries.old method.now code.now
         (sites_of (P.plan planner.now) code.now.max_locals method.now)) }
     ensures pool { OnOk result (length entries.new < 2 ^ 16) }
 {
@@ -74,6 +91,7 @@ fn blocks_put<P: Planner>(
     let sites = sites_of(alloc, planner, code.max_locals, method.refs.as_slice())?;
     with_blocks(
         alloc,
+        state,
         class,
         number,
         entries,
@@ -84,9 +102,10 @@ fn blocks_put<P: Planner>(
     )
 }
 
-/// The code with its blocks, for which there is room, and from where each instruction is.
+/// The method with its blocks, for which there is room.
 fn with_blocks(
     alloc: Global,
+    state: u32,
     class: &Bytes,
     number: u32,
     entries: &mut Entries,
@@ -94,19 +113,19 @@ fn with_blocks(
     code: &Code,
     locals: u32,
     sites: &[Option<Block>],
-) -> Result<(Code, List<Origin>), SpliceFault>
+) -> Result<Spliced, SpliceFault>
     requires method { IsSoundMethod method.now }
     requires each { length sites.now ≡ length method.now.insns }
     requires sites { AllByRecursion IsSite sites.now }
     requires room { code.now.max_stack + 3 < 2 ^ 16 }
     requires slots { code.now.max_locals + locals < 2 ^ 16 }
-    ensures is { AnswersAs SpliceFault.Memory (λ made. record { code = made.0; entries = entries.new; origins = made.1 }) result
-        (with_blocks class.now number entries.old method.now code.now locals sites.now) }
+    ensures is { AnswersAs SpliceFault.Memory (λ made. record { made = made; entries = entries.new }) result
+        (with_blocks state class.now number entries.old method.now code.now locals sites.now) }
     ensures pool { OnOk result (length entries.new < 2 ^ 16) }
 {
-    let code = splice(alloc, class, number, entries, method, code, locals, sites)?;
-    let origins = origins_of(alloc, sites)?;
-    Ok((code, origins))
+    splice(
+        alloc, state, class, number, entries, method, code, locals, sites,
+    )
 }
 
 /// The greatest number of locals that a block uses. No memory holds more than a number of 32 bits counts.

@@ -11,7 +11,6 @@ mod state;
 mod weaving;
 mod woven;
 
-pub use code::{is_woven, most_locals, sites_of};
 pub use laws::{handlers_cover_parts, lines_stay, sizes_decide};
 pub use state::state_file;
 pub use weaving::weave;

@@ -1,24 +1,27 @@
 //! The methods of a class.
 
-ghost use Rattle.std.specs.Prelude.{◌≡◌, ◌<◌, ◌^◌, ◌+◌, ◌++◌, IfOk, Ok, OnOk, Some, length, map, option_copied};
+ghost use Rattle.std.specs.Prelude.{◌≡◌, ◌<◌, ◌^◌, ◌+◌, ◌++◌, IfOk, Ok, OnOk, Some, length, map, option_copied, None, true};
 ghost use Rattle.std.specs.List.{AllByRecursion};
 ghost use Rattle.bytecode_model.specs.Sound.{IsSoundMethod};
 ghost use Rattle.mon_base.specs.Answer.{AnswersAs};
+ghost use Rattle.class_codec.specs.declared.tree.Attr.TheVariants.{Code as Coded};
+ghost use Rattle.class_codec.specs.declared.tree.Code.{Code};
 ghost use Rattle.class_weaving.specs.Woven.{first_code, attr_with, member_with, bare_put};
 ghost use Rattle.class_weaving.specs.Woven.{code_put, body_woven, member_woven, members_woven, none_made};
 
 use crate::code::{code_woven, copy_code};
 use crate::woven::Members;
-use bytecode_model::{LinkedClass, Method, Origin};
+use bytecode_model::{LinkedClass, Method};
 use class_codec::{Attr, Code, Copied, Member};
 use mon_base::{Bytes, List, NoMemory};
-use offset_patch::{Planner, SpliceFault};
+use offset_patch::{Planner, SpliceFault, Spliced};
 use std::alloc::Global;
 
 /// Appends the members of a class, with its blocks.
 pub fn members_woven<P: Planner>(
     alloc: Global,
     planner: &P,
+    state: u32,
     class: &LinkedClass,
     made: &mut Members,
     members: &[Member],
@@ -27,12 +30,12 @@ pub fn members_woven<P: Planner>(
     requires count { made.old.number + length members.now < 2 ^ 17 }
     requires pool { length made.old.entries < 2 ^ 16 }
     ensures is { AnswersAs SpliceFault.Memory (λ done. made.new) result
-        (members_woven (P.plan planner.now) class.now made.old members.now) }
+        (members_woven (P.plan planner.now) state class.now made.old members.now) }
     ensures pool { OnOk result (length made.new.entries < 2 ^ 16) }
 {
     let mut left = members;
     while let [member, rest @ ..] = left {
-        member_woven(alloc, planner, class, made, member)?;
+        member_woven(alloc, planner, state, class, made, member)?;
         left = rest;
     }
     Ok(())
@@ -41,6 +44,7 @@ pub fn members_woven<P: Planner>(
 fn member_woven<P: Planner>(
     alloc: Global,
     planner: &P,
+    state: u32,
     class: &LinkedClass,
     made: &mut Members,
     member: &Member,
@@ -49,25 +53,43 @@ fn member_woven<P: Planner>(
     requires count { made.old.number < 2 ^ 17 }
     requires pool { length made.old.entries < 2 ^ 16 }
     ensures is { AnswersAs SpliceFault.Memory (λ done. made.new) result
-        (member_woven (P.plan planner.now) class.now made.old member.now) }
+        (member_woven (P.plan planner.now) state class.now made.old member.now) }
     ensures count { OnOk result (made.new.number ≡ made.old.number + 1) }
     ensures pool { OnOk result (length made.new.entries < 2 ^ 16) }
 {
     let Some(method) = class.methods.as_slice().get(made.number as usize) else {
-        return bare_put(alloc, made, member);
+        return bare_put(alloc, made, member, None);
     };
     let Some(code) = first_code(member.attrs.as_slice()) else {
-        return bare_put(alloc, made, member);
+        return bare_put(alloc, made, member, Some(method));
     };
-    body_woven(alloc, planner, &class.name, made, member, method, code)
+    body_woven(
+        alloc,
+        planner,
+        state,
+        &class.name,
+        made,
+        member,
+        method,
+        code,
+    )
 }
 
-fn bare_put(alloc: Global, made: &mut Members, member: &Member) -> Result<(), SpliceFault>
+/// Appends a member without code, and its method.
+fn bare_put(
+    alloc: Global,
+    made: &mut Members,
+    member: &Member,
+    method: Option<&Method>,
+) -> Result<(), SpliceFault>
     requires { made.old.number < 2 ^ 17 }
-    ensures { AnswersAs SpliceFault.Memory (λ done. made.new) result (Ok (bare_put made.old member.now)) }
+    ensures { AnswersAs SpliceFault.Memory (λ done. made.new) result (Ok (bare_put made.old member.now (option_copied method.entry))) }
 {
     let copy = member.copy(alloc)?;
     made.items.push(copy)?;
+    if let Some(method) = method {
+        made.methods.push(method.copy(alloc)?)?;
+    }
     made.number += 1;
     Ok(())
 }
@@ -75,6 +97,7 @@ fn bare_put(alloc: Global, made: &mut Members, member: &Member) -> Result<(), Sp
 fn body_woven<P: Planner>(
     alloc: Global,
     planner: &P,
+    state: u32,
     class: &Bytes,
     made: &mut Members,
     member: &Member,
@@ -85,38 +108,43 @@ fn body_woven<P: Planner>(
     requires count { made.old.number < 2 ^ 17 }
     requires pool { length made.old.entries < 2 ^ 16 }
     ensures is { AnswersAs SpliceFault.Memory (λ done. made.new) result
-        (body_woven (P.plan planner.now) class.now made.old member.now (Some method.now) (Some code.now)) }
+        (body_woven (P.plan planner.now) state class.now made.old member.now (Some method.now) (Some code.now)) }
     ensures count { OnOk result (made.new.number ≡ made.old.number + 1) }
     ensures pool { OnOk result (length made.new.entries < 2 ^ 16) }
 {
     let number = made.number;
-    let (code, origins) = code_woven(
+    let spliced = code_woven(
         alloc,
         planner,
+        state,
         class,
         number,
         &mut made.entries,
         method,
         code,
     )?;
-    code_put(alloc, made, member, code, origins)?;
+    code_put(alloc, made, member, spliced)?;
     Ok(())
 }
 
-/// Appends a member with this code, and where its instructions come from.
+/// Appends a member with this code, and its method.
 fn code_put(
     alloc: Global,
     made: &mut Members,
     member: &Member,
-    code: Code,
-    origins: List<Origin>,
+    spliced: Spliced,
 ) -> Result<(), NoMemory>
     requires { made.old.number < 2 ^ 17 }
-    ensures { OnOk result (made.new ≡ code_put made.old member.now
-        (record { code = code; entries = made.old.entries; origins = origins })) }
+    ensures { OnOk result (made.new ≡ code_put made.old member.now (record { made = spliced; entries = made.old.entries })) }
 {
-    let member = member_with(alloc, member, &code)?;
+    let Spliced {
+        method,
+        origins,
+        code,
+    } = spliced;
+    let member = member_with(alloc, member, code)?;
     made.items.push(member)?;
+    made.methods.push(method)?;
     made.origins.push(origins)?;
     made.number += 1;
     Ok(())
@@ -137,11 +165,10 @@ fn first_code(attrs: &[Attr]) -> Option<&Code>
 }
 
 /// The member with another code.
-fn member_with(alloc: Global, member: &Member, code: &Code) -> Result<Member, NoMemory>
-    ensures { IfOk result (λ other. other ≡ member_with member.now code.now) }
+fn member_with(alloc: Global, member: &Member, code: Code) -> Result<Member, NoMemory>
+    ensures { IfOk result (λ other. other ≡ member_with member.now code) }
 {
-    let mut attrs = List::with_room(alloc, member.attrs.len())?;
-    put_attrs(alloc, &mut attrs, code, member.attrs.as_slice())?;
+    let attrs = attrs_with(alloc, member.attrs.as_slice(), code)?;
     Ok(Member {
         flags: member.flags,
         name: member.name,
@@ -150,18 +177,41 @@ fn member_with(alloc: Global, member: &Member, code: &Code) -> Result<Member, No
     })
 }
 
-/// Appends the attributes, each code of them being this one.
-fn put_attrs(
-    alloc: Global,
-    attrs: &mut List<Attr>,
-    code: &Code,
-    olds: &[Attr],
-) -> Result<(), NoMemory>
-    ensures { OnOk result (attrs.new ≡ attrs.old ++ map (attr_with code.now) olds.now) }
+/// The attributes, each code of them being this one.
+fn attrs_with(alloc: Global, olds: &[Attr], code: Code) -> Result<List<Attr>, NoMemory>
+    ensures { IfOk result (λ attrs. attrs ≡ map (attr_with code) olds.now) }
+{
+    let mut attrs = List::with_room(alloc, olds.len())?;
+    let mut left = olds;
+    while let [attr, rest @ ..] = left {
+        if is_last_code(attr, rest) {
+            attrs.push(Attr::Code(code))?;
+            put_others(alloc, &mut attrs, rest)?;
+            return Ok(attrs);
+        }
+        attrs.push(attr_with(alloc, &code, attr)?)?;
+        left = rest;
+    }
+    drop(code);
+    Ok(attrs)
+}
+
+/// Whether the attribute is a code behind which these stand, of which none is one.
+fn is_last_code(attr: &Attr, rest: &[Attr]) -> bool
+    ensures { result ≡ true → ((code : Code) → attr_with code attr.now ≡ Coded code) × (first_code rest.now ≡ None) }
+{
+    match attr {
+        Attr::Code(_) => first_code(rest).is_none(),
+        Attr::Other(_) => false,
+    }
+}
+
+/// Appends equal attributes.
+fn put_others(alloc: Global, attrs: &mut List<Attr>, olds: &[Attr]) -> Result<(), NoMemory>
+    ensures { OnOk result (attrs.new ≡ attrs.old ++ olds.now) }
 {
     for attr in olds {
-        let one = attr_with(alloc, code, attr)?;
-        attrs.push(one)?;
+        attrs.push(attr.copy(alloc)?)?;
     }
     Ok(())
 }

@@ -11,7 +11,7 @@ ghost use Rattle.offset_patch.specs.Plan.{IsGood};
 ghost use Rattle.offset_patch.specs.Sizes.{first_unfit};
 ghost use Rattle.offset_patch.specs.declared.fault.SpliceFault.TheVariants.{Memory};
 ghost use Rattle.class_weaving.specs.Sizes.{program_sizes};
-ghost use Rattle.class_weaving.specs.Woven.{none_made, file_with, file_put, class_woven, classes_woven, state_put, woven};
+ghost use Rattle.class_weaving.specs.Woven.{none_made, file_with, file_put, class_woven, classes_woven, nothing_woven, state_put, woven};
 
 use crate::members::members_woven;
 use crate::state::state_file;
@@ -55,14 +55,31 @@ fn all_woven<P: Planner>(
     requires few { length vars.now ≤ 16 }
     ensures { Answers SpliceFault.Memory result (woven program.now (P.plan planner.now) vars.now) }
 {
-    let count = program.classes.len() + 1;
-    let mut woven = Woven {
-        files: List::with_room(alloc, count)?,
-        origins: List::with_room(alloc, count)?,
-    };
-    classes_woven(alloc, planner, &mut woven, program.classes.as_slice())?;
+    let state = program.classes.len() as u32;
+    let mut woven = nothing_woven(alloc, program.classes.len() + 1)?;
+    classes_woven(
+        alloc,
+        planner,
+        state,
+        &mut woven,
+        program.classes.as_slice(),
+    )?;
     state_put(alloc, vars, &mut woven)?;
     Ok(woven)
+}
+
+/// Nothing is woven yet, and there is room for so many classes.
+fn nothing_woven(alloc: Global, count: usize) -> Result<Woven, NoMemory>
+    ensures { IfOk result (λ woven. woven ≡ nothing_woven) }
+{
+    let files = List::with_room(alloc, count)?;
+    let methods = List::with_room(alloc, count)?;
+    let origins = List::with_room(alloc, count)?;
+    Ok(Woven {
+        files,
+        methods,
+        origins,
+    })
 }
 
 fn state_put(alloc: Global, vars: &[Var], woven: &mut Woven) -> Result<(), NoMemory>
@@ -70,6 +87,7 @@ fn state_put(alloc: Global, vars: &[Var], woven: &mut Woven) -> Result<(), NoMem
     ensures { OnOk result (woven.new ≡ state_put vars.now woven.old) }
 {
     woven.files.push(state_file(alloc, vars)?)?;
+    woven.methods.push(List::new(alloc))?;
     woven.origins.push(List::new(alloc))
 }
 
@@ -77,15 +95,16 @@ fn state_put(alloc: Global, vars: &[Var], woven: &mut Woven) -> Result<(), NoMem
 fn classes_woven<P: Planner>(
     alloc: Global,
     planner: &P,
+    state: u32,
     woven: &mut Woven,
     classes: &[LinkedClass],
 ) -> Result<(), SpliceFault>
     requires { AllByRecursion IsSoundClass classes.now }
-    ensures { AnswersAs SpliceFault.Memory (λ done. woven.new) result (classes_woven (P.plan planner.now) woven.old classes.now) }
+    ensures { AnswersAs SpliceFault.Memory (λ done. woven.new) result (classes_woven (P.plan planner.now) state woven.old classes.now) }
 {
     let mut left = classes;
     while let [class, rest @ ..] = left {
-        class_woven(alloc, planner, woven, class)?;
+        class_woven(alloc, planner, state, woven, class)?;
         left = rest;
     }
     Ok(())
@@ -94,16 +113,18 @@ fn classes_woven<P: Planner>(
 fn class_woven<P: Planner>(
     alloc: Global,
     planner: &P,
+    state: u32,
     woven: &mut Woven,
     class: &LinkedClass,
 ) -> Result<(), SpliceFault>
     requires { IsSoundClass class.now }
-    ensures { AnswersAs SpliceFault.Memory (λ done. woven.new) result (class_woven (P.plan planner.now) woven.old class.now) }
+    ensures { AnswersAs SpliceFault.Memory (λ done. woven.new) result (class_woven (P.plan planner.now) state woven.old class.now) }
 {
     let mut made = none_made(alloc, class)?;
     members_woven(
         alloc,
         planner,
+        state,
         class,
         &mut made,
         class.file.methods.as_slice(),
@@ -117,12 +138,14 @@ fn none_made(alloc: Global, class: &LinkedClass) -> Result<Members, NoMemory>
     ensures { IfOk result (λ made. made ≡ none_made class.now.file.pool) }
 {
     let items = List::with_room(alloc, class.file.methods.len())?;
+    let methods = List::with_room(alloc, class.methods.len())?;
     let origins = List::with_room(alloc, class.methods.len())?;
     let pool = copy_list(alloc, &class.file.pool)?;
     Ok(Members {
         number: 0,
         entries: Entries::new(pool),
         items,
+        methods,
         origins,
     })
 }
@@ -140,11 +163,13 @@ fn file_put(
     let Members {
         entries,
         items,
+        methods,
         origins,
         ..
     } = made;
     let file = file_with(alloc, &class.file, entries, items)?;
     woven.files.push(file)?;
+    woven.methods.push(methods)?;
     woven.origins.push(origins)
 }
 

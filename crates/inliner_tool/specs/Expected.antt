@@ -30,7 +30,7 @@ use Rattle.inliner_tool.specs.Weaving.{certificate_for}
 
 -- the program that is made of woven files
 abbrev pub woven_program : Given → Woven → Program
-woven_program given made = program_with (plan_of given.policy given.mode) given.client made.files
+woven_program given made = program_with given.client made.files made.methods
 
 -- They have room for the blocks, and link to the program that is made of them. Its classes are in order, and it is accepted with
 -- the certificate that is made of the client's types; this can be spelled where it is written.

@@ -24,7 +24,7 @@ ghost use Rattle.input_files.specs.Named.{IsListed};
 ghost use Rattle.mon_base.specs.Answer.{Answers};
 ghost use Rattle.output_files.specs.Outputs.{is_written, outputs_of};
 ghost use Rattle.cert_maker.specs.Told.{FitsTyping, told};
-ghost use Rattle.woven_linking.specs.Program.{HaveRoom, program_with};
+ghost use Rattle.woven_linking.specs.Program.{program_with};
 ghost use Rattle.woven_typing.specs.Framing.{typing_of};
 ghost use Rattle.inliner_tool.specs.Seen.{seen};
 ghost use Rattle.inliner_tool.specs.Expected.{IsExpected, WovenHasBlocks, WovenIsExpected};
@@ -56,8 +56,8 @@ ghost use Rattle.command_words.specs.Words.{Inline};
 use crate::answer::{Answer, refused, stopped};
 use crate::programs::{program_of, types_of};
 use crate::refusal::Refusal;
-use block_template::{PolicyPlan, plans_are_good};
-use bytecode_model::{LinkedClass, Program, Side};
+use block_template::plans_are_good;
+use bytecode_model::{LinkedClass, Method, Program, Side};
 use cert_checker::{Accepted, check};
 use cert_format::{CertLong, Certificate, Mode, Typing};
 use cert_maker::{make, told, told_is_typed, woven_is_accepted};
@@ -361,7 +361,8 @@ fn retyped(
         mode,
         ..
     } = given;
-    let (program, certificate) = remade(alloc, &policy, mode, client, typing, made.files)?;
+    let Woven { files, methods, .. } = made;
+    let (program, certificate) = remade(alloc, &policy, mode, client, typing, files, methods)?;
     let ready = judged(alloc, words.folder, &policy, &program, &certificate);
     drop(certificate);
     drop(program);
@@ -369,7 +370,7 @@ fn retyped(
     ready
 }
 
-/// The program that the woven files of a client link to, and its certificate, which tells these types.
+/// The program of these woven files and methods of a client, and its certificate, which tells these types.
 fn remade(
     alloc: Global,
     policy: &Policy,
@@ -377,16 +378,15 @@ fn remade(
     client: Program,
     typing: Typing,
     files: List<ClassFile>,
+    methods: List<List<Method>>,
 ) -> Result<(Indexed, Certificate), NoMemory>
     requires policy { IsPolicy policy.now }
-    requires sound { IsSound client }
-    requires room { HaveRoom (plan_of policy.now mode) client.classes files }
-    requires order { IsInOrder (program_with (plan_of policy.now mode) client files) }
-    ensures program { IfOk result (λ made. made.0 ≡ program_with (plan_of policy.now mode) client files) }
+    requires order { IsInOrder (program_with client files methods) }
+    ensures program { IfOk result (λ made. made.0 ≡ program_with client files methods) }
     ensures certificate { IfOk result (λ made. made.1 ≡ certificate_of client.classes policy.now mode (told made.0 typing)) }
     ensures fits { IfOk result (λ made. FitsTyping made.1.typing) }
 {
-    let (program, classes) = relinked(alloc, policy, mode, client, files)?;
+    let (program, classes) = relinked(alloc, client, files, methods)?;
     let old = classes.as_slice();
     let certificate = certified(alloc, old, policy, mode, program.program(), typing);
     drop(classes);
@@ -399,23 +399,18 @@ fn remade(
     }
 }
 
-/// The program that woven files link to, with an index of its classes, and the classes that it was woven of.
+/// The program of woven files and methods, with an index of its classes, and the classes that it was woven of.
 fn relinked(
     alloc: Global,
-    policy: &Policy,
-    mode: Mode,
     client: Program,
     files: List<ClassFile>,
+    methods: List<List<Method>>,
 ) -> Result<(Indexed, List<LinkedClass>), NoMemory>
-    requires policy { IsPolicy policy.now }
-    requires sound { IsSound client }
-    requires room { HaveRoom (plan_of policy.now mode) client.classes files }
-    requires order { IsInOrder (program_with (plan_of policy.now mode) client files) }
-    ensures is { IfOk result (λ made. made.0 ≡ program_with (plan_of policy.now mode) client files) }
+    requires order { IsInOrder (program_with client files methods) }
+    ensures is { IfOk result (λ made. made.0 ≡ program_with client files methods) }
     ensures old { IfOk result (λ made. made.1 ≡ client.classes) }
 {
-    let plan = PolicyPlan::new(policy, mode);
-    let (woven, classes) = program_with(alloc, &plan, client, files)?;
+    let (woven, classes) = program_with(alloc, client, files, methods)?;
     let program = Indexed::new(alloc, woven)?;
     Ok((program, classes))
 }

@@ -25,10 +25,10 @@ use Rattle.offset_patch.specs.declared.fault.SpliceFault.{SpliceFault}
 use Rattle.offset_patch.specs.declared.fault.SpliceFault.TheVariants as faults
 use Rattle.offset_patch.specs.Entries.{IsThere}
 use Rattle.mon_base.specs.Answer.{Fails, Answers}
-use Rattle.offset_patch.specs.Fault.{Spliced, IsCounted, fitted, code_fitted}
+use Rattle.offset_patch.specs.Fault.{Fitting, IsCounted, fitted, code_fitted}
 use Rattle.offset_patch.specs.Fits.{IsSite, JumpsWithin}
 use Rattle.offset_patch.specs.Length.{length_of}
-use Rattle.offset_patch.specs.Splicing.{part_of, want_of, block_wants, wants_of, CanStand, fronts_of, catching, parts_from, spliced, code_with, bytes_spliced, code_spliced}
+use Rattle.offset_patch.specs.Splicing.{part_of, want_of, block_wants, wants_of, CanStand, fronts_of, catching, parts_from, spliced, code_with, bytes_spliced, code_spliced, as_spliced, splice}
 use Rattle.offset_patch.proofs.InsnFits.{split_all}
 use Rattle.offset_patch.proofs.Measure.{length_is}
 
@@ -162,7 +162,12 @@ module _ (class : List ℕ) (number : ℕ) (pool : List Const) (method : Method)
       let e = long_code fault (ap (fitted class number sizes.Length) (sym (length_is pool method.insns sites)) ∙ told is_told) in
       rw (rows, count) e
 
+  -- it is that of splicing
+  pub splice_too_long : (state : ℕ) (fault : SpliceFault) → Fails faults.Memory fault (code_spliced class number pool method code locals sites)
+      → Fails faults.Memory fault (splice state class number pool method code locals sites)
+  splice_too_long state fault told other = ap (λ (r : Fitting Code). r >>= λ new. Ok (as_spliced state pool method sites new)) (told other)
+
 -- what the call answers that ends with it
-pub told_err : (r w : Spliced Code) (fault : SpliceFault) → IsErr r × IsErrAnd r (λ e. e ≡ fault) → Fails faults.Memory fault w → Answers faults.Memory r w
+pub told_err : {X : Type 0} (r w : Fitting X) (fault : SpliceFault) → IsErr r × IsErrAnd r (λ e. e ≡ fault) → Fails faults.Memory fault w → Answers faults.Memory r w
 told_err (Ok x) w fault h t = absurd cc
 told_err (Err e) w fault h t = subst (λ (f : SpliceFault). Fails faults.Memory f w) (sym h.1) t

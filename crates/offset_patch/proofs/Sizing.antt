@@ -26,7 +26,7 @@ use Rattle.offset_patch.specs.declared.fault.Size.{Size}
 use Rattle.offset_patch.specs.declared.fault.Size.TheVariants as sizes
 use Rattle.offset_patch.specs.declared.fault.SpliceFault.{SpliceFault}
 use Rattle.offset_patch.specs.declared.fault.SpliceFault.TheVariants as faults
-use Rattle.offset_patch.specs.Fault.{Spliced, fault_of, fitted, code_fitted}
+use Rattle.offset_patch.specs.Fault.{Fitting, fault_of, fitted, code_fitted}
 use Rattle.offset_patch.specs.Fits.{JumpsWithin}
 use Rattle.offset_patch.specs.Length.{size_in, part_end, length_of}
 use Rattle.offset_patch.specs.Sizes.{byte_fronts_from, own_offset, item_offset, part_offsets, offsets_from, offsets_of, method_sizes, holds, is_unfit, first_unfit}
@@ -232,7 +232,7 @@ fronts_bytes starts pool fronts begin at (insn ∷ own) (site ∷ sites) e z sta
 
 module _ (class : List ℕ) (number : ℕ) where
   -- a size that is at most 65,535, and what comes after it
-  fitted_then : {X : Type 0} (what : Size) (value : ℕ) (k : Spliced X) → holds what (pos value) ≡ nat_le value 65535
+  fitted_then : {X : Type 0} (what : Size) (value : ℕ) (k : Fitting X) → holds what (pos value) ≡ nat_le value 65535
       → fault_of (fitted class number what value >>= λ _. k) ≡ cond (is_unfit (faults.Overflow class number what (pos value))) (Some (faults.Overflow class number what (pos value))) (fault_of k)
   fitted_then {X = X} what value k e =
       by (nat_le value 65535) ∙ ap (λ (b : Bool). cond (not b) (Some (faults.Overflow class number what (pos value))) (fault_of k)) (sym e)
@@ -284,7 +284,7 @@ module _ (class : List ℕ) (number : ℕ) where
           ∙ code_off pool own sites s e (grind (arith, nat_tests))
       by false n = refl
 
-room_then : {X : Type 0} (r f : Spliced (Unit {0})) (k : Spliced X) → fault_of ((r >>= λ _. f) >>= λ _. k) ≡ fault_of (r >>= λ _. f >>= λ _. k)
+room_then : {X : Type 0} (r f : Fitting (Unit {0})) (k : Fitting X) → fault_of ((r >>= λ _. f) >>= λ _. k) ≡ fault_of (r >>= λ _. f >>= λ _. k)
 room_then (Ok tt) f k = refl
 room_then (Err fault) f k = refl
 

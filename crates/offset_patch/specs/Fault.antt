@@ -9,20 +9,20 @@ use Rattle.offset_patch.specs.declared.fault.SpliceFault.{SpliceFault}
 use Rattle.offset_patch.specs.declared.fault.SpliceFault.TheVariants as faults
 
 -- what weaving gives: a value, or the first size that does not fit
-abbrev pub Spliced : Type 0 → Type 0
-Spliced X = Result X SpliceFault
+abbrev pub Fitting : Type 0 → Type 0
+Fitting X = Result X SpliceFault
 
 -- the fault, if it is one
-abbrev pub fault_of : {X : Type 0} → Spliced X → Option SpliceFault
+abbrev pub fault_of : {X : Type 0} → Fitting X → Option SpliceFault
 fault_of (Ok x) = None
 fault_of (Err fault) = Some fault
 
 -- a size of a method is at most 65,535
-abbrev pub fitted : List ℕ → ℕ → Size → ℕ → Spliced (Unit {0})
+abbrev pub fitted : List ℕ → ℕ → Size → ℕ → Fitting (Unit {0})
 fitted class method what value = need (nat_le value 65535) (faults.Overflow class method what (pos value))
 
 -- what writing the code of a method gives
-abbrev pub code_fitted : {X : Type 0} → List ℕ → ℕ → Result X CodeOverflow → Spliced X
+abbrev pub code_fitted : {X : Type 0} → List ℕ → ℕ → Result X CodeOverflow → Fitting X
 code_fitted class method (Ok x) = Ok x
 code_fitted class method (Err (codes.Length value)) = Err (faults.Overflow class method sizes.Length (pos value))
 code_fitted class method (Err (codes.Branch value)) = Err (faults.Overflow class method sizes.Branch value)

@@ -1,8 +1,9 @@
 -- Blocks in the code of a method: each stands in the place of the instruction that it is for, and what goes to that
 -- instruction goes to the front of its block. (docs/BLOCKS.md)
-use Rattle.std.specs.Prelude.{ℕ, zero, suc, ◌+◌, ◌≤◌, ⊤, Bool, true, false, is_some, List, [], ◌∷◌, ◌++◌, length, map, take, slice_index, Option, Some, None, option_and_then, Ok}
+use Rattle.std.specs.Prelude.{ℕ, zero, suc, ◌+◌, ◌≤◌, ⊤, Bool, true, false, codes, is_some, List, [], ◌∷◌, ◌++◌, length, map, take, slice_index, Option, Some, None, option_and_then, Ok}
 use Rattle.std.specs.List.{flat_map, filter_map, list_any, enumerate_from}
 use Rattle.mon_base.specs.Reading.{◌>>=◌}
+use Rattle.mon_base.specs.declared.method.MethodId.{MethodId}
 use Rattle.class_codec.specs.declared.tree.Code.{Code}
 use Rattle.class_codec.specs.declared.tree.Const.{Const}
 use Rattle.class_codec.specs.declared.tree.Other.{Other}
@@ -13,15 +14,19 @@ use Rattle.insn_codec.specs.Spelling.{starts_of}
 use Rattle.insn_codec.specs.Writing.{written}
 use Rattle.bytecode_model.specs.declared.program.Handler.{Handler}
 use Rattle.bytecode_model.specs.declared.program.Method.{Method}
+use Rattle.bytecode_model.specs.declared.program.Target.{Target}
+use Rattle.bytecode_model.specs.declared.program.Target.TheVariants as target
 use Rattle.offset_patch.specs.declared.block.Block.{Block}
 use Rattle.offset_patch.specs.declared.block.BlockInsn.{BlockInsn}
 use Rattle.offset_patch.specs.declared.block.BlockInsn.TheVariants.{Plain, Byte, Short, Local, Want, Jump, Call}
 use Rattle.bytecode_model.specs.declared.origin.Origin.{Origin}
 use Rattle.bytecode_model.specs.declared.origin.Origin.TheVariants as origin
 use Rattle.offset_patch.specs.declared.block.PoolWant.{PoolWant}
+use Rattle.offset_patch.specs.declared.block.PoolWant.TheVariants as wants
 use Rattle.offset_patch.specs.declared.fault.Size.TheVariants as sizes
-use Rattle.offset_patch.specs.Entries.{with_wants, place_in, IsThere}
-use Rattle.offset_patch.specs.Fault.{Spliced, fitted, code_fitted}
+use Rattle.offset_patch.specs.declared.splicing.Spliced.{Spliced}
+use Rattle.offset_patch.specs.Entries.{state_name, with_wants, place_in, IsThere}
+use Rattle.offset_patch.specs.Fault.{Fitting, fitted, code_fitted}
 use Rattle.offset_patch.specs.Lines.{attrs_kept, start_moved}
 
 -- what stands for an instruction: its block, or the instruction alone
@@ -172,6 +177,71 @@ table_moved starts fronts (handler ∷ handlers) (entry ∷ entries) = moved sta
 abbrev pub table_spliced : List ℕ → List (Option Block) → List Handler → List TableEntry → List TableEntry
 table_spliced starts sites handlers entries = own_entries starts 0 sites ++ table_moved starts (fronts_of sites) handlers entries
 
+-- ---- handlers
+
+-- the handler with its bounds and its target at their fronts
+abbrev pub at_fronts : List ℕ → Handler → Handler
+at_fronts fronts handler = record {
+  from = slice_index fronts handler.from;
+  to = slice_index fronts handler.to;
+  at = slice_index fronts handler.at;
+  class = handler.class;
+}
+
+-- A block that begins at `begin` catches at this place of it what its call throws, of any class.
+abbrev pub own_handler : ℕ → List BlockInsn → ℕ → Handler
+own_handler begin insns place = record { from = begin + call_place insns; to = begin + call_place insns + 1; at = begin + place; class = None }
+
+abbrev pub handlers_by : ℕ → List BlockInsn → Option ℕ → List Handler
+handlers_by begin insns None = []
+handlers_by begin insns (Some place) = own_handler begin insns place ∷ []
+
+abbrev pub site_handlers : ℕ → Option Block → List Handler
+site_handlers begin None = []
+site_handlers begin (Some block) = handlers_by begin block.insns block.handler
+
+-- those of the blocks, where the part of the first instruction begins at `begin`
+abbrev pub own_handlers : ℕ → List (Option Block) → List Handler
+own_handlers begin [] = []
+own_handlers begin (site ∷ sites) = site_handlers begin site ++ own_handlers (begin + length (part_of site)) sites
+
+-- The blocks' handlers come first.
+abbrev pub handlers_with : List (Option Block) → List Handler → List Handler
+handlers_with sites handlers = own_handlers 0 sites ++ map (at_fronts (fronts_of sites)) handlers
+
+-- ---- what operands name
+
+-- the method that stops the program
+abbrev pub way_out : MethodId
+way_out = record { class = codes "java/lang/System"; name = codes "exit"; desc = codes "(I)V" }
+
+-- the place of that method in the table of the built-in ones
+abbrev pub way_out_index : ℕ
+way_out_index = 7
+
+-- what an entry that a block names is, where conspec/State is the class of the index `state`
+abbrev pub want_named : ℕ → PoolWant → Target
+want_named state wants.StateClass = target.ClassName state_name
+want_named state (wants.StateField var is_bool) = target.Field state var
+want_named state wants.Exit = target.Builtin way_out_index
+want_named state (wants.Integer n) = target.Number n
+
+-- what the operand of an instruction of a part names, where that of the client's instruction names `own`
+abbrev pub part_named : ℕ → Target → BlockInsn → Target
+part_named state own (Want op want) = want_named state want
+part_named state own Call = own
+part_named state own (Plain op) = target.None
+part_named state own (Byte n) = target.None
+part_named state own (Short n) = target.None
+part_named state own (Local op slot wide) = target.None
+part_named state own (Jump op place) = target.None
+
+-- the operands of the parts one after another
+abbrev pub parts_named : ℕ → List Target → List (Option Block) → List Target
+parts_named state [] sites = []
+parts_named state (own ∷ refs) [] = []
+parts_named state (own ∷ refs) (site ∷ sites) = map (part_named state own) (part_of site) ++ parts_named state refs sites
+
 -- ---- a method with a block
 
 -- how many operands a block needs beside the client's
@@ -179,7 +249,7 @@ abbrev pub operands_needed : ℕ
 operands_needed = 3
 
 -- the room that blocks need, which use this many locals at most
-abbrev pub room : List ℕ → ℕ → Code → ℕ → Spliced (Unit {0})
+abbrev pub room : List ℕ → ℕ → Code → ℕ → Fitting (Unit {0})
 room class method code locals = do
   stack ← fitted class method sizes.Stack (code.max_stack + operands_needed)
   fitted class method sizes.Locals (code.max_locals + locals)
@@ -204,14 +274,39 @@ code_with pool method code locals sites insns bytes = record {
 }
 
 -- the code with the blocks, in a pool that has what they name, where the pool and the table fit
-abbrev pub bytes_spliced : List ℕ → ℕ → List Const → Method → Code → ℕ → List (Option Block) → Spliced Code
+abbrev pub bytes_spliced : List ℕ → ℕ → List Const → Method → Code → ℕ → List (Option Block) → Fitting Code
 bytes_spliced class number pool method code locals sites = do
   bytes ← code_fitted class number (written (spliced pool method.insns sites))
   Ok (code_with pool method code locals sites (spliced pool method.insns sites) bytes)
 
 -- the code with the blocks, in a pool that has what they name
-abbrev pub code_spliced : List ℕ → ℕ → List Const → Method → Code → ℕ → List (Option Block) → Spliced Code
+abbrev pub code_spliced : List ℕ → ℕ → List Const → Method → Code → ℕ → List (Option Block) → Fitting Code
 code_spliced class number pool method code locals sites = do
   entries ← fitted class number sizes.Entries (length code.table + catching sites)
   count ← fitted class number sizes.Pool (length pool)
   bytes_spliced class number pool method code locals sites
+
+-- ---- what splicing gives
+
+-- the method with the blocks, as a linked program has it, where this is its code; conspec/State is the class of the index `state`
+abbrev pub method_spliced : ℕ → List Const → Method → List (Option Block) → Code → Method
+method_spliced state pool method sites code = record {
+  flags = method.flags;
+  name = method.name;
+  desc = method.desc;
+  max_stack = code.max_stack;
+  max_locals = code.max_locals;
+  insns = spliced pool method.insns sites;
+  refs = parts_named state method.refs sites;
+  handlers = handlers_with sites method.handlers;
+}
+
+-- the method, where its instructions come from, and its code
+abbrev pub as_spliced : ℕ → List Const → Method → List (Option Block) → Code → Spliced
+as_spliced state pool method sites code = record { method = method_spliced state pool method sites code; origins = origins_of sites; code = code }
+
+-- the same with the blocks, in a pool that has what they name; or the first size that does not fit
+abbrev pub splice : ℕ → List ℕ → ℕ → List Const → Method → Code → ℕ → List (Option Block) → Fitting Spliced
+splice state class number pool method code locals sites = do
+  new ← code_spliced class number pool method code locals sites
+  Ok (as_spliced state pool method sites new)

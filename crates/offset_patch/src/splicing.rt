@@ -6,30 +6,44 @@ ghost use Rattle.insn_codec.specs.Fits.{IsInsn};
 ghost use Rattle.insn_codec.specs.Spelling.{len_from};
 ghost use Rattle.insn_codec.specs.Writing.{written};
 ghost use Rattle.offset_patch.specs.Entries.{with_wants, IsThere};
-ghost use Rattle.mon_base.specs.Answer.{Answers, Fails};
+ghost use Rattle.mon_base.specs.Answer.{Answers, AnswersAs, Fails};
 ghost use Rattle.offset_patch.specs.Fault.{code_fitted, IsCounted};
 ghost use Rattle.offset_patch.specs.Fits.{IsBlockInsn, IsSite};
 ghost use Rattle.offset_patch.specs.Length.{length_of};
 ghost use Rattle.offset_patch.specs.Splicing.{want_of, part_of, fronts_of, count_of, put, parts_from, CanStand};
-ghost use Rattle.offset_patch.specs.Splicing.{spliced, wants_of, block_wants, grown, code_with, bytes_spliced, code_spliced};
+ghost use Rattle.offset_patch.specs.Splicing.{spliced, wants_of, block_wants, grown, code_with, bytes_spliced};
+ghost use Rattle.offset_patch.specs.Splicing.{as_spliced, handlers_with, splice};
 
 use crate::block::{Block, BlockInsn};
 use crate::entries::Entries;
 use crate::fault::{Size, SpliceFault};
-use crate::fronts::{aimed, count_of, fronts_of, part_of};
+use crate::fronts::{aimed, count_of, fronts_of, origins_of, part_of};
+use crate::handlers::handlers_with;
 use crate::length::length_of;
 use crate::lines::attrs_spliced;
+use crate::operands::parts_named;
 use crate::sizes::{OPERANDS, fitted};
 use crate::tables::{catching, table_spliced};
-use bytecode_model::{Handler, Method};
+use bytecode_model::{Handlers, Method, Origin};
 use class_codec::Code;
 use insn_codec::{CodeOverflow, Insn, starts, write_code};
 use mon_base::{Bytes, List, NoMemory};
 use std::alloc::Global;
 
-/// The code of a method with its blocks, of which there is one at least. What the blocks name is added to the pool.
+/// A method with its blocks, as the linked program has it, with where its instructions come from, and its code, whose bytes are those
+/// of the method's instructions.
+#[derive(Drop)]
+pub struct Spliced {
+    pub method: Method,
+    pub origins: List<Origin>,
+    pub code: Code,
+}
+
+/// The method with its blocks, of which there is one at least, where `conspec/State` is the class of the index `state`. What the
+/// blocks name is added to the pool.
 pub fn splice(
     alloc: Global,
+    state: u32,
     class: &Bytes,
     number: u32,
     entries: &mut Entries,
@@ -37,15 +51,15 @@ pub fn splice(
     code: &Code,
     locals: u32,
     sites: &[Option<Block>],
-) -> Result<Code, SpliceFault>
+) -> Result<Spliced, SpliceFault>
     requires few { length method.now.insns < 2 ^ 16 }
     requires insns { AllByRecursion IsInsn method.now.insns }
     requires each { length sites.now ≡ length method.now.insns }
     requires sites { AllByRecursion IsSite sites.now }
     requires room { code.now.max_stack + 3 < 2 ^ 16 }
     requires slots { code.now.max_locals + locals < 2 ^ 16 }
-    ensures code { Answers SpliceFault.Memory result
-        (code_spliced class.now number (grown entries.old sites.now) method.now code.now locals sites.now) }
+    ensures is { Answers SpliceFault.Memory result
+        (splice state class.now number (grown entries.old sites.now) method.now code.now locals sites.now) }
     ensures pool { OnOk result (entries.new ≡ grown entries.old sites.now) }
     ensures few { OnOk result (length entries.new < 2 ^ 16) }
 {
@@ -55,8 +69,9 @@ pub fn splice(
     fitted(alloc, class, number, Size::Pool, entries.count())?;
     let length = length_of(method.insns.as_slice(), sites);
     fitted(alloc, class, number, Size::Length, length)?;
-    code_put(
+    method_put(
         alloc,
+        state,
         class,
         number,
         entries,
@@ -67,9 +82,10 @@ pub fn splice(
     )
 }
 
-/// The code, where the pool and the length fit.
-fn code_put(
+/// The method with its blocks, where the pool and the length fit.
+fn method_put(
     alloc: Global,
+    state: u32,
     class: &Bytes,
     number: u32,
     entries: &mut Entries,
@@ -77,7 +93,7 @@ fn code_put(
     code: &Code,
     locals: u16,
     sites: &[Option<Block>],
-) -> Result<Code, SpliceFault>
+) -> Result<Spliced, SpliceFault>
     requires few { length method.now.insns < 2 ^ 16 }
     requires insns { AllByRecursion IsInsn method.now.insns }
     requires each { length sites.now ≡ length method.now.insns }
@@ -87,13 +103,96 @@ fn code_put(
     requires pool { length entries.old < 2 ^ 16 }
     requires there { AllByRecursion (IsThere entries.old) (wants_of sites.now) }
     requires length { length_of method.now.insns sites.now < 2 ^ 16 }
-    ensures code { Answers SpliceFault.Memory result (bytes_spliced class.now number entries.old method.now code.now locals sites.now) }
+    ensures is { AnswersAs SpliceFault.Memory (λ made. made.code) result
+        (bytes_spliced class.now number entries.old method.now code.now locals sites.now) }
+    ensures made { IfOk result (λ made. made ≡ as_spliced state entries.old method.now sites.now made.code) }
     ensures pool { OnOk result (entries.new ≡ entries.old) }
 {
     let fronts = fronts_of(alloc, sites)?;
     let fronts = fronts.as_slice();
     let insns = parts(alloc, entries, fronts, method.insns.as_slice(), sites)?;
-    let insns = insns.as_slice();
+    let code = code_put(
+        alloc,
+        class,
+        number,
+        entries,
+        method,
+        code,
+        locals,
+        sites,
+        fronts,
+        insns.as_slice(),
+    )?;
+    let refs = parts_named(alloc, state, method.refs.as_slice(), sites)?;
+    let handlers = own_and_moved(alloc, fronts, method, sites)?;
+    let (name, desc) = texts_of(alloc, method)?;
+    let origins = origins_of(alloc, sites)?;
+    Ok(Spliced {
+        method: Method {
+            flags: method.flags,
+            name,
+            desc,
+            max_stack: code.max_stack,
+            max_locals: code.max_locals,
+            insns,
+            refs,
+            handlers,
+        },
+        origins,
+        code,
+    })
+}
+
+/// The handlers of these blocks, and then those of the method.
+fn own_and_moved(
+    alloc: Global,
+    fronts: &[u32],
+    method: &Method,
+    sites: &[Option<Block>],
+) -> Result<Handlers, NoMemory>
+    requires count { count_of sites.now < 2 ^ 16 }
+    requires sites { AllByRecursion IsSite sites.now }
+    requires fronts { fronts.now ≡ fronts_of sites.now }
+    ensures { IfOk result (λ handlers. handlers ≡ handlers_with sites.now method.now.handlers) }
+{
+    let list = handlers_with(alloc, fronts, sites, method.handlers.as_slice())?;
+    Handlers::new(alloc, list)
+}
+
+/// The name and the descriptor of a method.
+fn texts_of(alloc: Global, method: &Method) -> Result<(Bytes, Bytes), NoMemory>
+    ensures { IfOk result (λ texts. texts ≡ (method.now.name, method.now.desc)) }
+{
+    let name = method.name.copy(alloc)?;
+    let desc = method.desc.copy(alloc)?;
+    Ok((name, desc))
+}
+
+/// The code with these instructions, which are those of the method with its blocks.
+fn code_put(
+    alloc: Global,
+    class: &Bytes,
+    number: u32,
+    entries: &Entries,
+    method: &Method,
+    code: &Code,
+    locals: u16,
+    sites: &[Option<Block>],
+    fronts: &[u32],
+    insns: &[Insn],
+) -> Result<Code, SpliceFault>
+    requires few { length method.now.insns < 2 ^ 16 }
+    requires own { len_from 0 method.now.insns < 2 ^ 32 }
+    requires sites { AllByRecursion IsSite sites.now }
+    requires parts { count_of sites.now < 2 ^ 16 }
+    requires room { code.now.max_stack + 3 < 2 ^ 16 }
+    requires slots { code.now.max_locals + locals < 2 ^ 16 }
+    requires fronts { fronts.now ≡ fronts_of sites.now }
+    requires insns { insns.now ≡ spliced entries.now method.now.insns sites.now }
+    requires each { AllByRecursion IsInsn insns.now }
+    requires short { len_from 0 insns.now < 2 ^ 16 }
+    ensures { Answers SpliceFault.Memory result (bytes_spliced class.now number entries.now method.now code.now locals sites.now) }
+{
     let bytes = written(alloc, class, number, insns)?;
     let made = code_with(
         alloc, entries, method, code, locals, sites, fronts, insns, bytes,

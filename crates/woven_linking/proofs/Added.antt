@@ -38,7 +38,8 @@ use Rattle.class_weaving.specs.State.{state_file}
 use Rattle.woven_linking.proofs.Variables.{variable_found}
 use Rattle.std.proofs.lemmas.Slice.Eq.{bytes_eq-Decides}
 use Rattle.std.proofs.lemmas.Option.{slice_get_within}
-use Rattle.class_weaving.specs.Outcome.{Each, way_out, way_out_index}
+use Rattle.offset_patch.specs.Splicing.{way_out, way_out_index}
+use Rattle.class_weaving.specs.Outcome.{Each}
 use Rattle.woven_linking.proofs.Above.{SaysOnly, has_name, find_none, found_fits, other_name, and_both, Ends, ordered, climbs, leaves, superclasses_same, order_same, field_order_same, none_reached, none_in_turn, field_search_says}
 use Rattle.woven_linking.proofs.Free.{IsFree, class_free}
 use Rattle.woven_linking.proofs.Kept.{IsKept}

@@ -119,7 +119,7 @@ code_is class method (Err (overflows.Length value)) bytes e = absurd cc
 code_is class method (Err (overflows.Branch value)) bytes e = absurd cc
 code_is class method (Err overflows.Memory) bytes e = absurd cc
 
-made_of : (class : List ℕ) (number : ℕ) (pool : List Const) (method : Method) (code : Code) (locals : ℕ) (sites : List (Option Block)) (new : Code)
+pub made_of : (class : List ℕ) (number : ℕ) (pool : List Const) (method : Method) (code : Code) (locals : ℕ) (sites : List (Option Block)) (new : Code)
     → code_spliced class number pool method code locals sites ≡ Ok new → IsMadeOf pool method code locals sites new
 made_of class number pool method code locals sites new e =
     let insns = spliced pool method.insns sites in
@@ -146,24 +146,24 @@ pub record IsSoundCode (insns : List Insn) : Type 0 where
 pub record IsRead (pool : List Const) (method : Method) (code : Code) (locals : ℕ) (sites : List (Option Block)) (w : WovenCode) : Type 0 where
   pub fits : AllByRecursion IsSite sites
   pub entries : w.entries ≡ grown pool sites
-  pub insns : code_of w.code.code ≡ Ok (spliced w.entries method.insns sites)
-  pub table : w.code.table ≡ table_spliced (starts_of (spliced w.entries method.insns sites)) sites method.handlers code.table
-  pub name : w.code.name ≡ code.name
-  pub attrs : w.code.attrs ≡ attrs_spliced w.entries method.insns (spliced w.entries method.insns sites) sites code.attrs
-  pub max_stack : w.code.max_stack ≡ code.max_stack + operands_needed
-  pub max_locals : w.code.max_locals ≡ code.max_locals + locals
+  pub insns : code_of w.made.code.code ≡ Ok (spliced w.entries method.insns sites)
+  pub table : w.made.code.table ≡ table_spliced (starts_of (spliced w.entries method.insns sites)) sites method.handlers code.table
+  pub name : w.made.code.name ≡ code.name
+  pub attrs : w.made.code.attrs ≡ attrs_spliced w.entries method.insns (spliced w.entries method.insns sites) sites code.attrs
+  pub max_stack : w.made.code.max_stack ≡ code.max_stack + operands_needed
+  pub max_locals : w.made.code.max_locals ≡ code.max_locals + locals
   pub stack : code.max_stack + operands_needed < 2 ^ 16
   pub slots : code.max_locals + locals < 2 ^ 16
-  pub rows : length w.code.table < 2 ^ 16
+  pub rows : length w.made.code.table < 2 ^ 16
   pub sound : IsSoundCode (spliced w.entries method.insns sites)
 
-pub put_reads : (kinds : List Bool) (plan : Plan) → IsGood kinds plan → (class : List ℕ) (number : ℕ) (pool : List Const) (method : Method) (code : Code) (w : WovenCode) → IsSoundMethod method
-    → LastAlone (sites_of plan code.max_locals method) → blocks_put plan class number pool method code (sites_of plan code.max_locals method) ≡ Ok w
+pub put_reads : (kinds : List Bool) (plan : Plan) → IsGood kinds plan → (state : ℕ) (class : List ℕ) (number : ℕ) (pool : List Const) (method : Method) (code : Code) (w : WovenCode) → IsSoundMethod method
+    → LastAlone (sites_of plan code.max_locals method) → blocks_put plan state class number pool method code (sites_of plan code.max_locals method) ≡ Ok w
     → IsRead pool method code (locals_of plan method) (sites_of plan code.max_locals method) w
-put_reads kinds plan good class number pool method code w sound last =
-    put_cases plan class number pool method code (IsRead pool method code (locals_of plan method) (sites_of plan code.max_locals method)) w of_blocks
+put_reads kinds plan good state class number pool method code w sound last =
+    put_cases plan state class number pool method code (IsRead pool method code (locals_of plan method) (sites_of plan code.max_locals method)) w of_blocks
   where
-    of_blocks : (new : Code) → IsPut plan class number pool method code new → IsRead pool method code (locals_of plan method) (sites_of plan code.max_locals method) (with_blocks plan pool method code new)
+    of_blocks : (new : Code) → IsPut plan state class number pool method code new → IsRead pool method code (locals_of plan method) (sites_of plan code.max_locals method) (with_blocks plan state pool method code new)
     of_blocks new put =
         let locals = locals_of plan method in
         let sites = sites_of plan code.max_locals method in

@@ -27,7 +27,7 @@ use Rattle.class_weaving.specs.State.{state_file}
 use Rattle.conspec_tree.specs.declared.types.Var.{Var}
 use Rattle.class_weaving.specs.declared.woven.Members.{Members}
 use Rattle.class_weaving.specs.declared.woven.Woven.{Woven}
-use Rattle.class_weaving.specs.Woven.{WovenCode, folded, sites_of, code_woven, first_code, attr_with, member_with, bare_put, code_put, body_woven, member_woven, members_woven, none_made, file_with, file_put, class_woven, classes_woven, state_put, woven}
+use Rattle.class_weaving.specs.Woven.{WovenCode, folded, sites_of, code_woven, first_code, attr_with, member_with, bare_put, code_put, body_woven, member_woven, members_woven, none_made, file_with, file_put, class_woven, classes_woven, nothing_woven, state_put, woven}
 use Rattle.class_weaving.specs.Outcome.{Each}
 
 -- ---- a pool that grew
@@ -119,25 +119,25 @@ pub record IsNext (made next : Members) (member : Member) : Type 0 where
   pub items : next.items ≡ made.items ++ item ∷ []
   pub kept : IsKeptMember member item
 
-code_longer : (plan : Plan) (class : List ℕ) (number : ℕ) (pool : List Const) (m : Method) (code : Code) (w : WovenCode) → code_woven plan class number pool m code ≡ Ok w → IsLonger pool w.entries
-code_longer plan class number pool m code w =
-    code_cases plan class number pool m code (λ x. IsLonger pool x.entries) w (λ some new put. wants_longer (wants_of (sites_of plan code.max_locals m)) pool) (λ none. same_pool pool)
+code_longer : (plan : Plan) (state : ℕ) (class : List ℕ) (number : ℕ) (pool : List Const) (m : Method) (code : Code) (w : WovenCode) → code_woven plan state class number pool m code ≡ Ok w → IsLonger pool w.entries
+code_longer plan state class number pool m code w =
+    code_cases plan state class number pool m code (λ x. IsLonger pool x.entries) w (λ some new put. wants_longer (wants_of (sites_of plan code.max_locals m)) pool) (λ none. same_pool pool)
 
-bare_next : (made next : Members) (member : Member) → bare_put made member ≡ next → IsNext made next member
-bare_next made next member is =
+bare_next : (made next : Members) (member : Member) (method : Option Method) → bare_put made member method ≡ next → IsNext made next member
+bare_next made next member method is =
     subst (λ (x : Members). IsNext made x member) is (record { longer = same_pool made.entries; item = member; items = refl; kept = same_member member })
 
-body_next : (plan : Plan) (class : List ℕ) (made next : Members) (member : Member) (m : Option Method) (c : Option Code) → body_woven plan class made member m c ≡ Ok next → IsNext made next member
-body_next plan class made next member (Some m) (Some code) e =
-    let one = bind_ok (code_woven plan class made.number made.entries m code) (λ w. Ok (code_put made member w)) next e in
+body_next : (plan : Plan) (state : ℕ) (class : List ℕ) (made next : Members) (member : Member) (m : Option Method) (c : Option Code) → body_woven plan state class made member m c ≡ Ok next → IsNext made next member
+body_next plan state class made next member (Some m) (Some code) e =
+    let one = bind_ok (code_woven plan state class made.number made.entries m code) (λ w. Ok (code_put made member w)) next e in
     subst (λ (x : Members). IsNext made x member) (ok_is SpliceFault (code_put made member one.0) next one.2) (record {
-      longer = code_longer plan class made.number made.entries m code one.0 one.1;
-      item = member_with member one.0.code;
+      longer = code_longer plan state class made.number made.entries m code one.0 one.1;
+      item = member_with member one.0.made.code;
       items = refl;
-      kept = with_kept member one.0.code;
+      kept = with_kept member one.0.made.code;
     })
-body_next plan class made next member None c e = bare_next made next member (ok_is SpliceFault (bare_put made member) next e)
-body_next plan class made next member (Some m) None e = bare_next made next member (ok_is SpliceFault (bare_put made member) next e)
+body_next plan state class made next member None c e = bare_next made next member None (ok_is SpliceFault (bare_put made member None) next e)
+body_next plan state class made next member (Some m) None e = bare_next made next member (Some m) (ok_is SpliceFault (bare_put made member (Some m)) next e)
 
 -- ---- a file
 
@@ -156,14 +156,14 @@ record AreKept (made last : Members) (members : List Member) : Type 0 where
   are : last.items ≡ made.items ++ items
   kept : Each IsKeptMember members items
 
-members_kept : (plan : Plan) (class : LinkedClass) (members : List Member) (made last : Members) → folded (member_woven plan class) made members ≡ Ok last → AreKept made last members
-members_kept plan class [] made last e =
+members_kept : (plan : Plan) (state : ℕ) (class : LinkedClass) (members : List Member) (made last : Members) → folded (member_woven plan state class) made members ≡ Ok last → AreKept made last members
+members_kept plan state class [] made last e =
     subst (λ (x : Members). AreKept made x []) (ok_is SpliceFault made last e) (record { longer = same_pool made.entries; items = []; are = sym (append-nil made.items); kept = tt })
-members_kept plan class (member ∷ members) made last e =
-    let one = bind_ok (member_woven plan class made member) (λ next. folded (member_woven plan class) next members) last e in
+members_kept plan state class (member ∷ members) made last e =
+    let one = bind_ok (member_woven plan state class made member) (λ next. folded (member_woven plan state class) next members) last e in
     let next = one.0 in
-    let first = body_next plan class.name made next member (slice_get class.methods made.number) (first_code member.attrs) one.1 in
-    let rest = members_kept plan class members next last one.2 in
+    let first = body_next plan state class.name made next member (slice_get class.methods made.number) (first_code member.attrs) one.1 in
+    let rest = members_kept plan state class members next last one.2 in
     record {
       longer = longer_then made.entries next.entries last.entries first.longer rest.longer;
       items = first.item ∷ rest.items;
@@ -172,14 +172,14 @@ members_kept plan class (member ∷ members) made last e =
     }
 
 -- What a class was woven to.
-pub record IsFileOf (plan : Plan) (class : LinkedClass) (file : ClassFile) : Type 0 where
+pub record IsFileOf (plan : Plan) (state : ℕ) (class : LinkedClass) (file : ClassFile) : Type 0 where
   pub made : Members
-  pub all : members_woven plan class (none_made class.file.pool) class.file.methods ≡ Ok made
+  pub all : members_woven plan state class (none_made class.file.pool) class.file.methods ≡ Ok made
   pub is : file_with class.file made.entries made.items ≡ file
 
-pub file_kept : (plan : Plan) (class : LinkedClass) (file : ClassFile) → IsFileOf plan class file → IsKept class.file file
-file_kept plan class file w =
-    let k = members_kept plan class class.file.methods (none_made class.file.pool) w.made w.all in
+pub file_kept : (plan : Plan) (state : ℕ) (class : LinkedClass) (file : ClassFile) → IsFileOf plan state class file → IsKept class.file file
+file_kept plan state class file w =
+    let k = members_kept plan state class class.file.methods (none_made class.file.pool) w.made w.all in
     subst (IsKept class.file) w.is (record {
       longer = k.longer;
       flags = refl;
@@ -191,30 +191,30 @@ file_kept plan class file w =
     })
 
 -- all but the pool and the methods
-pub file_is : (plan : Plan) (class : LinkedClass) (file : ClassFile) → IsFileOf plan class file → file ≡ file_with class.file file.pool file.methods
-file_is plan class file w = subst (λ (f : ClassFile). f ≡ file_with class.file f.pool f.methods) w.is refl
+pub file_is : (plan : Plan) (state : ℕ) (class : LinkedClass) (file : ClassFile) → IsFileOf plan state class file → file ≡ file_with class.file file.pool file.methods
+file_is plan state class file w = subst (λ (f : ClassFile). f ≡ file_with class.file f.pool f.methods) w.is refl
 
 -- ---- the files that are made
 
-classes_made : (plan : Plan) (made last : Woven) (classes : List LinkedClass) → folded (class_woven plan) made classes ≡ Ok last
-    → (files : List ClassFile) × (last.files ≡ made.files ++ files) × Each (IsFileOf plan) classes files
-classes_made plan made last [] e = ([], ap (λ (w : Woven). w.files) (sym (ok_is SpliceFault made last e)) ∙ sym (append-nil made.files), tt)
-classes_made plan made last (class ∷ classes) e =
-    let one = bind_ok (class_woven plan made class) (λ next. folded (class_woven plan) next classes) last e in
-    let two = bind_ok (members_woven plan class (none_made class.file.pool) class.file.methods) (λ done. Ok (file_put made class done)) one.0 one.1 in
+classes_made : (plan : Plan) (state : ℕ) (made last : Woven) (classes : List LinkedClass) → folded (class_woven plan state) made classes ≡ Ok last
+    → (files : List ClassFile) × (last.files ≡ made.files ++ files) × Each (IsFileOf plan state) classes files
+classes_made plan state made last [] e = ([], ap (λ (w : Woven). w.files) (sym (ok_is SpliceFault made last e)) ∙ sym (append-nil made.files), tt)
+classes_made plan state made last (class ∷ classes) e =
+    let one = bind_ok (class_woven plan state made class) (λ next. folded (class_woven plan state) next classes) last e in
+    let two = bind_ok (members_woven plan state class (none_made class.file.pool) class.file.methods) (λ done. Ok (file_put made class done)) one.0 one.1 in
     let file = file_with class.file two.0.entries two.0.items in
     let put : one.0.files ≡ made.files ++ file ∷ [] = ap (λ (w : Woven). w.files) (sym (ok_is SpliceFault (file_put made class two.0) one.0 two.2)) in
-    let later = classes_made plan one.0 last classes one.2 in (
+    let later = classes_made plan state one.0 last classes one.2 in (
       file ∷ later.0,
       later.1 ∙ ap (λ (xs : List ClassFile). xs ++ later.0) put ∙ append_assoc made.files (file ∷ []) later.0,
       (record { made = two.0; all = two.1; is = refl }, later.2),
     )
 
 pub files_made : (plan : Plan) (vars : List Var) (old : Program) (made : Woven) → woven old plan vars ≡ Ok made
-    → (files : List ClassFile) × (made.files ≡ files ++ state_file vars ∷ []) × Each (IsFileOf plan) old.classes files
+    → (files : List ClassFile) × (made.files ≡ files ++ state_file vars ∷ []) × Each (IsFileOf plan (length old.classes)) old.classes files
 files_made plan vars old made e =
-    let none : Woven = record { files = []; origins = [] } in
-    let one = bind_ok (classes_woven plan none old.classes) (λ w. Ok (state_put vars w)) made e in
-    let all = classes_made plan none one.0 old.classes one.1 in
+    let state = length old.classes in
+    let one = bind_ok (classes_woven plan state nothing_woven old.classes) (λ w. Ok (state_put vars w)) made e in
+    let all = classes_made plan state nothing_woven one.0 old.classes one.1 in
     let put : made.files ≡ one.0.files ++ state_file vars ∷ [] = ap (λ (w : Woven). w.files) (sym (ok_is SpliceFault (state_put vars one.0) made one.2)) in
     (all.0, put ∙ ap (λ (xs : List ClassFile). xs ++ state_file vars ∷ []) all.1, all.2)

@@ -52,14 +52,14 @@ module _ (plan : Plan) (base : ℕ) (refs : List Target) (alone : AreAlone plan 
 -- ---- a method
 
 module _ (kinds : List Bool) (plan : Plan) (good : IsGood kinds plan) (pool : List Const) (m : Method) where
-  code_laid : (class : List ℕ) (number : ℕ) (entries : List Const) (code : Code) (w : WovenCode) → IsSoundMethod m → m.max_locals ≡ code.max_locals
-      → code_woven plan class number entries m code ≡ Ok w → MethodIsLaid plan pool m w.origins
-  code_laid class number entries code w sound locals = code_cases plan class number entries m code (λ x. MethodIsLaid plan pool m x.origins) w with_them without
+  code_laid : (state : ℕ) (class : List ℕ) (number : ℕ) (entries : List Const) (code : Code) (w : WovenCode) → IsSoundMethod m → m.max_locals ≡ code.max_locals
+      → code_woven plan state class number entries m code ≡ Ok w → MethodIsLaid plan pool m w.made.origins
+  code_laid state class number entries code w sound locals = code_cases plan state class number entries m code (λ x. MethodIsLaid plan pool m x.made.origins) w with_them without
     where
       own : List (Option Block)
       own = sites_of plan m.max_locals m
 
-      with_them : is_woven plan m ≡ true → (new : Code) → IsPut plan class number entries m code new → MethodIsLaid plan pool m (origins_of (sites_of plan code.max_locals m))
+      with_them : is_woven plan m ≡ true → (new : Code) → IsPut plan state class number entries m code new → MethodIsLaid plan pool m (origins_of (sites_of plan code.max_locals m))
       with_them some new put =
           let roomy = room_is class number code (locals_of plan m) put.0 in
           let fit = refs_fit kinds plan good m.max_locals m.refs (omega (arith, roomy.1, locals)) in

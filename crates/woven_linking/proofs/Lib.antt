@@ -17,8 +17,10 @@ pub mod Tables
 pub mod Again
 pub mod Attributes
 pub mod Steps
+pub mod ByPlan
 pub mod Made
 pub mod Whole
+pub mod MethodsMade
 pub mod Relinked
 pub mod Original
 pub mod Told

@@ -18,7 +18,7 @@ use Rattle.bytecode_model.proofs.Lists.{not_true}
 use Rattle.bytecode_model.proofs.Names.{same_id}
 use Rattle.bytecode_model.proofs.Placing.{test_cases}
 use Rattle.offset_patch.specs.Entries.{state_name}
-use Rattle.class_weaving.specs.Outcome.{way_out}
+use Rattle.offset_patch.specs.Splicing.{way_out}
 use Rattle.woven_linking.proofs.Above.{and_both, has_name, ordered}
 
 pub record IsListed (listing : Listing) : Type 0 where

@@ -10,9 +10,11 @@ use Rattle.bytecode_model.specs.declared.program.Method.{Method}
 use Rattle.offset_patch.specs.declared.block.Block.{Block}
 use Rattle.offset_patch.specs.Plan.{Plan}
 use Rattle.offset_patch.specs.Splicing.{operands_needed, spliced}
-use Rattle.class_weaving.specs.Outcome.{Each, handlers_with, parts_named, IsWovenMethod, IsWovenClass}
+use Rattle.offset_patch.specs.Splicing.{handlers_with, parts_named}
+use Rattle.class_weaving.specs.Outcome.{Each, IsWovenMethod, IsWovenClass}
 use Rattle.class_weaving.specs.Woven.{is_woven, sites_of, locals_of}
-use Rattle.woven_linking.specs.Program.{with_blocks, method_with, class_with, MethodHasRoom, HaveRoom}
+use Rattle.woven_linking.specs.Program.{MethodHasRoom, HaveRoom}
+use Rattle.woven_linking.proofs.ByPlan.{with_blocks, method_with, class_with}
 
 -- ---- methods
 

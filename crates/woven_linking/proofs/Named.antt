@@ -46,7 +46,8 @@ use Rattle.offset_patch.specs.Entries.{state_name, variable_name, variable_type,
 use Rattle.offset_patch.specs.Splicing.{part_of, aimed, put, parts_from, want_of, block_wants, wants_of}
 use Rattle.offset_patch.proofs.InsnFits.{split_all, site_part}
 use Rattle.offset_patch.proofs.PoolFits.{get_on}
-use Rattle.class_weaving.specs.Outcome.{Each, way_out, way_out_index, want_named, part_named, parts_named}
+use Rattle.offset_patch.specs.Splicing.{way_out, way_out_index, want_named, part_named, parts_named}
+use Rattle.class_weaving.specs.Outcome.{Each}
 use Rattle.offset_patch.specs.Fits.{takes, IsBlockInsn, IsSite}
 use Rattle.offset_patch.specs.Plan.{Plan, IsGood, NamesVariable}
 use Rattle.insn_codec.specs.declared.opcodes.TheConstants.{LDC_W, GETSTATIC, PUTSTATIC, INVOKESTATIC}

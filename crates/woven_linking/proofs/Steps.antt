@@ -43,8 +43,9 @@ use Rattle.offset_patch.proofs.EntryFits.{wants_grow}
 use Rattle.offset_patch.proofs.InsnFits.{split_all, wants_there}
 use Rattle.offset_patch.proofs.Steady.{steady_wanted}
 use Rattle.class_weaving.specs.declared.woven.Members.{Members}
-use Rattle.class_weaving.specs.Woven.{WovenCode, is_woven, sites_of, locals_of, clients_from, blocks_put, code_woven, first_code, attr_with, member_with, bare_put, code_put, body_woven}
-use Rattle.class_weaving.specs.Outcome.{Each, way_out, at_fronts, own_handlers, handlers_with, wants_woven, insns_woven, stack_woven, locals_woven, handlers_woven, parts_named, refs_woven, IsWovenBody, IsWovenMember, IsWovenMethod}
+use Rattle.class_weaving.specs.Woven.{WovenCode, is_woven, sites_of, locals_of, as_it_is, blocks_put, code_woven, first_code, attr_with, member_with, bare_put, code_put, body_woven}
+use Rattle.offset_patch.specs.Splicing.{way_out, at_fronts, own_handlers, handlers_with, parts_named}
+use Rattle.class_weaving.specs.Outcome.{Each, wants_woven, insns_woven, stack_woven, locals_woven, handlers_woven, refs_woven, IsWovenBody, IsWovenMember, IsWovenMethod}
 use Rattle.woven_linking.specs.Program.{HasRoom, MethodHasRoom}
 use Rattle.woven_linking.proofs.Again.{IsSoundCode, put_reads}
 use Rattle.woven_linking.proofs.Attributes.{attrs_same, attrs_with, lines_same}
@@ -95,7 +96,7 @@ parts_on pool more fronts begin (insn ∷ own) (site ∷ sites) w =
     let wants = split_all (IsThere pool) (block_wants site) (wants_of sites) w in
     rw (part_on pool more fronts begin insn (part_of site) wants.0, parts_on pool more fronts (begin + length (part_of site)) own sites wants.1) refl
 
-spliced_on : (pool more : List Const) (own : List Insn) (sites : List (Option Block)) → spliced (grown pool sites) own sites ≡ spliced (grown pool sites ++ more) own sites
+pub spliced_on : (pool more : List Const) (own : List Insn) (sites : List (Option Block)) → spliced (grown pool sites) own sites ≡ spliced (grown pool sites ++ more) own sites
 spliced_on pool more own sites = parts_on (grown pool sites) more (fronts_of sites) 0 own sites (wants_there sites pool)
 
 -- ---- the first code
@@ -216,7 +217,7 @@ module _ (kinds : List Bool) (plan : Plan) (good : IsGood kinds plan) (file new 
     pub kept : (ys : List Const) → new.pool ≡ next.entries ++ ys → IsWovenMember plan new.pool m member item
 
   bare_step : (made : Members) (member : Member) (m : Method) → FitsMember file.pool true member → method_linked files listing file made.number member ≡ Ok m → first_code member.attrs ≡ None
-      → bare file member ≡ m → IsStep made (bare_put made member) member m
+      → bare file member ≡ m → IsStep made (bare_put made member (Some m)) member m
   bare_step made member m fits linked none is = record {
     item = member;
     items = refl;
@@ -252,36 +253,36 @@ module _ (kinds : List Bool) (plan : Plan) (good : IsGood kinds plan) (file new 
   record IsWovenCode (pool : List Const) (m : Method) (code : Code) (w : WovenCode) : Type 0 where
     more : (xs : List Const) × (w.entries ≡ pool ++ xs)
     wanted : w.entries ≡ with_wants pool (wants_woven plan m)
-    insns : (ys : List Const) → new.pool ≡ w.entries ++ ys → code_of w.code.code ≡ Ok (insns_woven plan new.pool m)
-    max_stack : w.code.max_stack ≡ stack_woven plan m
-    max_locals : w.code.max_locals ≡ locals_woven plan m
+    insns : (ys : List Const) → new.pool ≡ w.entries ++ ys → code_of w.made.code.code ≡ Ok (insns_woven plan new.pool m)
+    max_stack : w.made.code.max_stack ≡ stack_woven plan m
+    max_locals : w.made.code.max_locals ≡ locals_woven plan m
     refs : (ys : List Const) → new.pool ≡ w.entries ++ ys → Each Names (insns_woven plan new.pool m) (refs_woven plan (length files) m)
-    handlers : (ys : List Const) → new.pool ≡ w.entries ++ ys → Each (IsHandlerOf others listing new.pool (starts_of (insns_woven plan new.pool m))) w.code.table (handlers_woven plan m)
+    handlers : (ys : List Const) → new.pool ≡ w.entries ++ ys → Each (IsHandlerOf others listing new.pool (starts_of (insns_woven plan new.pool m))) w.made.code.table (handlers_woven plan m)
     out : (ys : List Const) → new.pool ≡ w.entries ++ ys → Contains (wants_woven plan m) wants.Exit → reference_at new.pool (place_in new.pool wants.Exit) ≡ Some way_out
-    rows : length w.code.table < 2 ^ 16
+    rows : length w.made.code.table < 2 ^ 16
     sound : (ys : List Const) → new.pool ≡ w.entries ++ ys → IsSoundCode (insns_woven plan new.pool m)
     room : (ys : List Const) → new.pool ≡ w.entries ++ ys → MethodHasRoom plan new.pool m
-    body : (ys : List Const) → new.pool ≡ w.entries ++ ys → IsWovenBody plan new.pool m code w.code
+    body : (ys : List Const) → new.pool ≡ w.entries ++ ys → IsWovenBody plan new.pool m code w.made.code
 
   -- the constants that the methods before added
   abbrev pub Begins : List Const → Type 0
   Begins pool = (xs : List Const) × (pool ≡ file.pool ++ xs)
 
-  woven_is : (class : List ℕ) (number : ℕ) (pool : List Const) (m : Method) (member : Member) (code : Code) (w : WovenCode) → IsSoundMethod m → IsCoded files listing file member code m
-      → FitCounted (FitsTableEntry file.pool) code.table → AllByRecursion (FitsOther file.pool) code.attrs → Begins pool → code_woven plan class number pool m code ≡ Ok w
+  woven_is : (state : ℕ) (class : List ℕ) (number : ℕ) (pool : List Const) (m : Method) (member : Member) (code : Code) (w : WovenCode) → IsSoundMethod m → IsCoded files listing file member code m
+      → FitCounted (FitsTableEntry file.pool) code.table → AllByRecursion (FitsOther file.pool) code.attrs → Begins pool → code_woven plan state class number pool m code ≡ Ok w
       → IsWovenCode pool m code w
-  woven_is class number pool m member code w sound old fits attrs begins = by (is_woven plan m) refl
+  woven_is state class number pool m member code w sound old fits attrs begins = by (is_woven plan m) refl
     where
       refs_still : Each Names m.insns m.refs
       refs_still = each_as (λ (x : Insn) (t : Target). operand_linked files listing file.pool x ≡ Ok t) Names (operand_still kinds files others listing added file.pool new.pool p free longer) m.insns m.refs old.refs
 
       by : (b : Bool) → is_woven plan m ≡ b
-          → (if b then blocks_put plan class number pool m code (sites_of plan code.max_locals m) else Ok (record { code = code; entries = pool; origins = clients_from 0 m.insns })) ≡ Ok w
+          → (if b then blocks_put plan state class number pool m code (sites_of plan code.max_locals m) else Ok (record { made = as_it_is m code; entries = pool })) ≡ Ok w
           → IsWovenCode pool m code w
       by true some e =
           let sites = sites_of plan code.max_locals m in
           let calls = each_as (λ (x : Insn) (t : Target). operand_linked files listing file.pool x ≡ Ok t) GoesOn (call_goes files listing file.pool) m.insns m.refs old.refs in
-          let h = put_reads kinds plan good class number pool m code w sound (last_alone kinds plan good code.max_locals m.insns m.refs sound.ends calls) e in
+          let h = put_reads kinds plan good state class number pool m code w sound (last_alone kinds plan good code.max_locals m.insns m.refs sound.ends calls) e in
           let fronts = fronts_of sites in
           let xs = spliced new.pool m.insns sites in
           let more = wants_grow (wants_of sites) pool in
@@ -319,10 +320,10 @@ module _ (kinds : List Bool) (plan : Plan) (good : IsGood kinds plan) (file new 
                 let moved = handlers_moved kinds files others listing added file.pool new.pool p longer (starts_of m.insns) fronts (length m.insns) xs below within code.table m.handlers sound.handlers fits.each old.handlers in
                 let own = sites_caught others listing new.pool xs 0 sites h.fits (omega (arith, spliced_count new.pool m.insns sites count)) in
                 let all = each_append Handled (own_entries starts 0 sites) (table_moved starts fronts m.handlers code.table) (own_handlers 0 sites) (map (at_fronts fronts) m.handlers) own moved in
-                let table : w.code.table ≡ table_spliced starts sites m.handlers code.table = h.table ∙ ap (λ (q : List Insn). table_spliced (starts_of q) sites m.handlers code.table) (spliced_same ys grown) in
-                let one : Each Handled w.code.table (handlers_woven plan m) =
+                let table : w.made.code.table ≡ table_spliced starts sites m.handlers code.table = h.table ∙ ap (λ (q : List Insn). table_spliced (starts_of q) sites m.handlers code.table) (spliced_same ys grown) in
+                let one : Each Handled w.made.code.table (handlers_woven plan m) =
                 subst (λ (t : List TableEntry). Each Handled t (handlers_woven plan m)) (sym table) (subst (Each Handled (table_spliced starts sites m.handlers code.table)) (sym handlers_is) all) in
-                subst (λ (q : List Insn). Each (IsHandlerOf others listing new.pool (starts_of q)) w.code.table (handlers_woven plan m)) (sym insns_is) one;
+                subst (λ (q : List Insn). Each (IsHandlerOf others listing new.pool (starts_of q)) w.made.code.table (handlers_woven plan m)) (sym insns_is) one;
             out = λ ys grown wanted.
                 let among : Contains (wants_of sites) wants.Exit = subst (λ (ws : List PoolWant). Contains ws wants.Exit) wants_is wanted in
                 let exit = exit_there new.pool (all_of (IsThere new.pool) (wants_of sites) wants.Exit (there ys grown) among) in
@@ -359,7 +360,7 @@ module _ (kinds : List Bool) (plan : Plan) (good : IsGood kinds plan) (file new 
           grown_by : List (Option Block) → List Const
           grown_by sites = grown pool sites
       by false none e =
-          let same : WovenCode = record { code = code; entries = pool; origins = clients_from 0 m.insns } in
+          let same : WovenCode = record { made = as_it_is m code; entries = pool } in
           let insns_is : insns_woven plan new.pool m ≡ m.insns = ap (λ (b : Bool). if b then spliced new.pool m.insns (sites_of plan m.max_locals m) else m.insns) none in
           let refs_is : refs_woven plan (length files) m ≡ m.refs = ap (λ (b : Bool). if b then parts_named (length files) m.refs (sites_of plan m.max_locals m) else m.refs) none in
           let handlers_is : handlers_woven plan m ≡ m.handlers = ap (λ (b : Bool). if b then handlers_with (sites_of plan m.max_locals m) m.handlers else m.handlers) none in
@@ -383,33 +384,33 @@ module _ (kinds : List Bool) (plan : Plan) (good : IsGood kinds plan) (file new 
             body = λ ys grown. record { same = λ fails. refl; name = refl; attrs = λ woven. absurd cc };
           })
 
-  coded_step : (class : List ℕ) (made : Members) (member : Member) (m : Method) (code : Code) (w : WovenCode) → FitsMember file.pool true member → IsSoundMethod m
+  coded_step : (state : ℕ) (class : List ℕ) (made : Members) (member : Member) (m : Method) (code : Code) (w : WovenCode) → FitsMember file.pool true member → IsSoundMethod m
       → method_linked files listing file made.number member ≡ Ok m → first_code member.attrs ≡ Some code → IsCoded files listing file member code m
-      → Begins made.entries → code_woven plan class made.number made.entries m code ≡ Ok w → IsStep made (code_put made member w) member m
-  coded_step class made member m code w fits sound linked first old begins e =
+      → Begins made.entries → code_woven plan state class made.number made.entries m code ≡ Ok w → IsStep made (code_put made member w) member m
+  coded_step state class made member m code w fits sound linked first old begins e =
       let fits_code = (first_fits file.pool member.attrs code fits.attrs.each first).1 in
-      let h = woven_is class made.number made.entries m member code w sound old fits_code.table fits_code.attrs.each begins e in
+      let h = woven_is state class made.number made.entries m member code w sound old fits_code.table fits_code.attrs.each begins e in
       let one = one_code file.pool member (conditions_of files listing file made.number member m linked).0 in
       record {
-        item = member_with member w.code;
+        item = member_with member w.made.code;
         items = refl;
         number = refl;
         more = h.more;
         wanted = h.wanted;
         is = λ ys grown at.
-            let item = member_with member w.code in
-            let kept = with_kept member w.code in
+            let item = member_with member w.made.code in
+            let kept = with_kept member w.made.code in
             let name = (head_of new).name in
             let insns = insns_woven plan new.pool m in
             let refs = refs_woven plan (length files) m in
             let handlers = handlers_woven plan m in
-            let other = with_code new item w.code insns refs handlers in
+            let other = with_code new item w.made.code insns refs handlers in
             let operands : operands_linked others listing name new.pool at insns ≡ Ok refs =
             linked_each (operand_at others listing name new.pool at) Names (λ i x t. ok_told name at i (operand_linked others listing new.pool x) t) 0 insns refs (h.refs ys grown) in
-            let table : handlers_linked others listing name new.pool at (length insns) (starts_of insns) w.code.table ≡ Ok handlers =
-            of_handlers others listing name new.pool at (length insns) (starts_of insns) w.code.table handlers (h.handlers ys grown) in
-            let coded_is : code_linked others listing new at item w.code ≡ Ok other = code_links at item w.code insns refs handlers (h.insns ys grown) operands table in
-            let body : body_linked others listing new at item (first_code item.attrs) ≡ Ok other = ap (body_linked others listing new at item) (first_with w.code code member.attrs first) ∙ coded_is in (
+            let table : handlers_linked others listing name new.pool at (length insns) (starts_of insns) w.made.code.table ≡ Ok handlers =
+            of_handlers others listing name new.pool at (length insns) (starts_of insns) w.made.code.table handlers (h.handlers ys grown) in
+            let coded_is : code_linked others listing new at item w.made.code ≡ Ok other = code_links at item w.made.code insns refs handlers (h.insns ys grown) operands table in
+            let body : body_linked others listing new at item (first_code item.attrs) ≡ Ok other = ap (body_linked others listing new at item) (first_with w.made.code code member.attrs first) ∙ coded_is in (
               other,
               links at made.number member item m other fits kept linked body,
               record {
@@ -423,10 +424,10 @@ module _ (kinds : List Bool) (plan : Plan) (good : IsGood kinds plan) (file new 
                 refs = refl;
                 out = h.out ys grown;
               },
-              sound_of others listing new at item w.code insns refs handlers (h.sound ys grown) h.rows operands table,
+              sound_of others listing new at item w.made.code insns refs handlers (h.sound ys grown) h.rows operands table,
             );
         room = h.room;
-        kept = λ ys grown. record { flags = refl; name = refl; desc = refl; attrs = attrs_with plan new.pool m w.code code member.attrs first one (h.body ys grown) };
+        kept = λ ys grown. record { flags = refl; name = refl; desc = refl; attrs = attrs_with plan new.pool m w.made.code code member.attrs first one (h.body ys grown) };
       }
     where
       code_links : (at : ℕ) (item : Member) (code : Code) (insns : List Insn) (refs : List Target) (handlers : List Handler) → code_of code.code ≡ Ok insns
@@ -440,15 +441,15 @@ module _ (kinds : List Bool) (plan : Plan) (good : IsGood kinds plan) (file new 
           ap (λ (r : Result (List Insn) CodeFault). read_of class at r >>= λ xs. operands_linked others listing class new.pool at xs >>= λ ts. ending xs ts) a
           ∙ ap (λ (r : Result (List Target) LinkFault). r >>= λ ts. ending insns ts) b ∙ ap (λ (r : Result (List Handler) LinkFault). r >>= λ hs. Ok (with_code new item code insns refs hs)) c
 
-  pub one_step : (class : List ℕ) (made next : Members) (member : Member) (m : Method) → FitsMember file.pool true member → IsSoundMethod m
-      → method_linked files listing file made.number member ≡ Ok m → Begins made.entries → body_woven plan class made member (Some m) (first_code member.attrs) ≡ Ok next
+  pub one_step : (state : ℕ) (class : List ℕ) (made next : Members) (member : Member) (m : Method) → FitsMember file.pool true member → IsSoundMethod m
+      → method_linked files listing file made.number member ≡ Ok m → Begins made.entries → body_woven plan state class made member (Some m) (first_code member.attrs) ≡ Ok next
       → IsStep made next member m
-  one_step class made next member m fits sound linked begins = by (first_code member.attrs) refl (conditions_of files listing file made.number member m linked).2
+  one_step state class made next member m fits sound linked begins = by (first_code member.attrs) refl (conditions_of files listing file made.number member m linked).2
     where
-      by : (c : Option Code) → first_code member.attrs ≡ c → body_linked files listing file made.number member c ≡ Ok m → body_woven plan class made member (Some m) c ≡ Ok next → IsStep made next member m
+      by : (c : Option Code) → first_code member.attrs ≡ c → body_linked files listing file made.number member c ≡ Ok m → body_woven plan state class made member (Some m) c ≡ Ok next → IsStep made next member m
       by None none body e =
-          subst (λ (x : Members). IsStep made x member m) (ok_is SpliceFault (bare_put made member) next e) (bare_step made member m fits linked none (ok_is LinkFault (bare file member) m body))
+          subst (λ (x : Members). IsStep made x member m) (ok_is SpliceFault (bare_put made member (Some m)) next e) (bare_step made member m fits linked none (ok_is LinkFault (bare file member) m body))
       by (Some code) first body e =
-          let one = bind_ok (code_woven plan class made.number made.entries m code) (λ w. Ok (code_put made member w)) next e in
+          let one = bind_ok (code_woven plan state class made.number made.entries m code) (λ w. Ok (code_put made member w)) next e in
           let old = coded files listing file made.number member code m body in
-          subst (λ (x : Members). IsStep made x member m) (ok_is SpliceFault (code_put made member one.0) next one.2) (coded_step class made member m code one.0 fits sound linked first old begins one.1)
+          subst (λ (x : Members). IsStep made x member m) (ok_is SpliceFault (code_put made member one.0) next one.2) (coded_step state class made member m code one.0 fits sound linked first old begins one.1)

@@ -31,7 +31,8 @@ use Rattle.offset_patch.specs.declared.block.BlockInsn.{BlockInsn}
 use Rattle.offset_patch.specs.declared.block.BlockInsn.TheVariants.{Plain, Byte, Short, Local, Want, Jump, Call}
 use Rattle.offset_patch.specs.Fits.{calls_in, IsSite}
 use Rattle.offset_patch.specs.Splicing.{part_of, count_of, call_place, caught_by, site_entries, own_entries, table_moved}
-use Rattle.class_weaving.specs.Outcome.{Each, at_fronts, handlers_by, site_handlers, own_handlers}
+use Rattle.offset_patch.specs.Splicing.{at_fronts, handlers_by, site_handlers, own_handlers}
+use Rattle.class_weaving.specs.Outcome.{Each}
 use Rattle.woven_linking.proofs.Kept.{IsLonger}
 use Rattle.woven_linking.proofs.Named.{IsAdded, class_still, told_ok}
 use Rattle.woven_linking.proofs.Pairs.{each_append, each_linked, linked_each}

@@ -28,7 +28,7 @@ use Rattle.offset_patch.specs.Splicing.{part_of, fronts_from, aimed, put, parts_
 use Rattle.class_weaving.proofs.CodeCases.{IsPut, code_cases}
 use Rattle.class_weaving.specs.declared.woven.Members.{Members}
 use Rattle.class_weaving.specs.declared.woven.Woven.{Woven}
-use Rattle.class_weaving.specs.Woven.{WovenCode, folded, is_woven, sites_of, clients_from, code_woven, first_code, bare_put, code_put, body_woven, member_woven, members_woven, none_made, file_with, file_put, class_woven, classes_woven, state_put, woven}
+use Rattle.class_weaving.specs.Woven.{WovenCode, folded, is_woven, sites_of, clients_from, code_woven, first_code, bare_put, code_put, body_woven, member_woven, members_woven, none_made, file_with, file_put, class_woven, classes_woven, nothing_woven, state_put, woven}
 use Rattle.class_weaving.specs.Outcome.{Each, insns_woven}
 use Rattle.woven_linking.specs.Origins.{fronts_in, insn_woven, IsOfBlock, IsFrom, AreFrom, MethodIsFrom, with_code, ClassTells, ClassesTell, OriginsAreTrue}
 use Rattle.class_linking.proofs.Loop.{first_linked}
@@ -176,11 +176,11 @@ module _ (plan : Plan) (pool : List Const) (m : Method) where
 
   -- ---- a method
 
-  code_tells : (class : List ℕ) (number : ℕ) (entries : List Const) (code : Code) (w : WovenCode) → IsSoundMethod m → m.max_locals ≡ code.max_locals
-      → code_woven plan class number entries m code ≡ Ok w → MethodIsFrom plan pool m w.origins
-  code_tells class number entries code w sound locals = code_cases plan class number entries m code (λ x. MethodIsFrom plan pool m x.origins) w with_them without
+  code_tells : (state : ℕ) (class : List ℕ) (number : ℕ) (entries : List Const) (code : Code) (w : WovenCode) → IsSoundMethod m → m.max_locals ≡ code.max_locals
+      → code_woven plan state class number entries m code ≡ Ok w → MethodIsFrom plan pool m w.made.origins
+  code_tells state class number entries code w sound locals = code_cases plan state class number entries m code (λ x. MethodIsFrom plan pool m x.made.origins) w with_them without
     where
-      with_them : is_woven plan m ≡ true → (new : Code) → IsPut plan class number entries m code new → MethodIsFrom plan pool m (origins_of (sites_of plan code.max_locals m))
+      with_them : is_woven plan m ≡ true → (new : Code) → IsPut plan state class number entries m code new → MethodIsFrom plan pool m (origins_of (sites_of plan code.max_locals m))
       with_them some new put =
           let told = ap (λ (n : ℕ). origins_of (sites_of plan n m)) locals in
           let insns : spliced pool m.insns (sites_of plan m.max_locals m) ≡ insns_woven plan pool m =
@@ -202,10 +202,10 @@ module _ (plan : Plan) (pool : List Const) (m : Method) where
 -- What is so of a method that was woven, and of the origins of its instructions.
 abbrev pub Told : Plan → (Method → List Origin → Type 0) → Type 0
 Told plan Holds =
-    (m : Method) (class : List ℕ) (number : ℕ) (entries : List Const) (code : Code) (w : WovenCode) → IsSoundMethod m → m.max_locals ≡ code.max_locals
-    → code_woven plan class number entries m code ≡ Ok w → Holds m w.origins
+    (m : Method) (state : ℕ) (class : List ℕ) (number : ℕ) (entries : List Const) (code : Code) (w : WovenCode) → IsSoundMethod m → m.max_locals ≡ code.max_locals
+    → code_woven plan state class number entries m code ≡ Ok w → Holds m w.made.origins
 
-module _ (plan : Plan) (Holds : Method → List Origin → Type 0) (told_of : Told plan Holds) (files : List ClassFile) (listing : Listing) (class : LinkedClass) where
+module _ (plan : Plan) (Holds : Method → List Origin → Type 0) (told_of : Told plan Holds) (state : ℕ) (files : List ClassFile) (listing : Listing) (class : LinkedClass) where
   -- What one member more tells of the methods with code.
   record IsTold (made next : Members) (olds : List Method) : Type 0 where
     told : List (List Origin)
@@ -214,18 +214,18 @@ module _ (plan : Plan) (Holds : Method → List Origin → Type 0) (told_of : To
     each : Each Holds olds told
 
   body_tells : (made next : Members) (member : Member) (m : Method) → IsSoundMethod m → (c : Option Code) → first_code member.attrs ≡ c
-      → body_linked files listing class.file made.number member c ≡ Ok m → body_woven plan class.name made member (Some m) c ≡ Ok next
+      → body_linked files listing class.file made.number member c ≡ Ok m → body_woven plan state class.name made member (Some m) c ≡ Ok next
       → IsTold made next (if is_some c then m ∷ [] else [])
   body_tells made next member m sound None first body e =
-      subst (λ (x : Members). IsTold made x []) (ok_is SpliceFault (bare_put made member) next e) (record { told = []; is = sym (append-nil made.origins); number = refl; each = tt })
+      subst (λ (x : Members). IsTold made x []) (ok_is SpliceFault (bare_put made member (Some m)) next e) (record { told = []; is = sym (append-nil made.origins); number = refl; each = tt })
   body_tells made next member m sound (Some code) first body e =
-      let one = bind_ok (code_woven plan class.name made.number made.entries m code) (λ w. Ok (code_put made member w)) next e in
+      let one = bind_ok (code_woven plan state class.name made.number made.entries m code) (λ w. Ok (code_put made member w)) next e in
       let old = coded files listing class.file made.number member code m body in
       subst (λ (x : Members). IsTold made x (m ∷ [])) (ok_is SpliceFault (code_put made member one.0) next one.2) (record {
-        told = one.0.origins ∷ [];
+        told = one.0.made.origins ∷ [];
         is = refl;
         number = refl;
-        each = (told_of m class.name made.number made.entries code one.0 sound old.max_locals one.1, tt);
+        each = (told_of m state class.name made.number made.entries code one.0 sound old.max_locals one.1, tt);
       })
 
   first_of : (m : Method) (member : Member) (methods : List Method) (members : List Member)
@@ -237,7 +237,7 @@ module _ (plan : Plan) (Holds : Method → List Origin → Type 0) (told_of : To
       by false = refl
 
   members_tell : (members : List Member) (made last : Members) (done left : List Method) → class.methods ≡ done ++ left → length done ≡ made.number → AllByRecursion IsSoundMethod left
-      → linked_from (method_linked files listing class.file) made.number members ≡ Ok left → folded (member_woven plan class) made members ≡ Ok last
+      → linked_from (method_linked files listing class.file) made.number members ≡ Ok left → folded (member_woven plan state class) made members ≡ Ok last
       → (told : List (List Origin)) × (last.origins ≡ made.origins ++ told) × Each Holds (with_code left members) told
   members_tell [] made last done left split count sound e w =
       let none : [] ≡ left = ok_is LinkFault [] left e in
@@ -250,10 +250,10 @@ module _ (plan : Plan) (Holds : Method → List Origin → Type 0) (told_of : To
       let sound' : AllByRecursion IsSoundMethod (m ∷ rest) = subst (AllByRecursion IsSoundMethod) (sym a.4) sound in
       let split' : class.methods ≡ done ++ m ∷ rest = split ∙ ap (λ (xs : List Method). done ++ xs) (sym a.4) in
       let here : slice_get class.methods made.number ≡ Some m = ap (λ (n : ℕ). slice_get class.methods n) (sym count) ∙ ap (λ (xs : List Method). slice_get xs (length done)) split' ∙ get_behind done m rest in
-      let one = bind_ok (member_woven plan class made member) (λ next. folded (member_woven plan class) next members) last w in
+      let one = bind_ok (member_woven plan state class made member) (λ next. folded (member_woven plan state class) next members) last w in
       let next = one.0 in
-      let made_by : body_woven plan class.name made member (Some m) (first_code member.attrs) ≡ Ok next =
-      ap (λ (o : Option Method). body_woven plan class.name made member o (first_code member.attrs)) (sym here) ∙ one.1 in
+      let made_by : body_woven plan state class.name made member (Some m) (first_code member.attrs) ≡ Ok next =
+      ap (λ (o : Option Method). body_woven plan state class.name made member o (first_code member.attrs)) (sym here) ∙ one.1 in
       let body = (conditions_of files listing class.file made.number member m a.2).2 in
       let step = body_tells made next member m sound'.0 (first_code member.attrs) refl body made_by in
       let linked' : linked_from (method_linked files listing class.file) next.number members ≡ Ok rest = ap (λ (n : ℕ). linked_from (method_linked files listing class.file) n members) step.number ∙ a.3 in
@@ -268,10 +268,10 @@ module _ (plan : Plan) (Holds : Method → List Origin → Type 0) (told_of : To
 
 -- ---- the program
 
-module _ (plan : Plan) (Holds : List Const → Method → List Origin → Type 0) (told_of : (pool : List Const) → Told plan (Holds pool))
+module _ (plan : Plan) (Holds : List Const → Method → List Origin → Type 0) (told_of : (pool : List Const) → Told plan (Holds pool)) (state : ℕ)
     (files : List ClassFile) (listing : Listing) where
   classes_tell : (made last : Woven) (classes : List LinkedClass) → AllByRecursion IsSoundClass classes → AllByRecursion (IsOf files listing) classes
-      → folded (class_woven plan) made classes ≡ Ok last
+      → folded (class_woven plan state) made classes ≡ Ok last
       → (news : List ClassFile) × (told : List (List (List Origin))) × (last.files ≡ made.files ++ news) × (last.origins ≡ made.origins ++ told)
       × ((state : ClassFile) → ClassesTell Holds classes (news ++ state ∷ []) (told ++ [] ∷ []))
   classes_tell made last [] sound of e =
@@ -283,13 +283,13 @@ module _ (plan : Plan) (Holds : List Const → Method → List Origin → Type 0
         λ state. refl,
       )
   classes_tell made last (class ∷ classes) sound of e =
-      let one = bind_ok (class_woven plan made class) (λ next. folded (class_woven plan) next classes) last e in
-      let two = bind_ok (members_woven plan class (none_made class.file.pool) class.file.methods) (λ done. Ok (file_put made class done)) one.0 one.1 in
+      let one = bind_ok (class_woven plan state made class) (λ next. folded (class_woven plan state) next classes) last e in
+      let two = bind_ok (members_woven plan state class (none_made class.file.pool) class.file.methods) (λ done. Ok (file_put made class done)) one.0 one.1 in
       let done = two.0 in
       let is : file_put made class done ≡ one.0 = ok_is SpliceFault (file_put made class done) one.0 two.2 in
       let file = file_with class.file done.entries done.items in
       let parts = class_parts files listing class.file class.methods of.0.methods in
-      let tell = members_tell plan (Holds done.entries) (told_of done.entries) files listing class class.file.methods (none_made class.file.pool) done [] class.methods refl refl sound.0.methods parts.each two.1 in
+      let tell = members_tell plan (Holds done.entries) (told_of done.entries) state files listing class class.file.methods (none_made class.file.pool) done [] class.methods refl refl sound.0.methods parts.each two.1 in
       let here : ClassTells Holds class file done.origins = subst (Each (Holds done.entries) (with_code class.methods class.file.methods)) (sym tell.1) tell.2 in
       let later = classes_tell one.0 last classes sound.1 of.1 one.2 in (
         file ∷ later.0,
@@ -299,14 +299,15 @@ module _ (plan : Plan) (Holds : List Const → Method → List Origin → Type 0
         λ state. (here, later.4 state),
       )
 
+module _ (plan : Plan) (Holds : List Const → Method → List Origin → Type 0) (told_of : (pool : List Const) → Told plan (Holds pool)) (files : List ClassFile) (listing : Listing) where
   pub program_tells : (main : List ℕ) (vars : List Var) (old : Program) (made : Woven) → assembled files listing main sides.Original ≡ Ok old → IsSound old
       → woven old plan vars ≡ Ok made → ClassesTell Holds old.classes made.files made.origins
   program_tells main vars old made linked sound w =
       let p = program_of files listing main sides.Original old linked in
-      let none : Woven = record { files = []; origins = [] } in
-      let one = bind_ok (classes_woven plan none old.classes) (λ x. Ok (state_put vars x)) made w in
+      let state = length old.classes in
+      let one = bind_ok (classes_woven plan state nothing_woven old.classes) (λ x. Ok (state_put vars x)) made w in
       let is : state_put vars one.0 ≡ made = ok_is SpliceFault (state_put vars one.0) made one.2 in
-      let all = classes_tell none one.0 old.classes sound.classes p.classes one.1 in
+      let all = classes_tell plan Holds told_of state files listing nothing_woven one.0 old.classes sound.classes p.classes one.1 in
       let news : (state_put vars one.0).files ≡ all.0 ++ state_file vars ∷ [] = ap (λ (xs : List ClassFile). xs ++ state_file vars ∷ []) all.2 in
       let told : (state_put vars one.0).origins ≡ all.1 ++ [] ∷ [] = ap (λ (xs : List (List (List Origin))). xs ++ [] ∷ []) all.3 in
       let here = all.4 (state_file vars) in

@@ -36,7 +36,7 @@ use Rattle.class_weaving.specs.Woven.{folded, first_code, body_woven, member_wov
 use Rattle.class_weaving.specs.Outcome.{AreWovenMembers, Each, wants_woven, class_wants, IsWovenMethod, IsWovenClass, IsWoven}
 use Rattle.woven_linking.specs.Links.{WovenLinks}
 use Rattle.woven_linking.specs.Program.{MethodHasRoom, IsWovenOf}
-use Rattle.woven_linking.specs.Program as program
+use Rattle.woven_linking.proofs.ByPlan as by_plan
 use Rattle.woven_linking.proofs.Made.{class_is, HaveMethodsRoom, with_state}
 use Rattle.woven_linking.proofs.Added.{is_added, new_stand}
 use Rattle.woven_linking.proofs.Free.{IsFree, class_free}
@@ -58,7 +58,7 @@ get_behind (z ∷ xs) x ys = get_behind xs x ys
 -- ---- the methods of a class
 
 module _ (kinds : List Bool) (plan : Plan) (good : IsGood kinds plan) (class : LinkedClass) (new : ClassFile) (files others : List ClassFile) (listing : Listing) (added : IsAdded kinds files others listing)
-    (p : FitsPool class.file.pool) (free : IsFree class.file.pool) (longer : IsLonger class.file.pool new.pool) (named : (head_of new).name ≡ (head_of class.file).name) where
+    (p : FitsPool class.file.pool) (free : IsFree class.file.pool) (longer : IsLonger class.file.pool new.pool) (named : (head_of new).name ≡ (head_of class.file).name) (state : ℕ) where
   -- What the members that are left make of what was made, and what these link to.
   record IsRest (made last : Members) (members : List Member) (left : List Method) : Type 0 where
     items : List Member
@@ -77,7 +77,7 @@ module _ (kinds : List Bool) (plan : Plan) (good : IsGood kinds plan) (class : L
 
   members_rest : (members : List Member) (made last : Members) (done left : List Method) → class.methods ≡ done ++ left → length done ≡ made.number → AllByRecursion IsSoundMethod left
       → AllByRecursion (FitsMember class.file.pool true) members → linked_from (method_linked files listing class.file) made.number members ≡ Ok left
-      → folded (member_woven plan class) made members ≡ Ok last → last.entries ≡ new.pool → (xs : List Const) × (made.entries ≡ class.file.pool ++ xs) → IsRest made last members left
+      → folded (member_woven plan state class) made members ≡ Ok last → last.entries ≡ new.pool → (xs : List Const) × (made.entries ≡ class.file.pool ++ xs) → IsRest made last members left
   members_rest [] made last done left split count sound fits e w pool begins =
       let none : [] ≡ left = ok_is LinkFault [] left e in
       subst (IsRest made last []) none (subst (λ (x : Members). IsRest made x [] []) (ok_is SpliceFault made last w) (none_left made))
@@ -88,11 +88,11 @@ module _ (kinds : List Bool) (plan : Plan) (good : IsGood kinds plan) (class : L
       let sound' : AllByRecursion IsSoundMethod (m ∷ rest) = subst (AllByRecursion IsSoundMethod) (sym a.4) sound in
       let split' : class.methods ≡ done ++ m ∷ rest = split ∙ ap (λ (xs : List Method). done ++ xs) (sym a.4) in
       let here : slice_get class.methods made.number ≡ Some m = ap (λ (n : ℕ). slice_get class.methods n) (sym count) ∙ ap (λ (xs : List Method). slice_get xs (length done)) split' ∙ get_behind done m rest in
-      let one = bind_ok (member_woven plan class made member) (λ next. folded (member_woven plan class) next members) last w in
+      let one = bind_ok (member_woven plan state class made member) (λ next. folded (member_woven plan state class) next members) last w in
       let next = one.0 in
-      let woven : body_woven plan class.name made member (Some m) (first_code member.attrs) ≡ Ok next =
-      ap (λ (o : Option Method). body_woven plan class.name made member o (first_code member.attrs)) (sym here) ∙ one.1 in
-      let step = one_step kinds plan good class.file new files others listing added p free longer named class.name made next member m fits.0 sound'.0 a.2 begins woven in
+      let woven : body_woven plan state class.name made member (Some m) (first_code member.attrs) ≡ Ok next =
+      ap (λ (o : Option Method). body_woven plan state class.name made member o (first_code member.attrs)) (sym here) ∙ one.1 in
+      let step = one_step kinds plan good class.file new files others listing added p free longer named state class.name made next member m fits.0 sound'.0 a.2 begins woven in
       let linked' : linked_from (method_linked files listing class.file) next.number members ≡ Ok rest = ap (λ (n : ℕ). linked_from (method_linked files listing class.file) n members) step.number ∙ a.3 in
       let count' : length (done ++ m ∷ []) ≡ next.number = length-append done (m ∷ []) ∙ ap (λ (n : ℕ). n + 1) count ∙ sym step.number in
       let begins' : (xs : List Const) × (next.entries ≡ class.file.pool ++ xs) = (
@@ -137,16 +137,16 @@ module _ (kinds : List Bool) (plan : Plan) (good : IsGood kinds plan) (vars : Li
   state_links =
       methods_link others listing (state_file vars) [] refl (ap (left_to_library others listing) (state_says vars) ∙ added.state_left)
 
-  class_joined : (old : LinkedClass) (new : ClassFile) → IsSoundClass old → IsFree old.file.pool → IsOf files listing old → IsFileOf plan old new
+  class_joined : (state : ℕ) (old : LinkedClass) (new : ClassFile) → IsSoundClass old → IsFree old.file.pool → IsOf files listing old → IsFileOf plan state old new
       → (methods : List Method) × (methods_linked others listing new ≡ Ok methods) × IsWovenClass plan (length files) old (class_with new methods)
       × AllByRecursion IsSoundMethod methods × AllByRecursion (MethodHasRoom plan new.pool) old.methods
-  class_joined old new sound free of w =
-      let k = file_kept plan old new w in
+  class_joined state old new sound free of w =
+      let k = file_kept plan state old new w in
       let head : head_of new ≡ head_of old.file = head_kept old.file new sound.fits k in
       let named : (head_of new).name ≡ (head_of old.file).name = ap (λ (c : ListedClass). c.name) head in
       let pool : w.made.entries ≡ new.pool = ap (λ (f : ClassFile). f.pool) w.is in
       let parts = class_parts files listing old.file old.methods of.methods in
-      let rest = members_rest kinds plan good old new files others listing added sound.fits.pool free k.longer named old.file.methods (none_made old.file.pool) w.made [] old.methods refl refl sound.methods
+      let rest = members_rest kinds plan good old new files others listing added sound.fits.pool free k.longer named state old.file.methods (none_made old.file.pool) w.made [] old.methods refl refl sound.methods
       sound.fits.methods.each parts.each w.all pool ([], sym (append-nil old.file.pool)) in
       let items : new.methods ≡ rest.items = ap (λ (f : ClassFile). f.methods) (sym w.is) ∙ rest.are in
       let each : each_method_linked others listing new ≡ Ok rest.linked = ap (linked_from (method_linked others listing new) 0) items ∙ rest.links in
@@ -162,7 +162,7 @@ module _ (kinds : List Bool) (plan : Plan) (good : IsGood kinds plan) (vars : Li
           added = k.longer.more;
           pool = k.longer.is;
           wanted = sym pool ∙ rest.wanted;
-          file = file_is plan old new w;
+          file = file_is plan state old new w;
           members = subst (AreWovenMembers plan new.pool old.methods old.file.methods) (sym items) rest.kept;
           methods = rest.each;
         },
@@ -177,21 +177,21 @@ module _ (kinds : List Bool) (plan : Plan) (good : IsGood kinds plan) (vars : Li
     own : List LinkedClass
     are : classes_with (news ++ state_file vars ∷ []) methods ≡ own ++ class_with (state_file vars) [] ∷ []
     classes : Each (IsWovenClass plan (length files)) olds own
-    with : classes_with (news ++ state_file vars ∷ []) methods ≡ program.classes_with plan (length files) olds (news ++ state_file vars ∷ [])
+    with : classes_with (news ++ state_file vars ∷ []) methods ≡ by_plan.classes_with plan (length files) olds (news ++ state_file vars ∷ [])
     sound : AllByRecursion (AllByRecursion IsSoundMethod) methods
     room : Each (λ (old : LinkedClass) (new : ClassFile). AllByRecursion (MethodHasRoom plan new.pool) old.methods) olds news
 
   state_linked : (at : ℕ) → linked_from (λ i. methods_linked others listing) at (state_file vars ∷ []) ≡ Ok ([] ∷ [])
   state_linked at = ap (λ (r : Linked (List Method)). r >>= λ x. Ok (x ∷ [])) state_links
 
-  classes_joined : (at : ℕ) (olds : List LinkedClass) (news : List ClassFile) → AllByRecursion IsSoundClass olds → AllByRecursion (λ (c : LinkedClass). IsFree c.file.pool) olds
-      → AllByRecursion (IsOf files listing) olds → Each (IsFileOf plan) olds news → AreJoined at olds news
-  classes_joined at [] [] sound free of w = record { methods = [] ∷ []; links = state_linked at; own = []; are = refl; classes = tt; with = refl; sound = (tt, tt); room = tt }
-  classes_joined at [] (new ∷ news) sound free of w = absurd w
-  classes_joined at (old ∷ olds) [] sound free of w = absurd w
-  classes_joined at (old ∷ olds) (new ∷ news) sound free of w =
-      let one = class_joined old new sound.0 free.0 of.0 w.0 in
-      let rest = classes_joined (at + 1) olds news sound.1 free.1 of.1 w.1 in
+  classes_joined : (state at : ℕ) (olds : List LinkedClass) (news : List ClassFile) → AllByRecursion IsSoundClass olds → AllByRecursion (λ (c : LinkedClass). IsFree c.file.pool) olds
+      → AllByRecursion (IsOf files listing) olds → Each (IsFileOf plan state) olds news → AreJoined at olds news
+  classes_joined state at [] [] sound free of w = record { methods = [] ∷ []; links = state_linked at; own = []; are = refl; classes = tt; with = refl; sound = (tt, tt); room = tt }
+  classes_joined state at [] (new ∷ news) sound free of w = absurd w
+  classes_joined state at (old ∷ olds) [] sound free of w = absurd w
+  classes_joined state at (old ∷ olds) (new ∷ news) sound free of w =
+      let one = class_joined state old new sound.0 free.0 of.0 w.0 in
+      let rest = classes_joined state (at + 1) olds news sound.1 free.1 of.1 w.1 in
       record {
         methods = one.0 ∷ rest.methods;
         links = ap (λ (r : Linked (List Method)). r >>= λ x. linked_from (λ i. methods_linked others listing) (at + 1) (news ++ state_file vars ∷ []) >>= λ xs. Ok (x ∷ xs)) one.1
@@ -200,7 +200,7 @@ module _ (kinds : List Bool) (plan : Plan) (good : IsGood kinds plan) (vars : Li
         are = ap (λ (xs : List LinkedClass). class_with new one.0 ∷ xs) rest.are;
         classes = (one.2, rest.classes);
         with = ap (λ (c : LinkedClass). c ∷ classes_with (news ++ state_file vars ∷ []) rest.methods) (class_is plan (length files) old (class_with new one.0) one.2)
-            ∙ ap (λ (cs : List LinkedClass). program.class_with plan (length files) old new ∷ cs) rest.with;
+            ∙ ap (λ (cs : List LinkedClass). by_plan.class_with plan (length files) old new ∷ cs) rest.with;
         sound = (one.3, rest.sound);
         room = (one.4, rest.room);
       }
@@ -258,11 +258,11 @@ assembled_by files listing main side methods begin good each is = rw (good, each
 -- ---- the program
 
 module _ (plan : Plan) where
-  all_kept : (classes : List LinkedClass) (news : List ClassFile) → Each (IsFileOf plan) classes news → Each IsKept (files_of classes) news
-  all_kept [] [] w = tt
-  all_kept [] (new ∷ news) w = absurd w
-  all_kept (class ∷ classes) [] w = absurd w
-  all_kept (class ∷ classes) (new ∷ news) w = (file_kept plan class new w.0, all_kept classes news w.1)
+  all_kept : (state : ℕ) (classes : List LinkedClass) (news : List ClassFile) → Each (IsFileOf plan state) classes news → Each IsKept (files_of classes) news
+  all_kept state [] [] w = tt
+  all_kept state [] (new ∷ news) w = absurd w
+  all_kept state (class ∷ classes) [] w = absurd w
+  all_kept state (class ∷ classes) (new ∷ news) w = (file_kept plan state class new w.0, all_kept state classes news w.1)
 
 all_fit : (classes : List LinkedClass) → AllByRecursion IsSoundClass classes → AllByRecursion CanSpell (files_of classes)
 all_fit [] h = tt
@@ -284,7 +284,7 @@ pub record IsRelinked (listing : Listing) (main : List ℕ) (old : Program) (pla
   pub each : each_linked files listing files ≡ Ok methods
   pub begins : main_of files main ≡ Some begin
   pub woven : IsWoven old plan vars (record { classes = classes_with files methods; listing = listing; literals = literals_of files; main_class = begin.0; main_method = begin.1 })
-  pub with : classes_with files methods ≡ program.classes_with plan (length old.classes) old.classes files
+  pub with : classes_with files methods ≡ by_plan.classes_with plan (length old.classes) old.classes files
   pub sound : AllByRecursion (AllByRecursion IsSoundMethod) methods
   pub room : HaveMethodsRoom plan old.classes files
 
@@ -298,11 +298,11 @@ relinked listing files main old plan vars made of =
     let state = state_file vars in
     let others = news ++ state ∷ [] in
     let fits : AllByRecursion CanSpell files = subst (AllByRecursion CanSpell) p.files_are (all_fit old.classes of.sound.classes) in
-    let kept : Each IsKept files news = subst (λ (fs : List ClassFile). Each IsKept fs news) p.files_are (all_kept plan old.classes news all.2) in
+    let kept : Each IsKept files news = subst (λ (fs : List ClassFile). Each IsKept fs news) p.files_are (all_kept plan (length old.classes) old.classes news all.2) in
     let l = listed of.text listing of.listed in
     let added = is_added vars of.few listing l files news fits kept p.good in
     let free = free_classes files listing main old p in
-    let joined = classes_joined kinds plan of.good vars files others listing added 0 old.classes news of.sound.classes free p.classes all.2 in
+    let joined = classes_joined kinds plan of.good vars files others listing added (length old.classes) 0 old.classes news of.sound.classes free p.classes all.2 in
     let begin = p.begin.0 in
     let count : length files ≡ length old.classes = sym (ap length p.files_are) ∙ length-map old.classes (λ (c : LinkedClass). c.file) in
     let new : Program = record { classes = classes_with others joined.methods; listing = listing; literals = literals_of others; main_class = begin.0; main_method = begin.1 } in
@@ -324,7 +324,7 @@ relinked listing files main old plan vars made of =
       each = joined.links;
       begins = main_kept state main begin 0 files news fits kept p.begin.1;
       woven = is_woven;
-      with = subst (λ (n : ℕ). classes_with others joined.methods ≡ program.classes_with plan n old.classes others) count joined.with;
+      with = subst (λ (n : ℕ). classes_with others joined.methods ≡ by_plan.classes_with plan n old.classes others) count joined.with;
       sound = joined.sound;
       room = with_state plan old.classes news state joined.room;
     })

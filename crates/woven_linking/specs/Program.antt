@@ -19,60 +19,34 @@ use Rattle.conspec_tree.specs.declared.types.Var.{Var}
 use Rattle.offset_patch.specs.declared.block.Block.{Block}
 use Rattle.offset_patch.specs.Entries.{IsThere}
 use Rattle.offset_patch.specs.Plan.{Plan, IsGood}
-use Rattle.offset_patch.specs.Splicing.{count_of, operands_needed, spliced, wants_of}
+use Rattle.offset_patch.specs.Splicing.{count_of, operands_needed, wants_of}
 use Rattle.class_weaving.specs.declared.woven.Woven.{Woven}
-use Rattle.class_weaving.specs.Outcome.{handlers_with, parts_named}
 use Rattle.class_weaving.specs.Woven.{is_woven, sites_of, locals_of, woven}
-
--- ---- a method
-
--- the method with these blocks, which use so many more locals and name constants of the pool; conspec/State is the class of the
--- index `state`
-abbrev pub with_sites : ℕ → ℕ → List Const → Method → List (Option Block) → Method
-with_sites locals state pool method sites = record {
-  flags = method.flags;
-  name = method.name;
-  desc = method.desc;
-  max_stack = method.max_stack + operands_needed;
-  max_locals = method.max_locals + locals;
-  insns = spliced pool method.insns sites;
-  refs = parts_named state method.refs sites;
-  handlers = handlers_with sites method.handlers;
-}
-
--- the same, with as many more locals as the plan asks for
-abbrev pub with_blocks : Plan → ℕ → List Const → Method → List (Option Block) → Method
-with_blocks plan state pool method sites = with_sites (locals_of plan method) state pool method sites
-
--- A method without a block stays as it is.
-abbrev pub method_with : Plan → ℕ → List Const → Method → Method
-method_with plan state pool method =
-    if is_woven plan method then with_blocks plan state pool method (sites_of plan method.max_locals method) else method
 
 -- ---- classes
 
--- the class with its woven file
-abbrev pub class_with : Plan → ℕ → LinkedClass → ClassFile → LinkedClass
-class_with plan state class file =
-    record { name = class.name; parent = class.parent; file = file; methods = map (method_with plan state file.pool) class.methods }
+-- the class with its woven file, and its methods with their blocks
+abbrev pub class_with : LinkedClass → ClassFile → List Method → LinkedClass
+class_with class file methods = record { name = class.name; parent = class.parent; file = file; methods = methods }
 
 -- the class conspec/State of this file, which has no method
 abbrev pub state_with : ClassFile → LinkedClass
 state_with file = record { name = class_at file.pool file.this_class; parent = class_at file.pool file.super_class; file = file; methods = [] }
 
--- the classes with their files, and behind them conspec/State
-abbrev pub classes_with : Plan → ℕ → List LinkedClass → List ClassFile → List LinkedClass
-classes_with plan state [] [] = []
-classes_with plan state [] (file ∷ files) = state_with file ∷ []
-classes_with plan state (class ∷ classes) [] = []
-classes_with plan state (class ∷ classes) (file ∷ files) = class_with plan state class file ∷ classes_with plan state classes files
+-- the classes with their files and methods, and behind them conspec/State
+abbrev pub classes_with : List LinkedClass → List ClassFile → List (List Method) → List LinkedClass
+classes_with [] [] methods = []
+classes_with [] (file ∷ files) methods = state_with file ∷ []
+classes_with (class ∷ classes) [] methods = []
+classes_with (class ∷ classes) (file ∷ files) [] = []
+classes_with (class ∷ classes) (file ∷ files) (first ∷ others) = class_with class file first ∷ classes_with classes files others
 
 -- ---- the program
 
 -- All but its classes is as it was.
-abbrev pub program_with : Plan → Program → List ClassFile → Program
-program_with plan old files = record {
-  classes = classes_with plan (length old.classes) old.classes files;
+abbrev pub program_with : Program → List ClassFile → List (List Method) → Program
+program_with old files methods = record {
+  classes = classes_with old.classes files methods;
   listing = old.listing;
   literals = old.literals;
   main_class = old.main_class;
@@ -118,13 +92,13 @@ pub record IsWovenOf (listing : Listing) (files : List ClassFile) (main : List �
 abbrev pub WovenProgramIsLinked : Type 0
 WovenProgramIsLinked =
     (listing : Listing) (files : List ClassFile) (main : List ℕ) (old : Program) (plan : Plan) (vars : List Var) (made : Woven)
-    → IsWovenOf listing files main old plan vars made → assembled made.files listing main sides.Inlined ≡ Ok (program_with plan old made.files)
+    → IsWovenOf listing files main old plan vars made → assembled made.files listing main sides.Inlined ≡ Ok (program_with old made.files made.methods)
 
 -- Its class files are the woven ones.
 abbrev pub WovenFilesComeBack : Type 0
 WovenFilesComeBack =
     (listing : Listing) (files : List ClassFile) (main : List ℕ) (old : Program) (plan : Plan) (vars : List Var) (made : Woven)
-    → IsWovenOf listing files main old plan vars made → unlinked (program_with plan old made.files) ≡ made.files
+    → IsWovenOf listing files main old plan vars made → unlinked (program_with old made.files made.methods) ≡ made.files
 
 -- Files that can be written have room for the blocks.
 abbrev pub WovenFilesHaveRoom : Type 0
@@ -136,4 +110,4 @@ WovenFilesHaveRoom =
 abbrev pub WovenProgramIsSound : Type 0
 WovenProgramIsSound =
     (listing : Listing) (files : List ClassFile) (main : List ℕ) (old : Program) (plan : Plan) (vars : List Var) (made : Woven)
-    → IsWovenOf listing files main old plan vars made → AllByRecursion CanSpell made.files → length made.files ≤ 1001 → IsSound (program_with plan old made.files)
+    → IsWovenOf listing files main old plan vars made → AllByRecursion CanSpell made.files → length made.files ≤ 1001 → IsSound (program_with old made.files made.methods)

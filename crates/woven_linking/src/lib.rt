@@ -2,13 +2,10 @@
 //! true. (docs/BLOCKS.md)
 #![tactic(auto)]
 
-mod handlers;
 mod inlining;
 mod laws;
-mod operands;
 mod program;
 
-pub use handlers::rewrite;
 pub use inlining::{Inlined, inline};
 pub use laws::{
     original_is_free, origins_are_laid_out, origins_are_true, woven_files_link,

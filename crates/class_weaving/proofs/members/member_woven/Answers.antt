@@ -18,7 +18,7 @@ returns-in_default-clause-is g c =
     let made = c.args.made.now in
     let there = got c.get.result c.as_slice.result.now made.number c.get.ensures.lookup.3 c.get.ensures.lookup.1 in
     let none : None ≡ slice_get class.methods made.number = sym (ap (λ (o : Option (Bor Method)). option_copied o) c.in_default.is) ∙ there ∙ ap (λ (ms : List Method). slice_get ms made.number) c.as_slice.ensures in
-    subst (λ (o : Option Method). AnswersAs Memory (λ done. c.bare_put.new.made) c.bare_put.result (body_woven plan class.name made member o (first_code member.attrs))) none c.bare_put.ensures
+    subst (λ (o : Option Method). AnswersAs Memory (λ done. c.bare_put.new.made) c.bare_put.result (body_woven plan c.args.state class.name made member o (first_code member.attrs))) none c.bare_put.ensures
 
 pub returns-clause-is : goal.returns-clause-is
 returns-clause-is g c =
@@ -29,5 +29,5 @@ returns-clause-is g c =
     let there = got c.get.result c.as_slice.result.now made.number c.get.ensures.lookup.3 c.get.ensures.lookup.1 in
     let some : Some c.in-Some.method.now ≡ slice_get class.methods made.number = sym (ap (λ (o : Option (Bor Method)). option_copied o) c.in-Some.is) ∙ there ∙ ap (λ (ms : List Method). slice_get ms made.number) c.as_slice.ensures in
     let code : Some c.in-Some-first_code.code.now ≡ first_code member.attrs = sym (ap (λ (o : Option (Bor Code)). option_copied o) c.in-Some-first_code.is) ∙ c.first_code.ensures ∙ ap (λ (attrs : List Attr). first_code attrs) c.as_slice-2.ensures in
-    subst (λ (o : Option Method). AnswersAs Memory (λ done. c.body_woven.new.made) c.body_woven.result (body_woven plan class.name made member o (first_code member.attrs))) some
-    (subst (λ (o : Option Code). AnswersAs Memory (λ done. c.body_woven.new.made) c.body_woven.result (body_woven plan class.name made member (Some c.in-Some.method.now) o)) code c.body_woven.ensures.is)
+    subst (λ (o : Option Method). AnswersAs Memory (λ done. c.body_woven.new.made) c.body_woven.result (body_woven plan c.args.state class.name made member o (first_code member.attrs))) some
+    (subst (λ (o : Option Code). AnswersAs Memory (λ done. c.body_woven.new.made) c.body_woven.result (body_woven plan c.args.state class.name made member (Some c.in-Some.method.now) o)) code c.body_woven.ensures.is)

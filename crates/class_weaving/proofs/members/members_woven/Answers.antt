@@ -9,7 +9,7 @@ loop-left-preserved g c =
     let split = front_is c.loop-left.left.now c.member-item.result c.in-len1-up.len_at_least c.member-item.is in
     let fewer = ap (λ members. length members) split in
     record {
-      so_far = folded_on (member_woven (g.P.Planner.plan c.args.planner.now) c.args.class.now) c.loop-left.made c.member_woven.new.made c.loop-left.left.now _ c.member-item.result _ split c.in_ok-member_woven.ensures.is c.loop-left.invariant.so_far;
+      so_far = folded_on (member_woven (g.P.Planner.plan c.args.planner.now) c.args.state c.args.class.now) c.loop-left.made c.member_woven.new.made c.loop-left.left.now _ c.member-item.result _ split c.in_ok-member_woven.ensures.is c.loop-left.invariant.so_far;
       count = omega (arith, c.loop-left.invariant.count, c.in_ok-member_woven.ensures.count, fewer);
       pool = c.in_ok-member_woven.ensures.pool;
     }

@@ -8,6 +8,6 @@ pub loop-left-preserved : goal.loop-left-preserved
 loop-left-preserved g c =
     let split = front_is c.loop-left.left.now c.class-item.result c.in-len1-up.len_at_least c.class-item.is in
     record {
-      so_far = folded_on (class_woven (g.P.Planner.plan c.args.planner.now)) c.loop-left.woven c.class_woven.new.woven c.loop-left.left.now _ c.class-item.result _ split c.in_ok-class_woven.ensures c.loop-left.invariant.so_far;
+      so_far = folded_on (class_woven (g.P.Planner.plan c.args.planner.now) c.args.state) c.loop-left.woven c.class_woven.new.woven c.loop-left.left.now _ c.class-item.result _ split c.in_ok-class_woven.ensures c.loop-left.invariant.so_far;
       sound = (each_fits IsSoundClass c.loop-left.left.now c.class-item.result _ split c.loop-left.invariant.sound).1;
     }

@@ -6,7 +6,7 @@ use Rattle.class_weaving.proofs.weaving.classes_woven.Given as goal
 
 abbrev pub invariant-loop-left : goal.invariant-loop-left
 invariant-loop-left g l = record {
-  so_far : classes_woven (g.P.Planner.plan l.planner) l.woven l.left ≡ classes_woven (g.P.Planner.plan l.planner) l.fn.woven l.classes;
+  so_far : classes_woven (g.P.Planner.plan l.planner) l.state l.woven l.left ≡ classes_woven (g.P.Planner.plan l.planner) l.state l.fn.woven l.classes;
   sound : AllByRecursion IsSoundClass l.left;
 }
 

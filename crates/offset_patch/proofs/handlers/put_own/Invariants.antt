@@ -2,8 +2,8 @@ use Rattle.std.proofs.Common.{◌≡◌, ◌+◌, ◌++◌, length}
 use Rattle.std.specs.List.{AllByRecursion}
 use Rattle.offset_patch.specs.Fits.{IsSite}
 use Rattle.offset_patch.specs.Splicing.{count_of}
-use Rattle.class_weaving.specs.Outcome.{own_handlers}
-use Rattle.woven_linking.proofs.handlers.put_own.Given as goal
+use Rattle.offset_patch.specs.Splicing.{own_handlers}
+use Rattle.offset_patch.proofs.handlers.put_own.Given as goal
 
 abbrev pub invariant-loop-left : goal.invariant-loop-left
 invariant-loop-left l = record {

@@ -4,12 +4,14 @@ ghost use Rattle.std.specs.Prelude.{◌≡◌, ◌+◌, ◌++◌, ◌<◌, ◌^�
 ghost use Rattle.std.specs.List.{AllByRecursion};
 ghost use Rattle.offset_patch.specs.Fits.{IsSite};
 ghost use Rattle.offset_patch.specs.Splicing.{count_of, part_of};
-ghost use Rattle.class_weaving.specs.Outcome.{at_fronts, handlers_with, own_handler, own_handlers, site_handlers};
+ghost use Rattle.offset_patch.specs.Splicing.{at_fronts, handlers_with, own_handler, own_handlers, site_handlers};
 
+use crate::block::{Block, BlockInsn};
+use crate::fronts::{front, fronts_of, part_of};
+use crate::tables::{call_place, catching};
 use bytecode_model::Handler;
 use class_codec::Copied;
 use mon_base::{List, NoMemory};
-use offset_patch::{Block, BlockInsn, call_place, catching, front, fronts_of, part_of};
 use std::alloc::Global;
 
 /// The handlers of a method with these blocks: first those of the blocks, in their order, and then those that it had, each with its

@@ -2,12 +2,13 @@
 
 ghost use Rattle.std.specs.Prelude.{◌≡◌, ◌++◌, ◌<◌, ◌^◌, IfOk, OnOk, map};
 ghost use Rattle.offset_patch.specs.Splicing.{count_of};
-ghost use Rattle.class_weaving.specs.Outcome.{part_named, parts_named, want_named};
+ghost use Rattle.offset_patch.specs.Splicing.{part_named, parts_named, want_named};
 
+use crate::block::{Block, BlockInsn, PoolWant};
+use crate::fronts::{count_of, part_of};
 use bytecode_model::Target;
 use class_codec::Copied;
 use mon_base::{Bytes, List, NoMemory};
-use offset_patch::{Block, BlockInsn, PoolWant, count_of, part_of};
 use std::alloc::Global;
 
 /// The place of the method that stops the program in the table of the built-in ones.

@@ -1,6 +1,6 @@
 use Rattle.std.proofs.Common.{◌≡◌, ◌++◌, take, map}
-use Rattle.class_weaving.specs.Outcome.{at_fronts}
-use Rattle.woven_linking.proofs.handlers.put_moved.Given as goal
+use Rattle.offset_patch.specs.Splicing.{at_fronts}
+use Rattle.offset_patch.proofs.handlers.put_moved.Given as goal
 
 abbrev pub invariant-loop-handler : goal.invariant-loop-handler
 invariant-loop-handler l = l.list ≡ l.fn.list ++ map (at_fronts l.fronts) (take l.handler-index l.handlers)

@@ -4,8 +4,8 @@ use Rattle.offset_patch.specs.declared.block.Block.{Block}
 use Rattle.offset_patch.specs.declared.block.BlockInsn.{BlockInsn}
 use Rattle.offset_patch.specs.Splicing.{part_of}
 use Rattle.offset_patch.proofs.Lists.{front_is}
-use Rattle.class_weaving.specs.Outcome.{part_named, parts_named}
-use Rattle.woven_linking.proofs.operands.parts_named.Goals as goal
+use Rattle.offset_patch.specs.Splicing.{part_named, parts_named}
+use Rattle.offset_patch.proofs.operands.parts_named.Goals as goal
 
 -- one part more
 part_put : (state : ℕ) (named next total own others : List Target) (target : Target) (left rest : List (Option Block)) (site : Option Block) (part : List BlockInsn) → own ≡ target ∷ others → left ≡ site ∷ rest
