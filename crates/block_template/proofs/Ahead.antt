@@ -1,5 +1,5 @@
 -- The jumps of a block go forward.
-use Rattle.std.proofs.Common.{◌≡◌, ℕ, ◌+◌, ◌*◌, ◌<◌, ◌≤◌, ℤ, Bool, true, false, List, [], ◌∷◌, ◌++◌, length, map, Option, Some, None, refl, subst, arith}
+use Rattle.std.proofs.Common.{◌≡◌, ℕ, ◌+◌, ◌<◌, ◌≤◌, ℤ, Bool, true, false, List, [], ◌∷◌, ◌++◌, length, map, Option, Some, None, refl, subst, arith}
 use Rattle.std.specs.Prelude.{IfSome, if◌then◌else◌, nat_lt, ⊤}
 use Rattle.std.specs.List.{AllByRecursion}
 use Rattle.insn_codec.specs.declared.opcodes.TheConstants.{GOTO, ILOAD, ALOAD, ILOAD_0, ALOAD_0, ISTORE, ASTORE, ISTORE_0, ASTORE_0}
@@ -47,6 +47,7 @@ use Rattle.block_template.specs.Blocks.{
 use Rattle.block_template.specs.Forward.{BlocksGoForward, GoForward, GoesForward}
 use Rattle.block_template.specs.Parts.{
   asks,
+  asks_size,
   branch_size,
   branches,
   branches_size,
@@ -165,7 +166,7 @@ rethrow_straight = (λ at. tt, tt)
 -- ---- checks
 
 -- Where an atom does not hold the next branch is tried, which stands behind.
-asks_ahead : (bools : List Bool) (base : ℕ) (phase : Phase) (at branch n next : ℕ) (atoms : List Atom) → at + 3 * length atoms ≤ next
+asks_ahead : (bools : List Bool) (base : ℕ) (phase : Phase) (at branch n next : ℕ) (atoms : List Atom) → at + asks_size atoms ≤ next
     → Ahead at (asks bools base phase branch n next atoms)
 asks_ahead bools base phase at branch n next [] less = tt
 asks_ahead bools base phase at branch n next (atom ∷ atoms) less =
@@ -179,7 +180,7 @@ tried_ahead bools base phase at n next done branch first last =
     let asked = asks bools base phase n 0 next branch.atoms in
     let made = writes bools phase n 0 branch.updates in
     let over = item (Jump GOTO done) (roles.Taken phase n) ∷ [] in
-    let behind_asks : ℕ = at + 3 * length branch.atoms in
+    let behind_asks : ℕ = at + asks_size branch.atoms in
     let behind_writes : ℕ = behind_asks + updates_size branch.updates in
     let goes : behind_writes < done = omega (arith, last) in
     joined at behind_asks asked (made ++ over) (omega (arith, asks_length bools base phase n 0 next branch.atoms))

@@ -168,7 +168,7 @@ module _ (clauses : Clauses) (around : Around) where
   role_caught : (role : Role) → Told role
   role_caught (roles.Save left) = caught_more around.before.locals (filled around.before.locals) _
   role_caught (roles.Lock phase pushed) = phase_caught phase
-  role_caught (roles.Ask phase branch atom pushed) = phase_caught phase
+  role_caught (roles.Ask phase branch atom done) = phase_caught phase
   role_caught (roles.Update phase branch update done) = phase_caught phase
   role_caught (roles.Taken phase branch) = phase_caught phase
   role_caught (roles.Stop phase done) = phase_caught phase

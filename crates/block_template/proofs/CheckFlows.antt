@@ -45,7 +45,8 @@ use Rattle.block_template.specs.declared.item.Role.TheVariants as roles
 use Rattle.block_template.specs.Blocks.{Clauses}
 use Rattle.block_template.specs.Flow.{
   IsLed,
-  ask_insn,
+  ask_goes,
+  compared,
   branch_at,
   branches_in,
   checked_in,
@@ -60,7 +61,6 @@ use Rattle.block_template.specs.Flow.{
   tries,
   unlocked_in,
   update_goes,
-  update_insn,
   updated,
 }
 use Rattle.block_template.specs.Parts.{
@@ -78,6 +78,7 @@ use Rattle.block_template.specs.Parts.{
   writes,
 }
 use Rattle.block_template.specs.Pushing.{load, local, negated, push, push_base, store}
+use Rattle.block_template.specs.Steps.{ask_steps, step_insn, update_steps}
 use Rattle.block_template.proofs.Laying.{
   Laid,
   Leads,
@@ -218,11 +219,20 @@ module _ (mode : Mode) (bools : List Bool) (base : ℕ) (clauses : Clauses) (end
         → option_map_or (λ (b : Update). roles.Update phase n u 0) o (roles.Taken phase n) ≡ made phase n u branch
     made_as u o got = ap (λ (p : Option Update). option_map_or (λ (b : Update). roles.Update phase n u 0) p (roles.Taken phase n)) (sym got)
 
+    -- one step of an atom's comparison that does not jump
+    ask_row : (a done : ℕ) (atom : Atom) (insn : BlockInsn) → slice_get branch.atoms a ≡ Some atom → Stays insn
+        → step_insn bools base 0 (ask_steps atom) done ≡ Some insn
+        → Row (item insn (roles.Ask phase n a done)) (ask_goes phase n a done branch (Some atom))
+    ask_row a done atom insn got stays is =
+        plain insn (roles.Ask phase n a done) _ stays
+        (ap (λ (o : Option Atom). step_insn bools base 0 (option_map_or ask_steps o []) done) (atom_is a atom got) ∙ is)
+        (ap (compared phase n a done) here ∙ ap (ask_goes phase n a done branch) got)
+
     test_row : (a to : ℕ) (atom : Atom) → slice_get branch.atoms a ≡ Some atom → there to ≡ tries phase (n + 1) (branches_in clauses phase)
         → Row (item (Jump (negated atom.rel) to) (roles.Ask phase n a 2)) (held phase n (a + 1) branch)
     test_row a to atom got jump reached = record {
-      is = (to, ap (option_and_then (ask_insn bools base to 2)) (atom_is a atom got));
-      passes = λ may. sym (ap (λ (o : Option Branch). option_map_or (held phase n (a + 1)) o roles.Unreached) here);
+      is = (to, ap (λ (o : Option Atom). step_insn bools base to (option_map_or ask_steps o []) 2) (atom_is a atom got));
+      passes = λ may. sym (ap (compared phase n a 2) here ∙ ap (ask_goes phase n a 2 branch) got);
       lands = jump;
     }
 
@@ -232,20 +242,17 @@ module _ (mode : Mode) (bools : List Bool) (base : ℕ) (clauses : Clauses) (end
     asks_lead a to [] jump l = from Row role_of [] (held_as a None l) (nothing Row role_of (made phase n 0 branch))
     asks_lead a to (atom ∷ atoms) jump l =
         from Row role_of (asks bools base phase n a to (atom ∷ atoms)) (held_as a (Some atom) l.0)
-        (go _ _
-        (plain _ (roles.Ask phase n a 0) _ (base_stays bools base atom.base)
-        (ap (option_and_then (ask_insn bools base 0 0)) (atom_is a atom l.0)) refl)
-        (go _ _
-        (plain _ (roles.Ask phase n a 1) _ (push_stays atom.value)
-        (ap (option_and_then (ask_insn bools base 0 1)) (atom_is a atom l.0)) refl)
+        (go _ _ (ask_row a 0 atom _ l.0 (base_stays bools base atom.base) refl)
+        (go _ _ (ask_row a 1 atom _ l.0 (push_stays atom.value) refl)
         (go _ _ (test_row a to atom l.0 jump) (asks_lead (a + 1) to atoms jump l.1))))
 
     -- one instruction of an update that is made
     update_row : (u done : ℕ) (update : Update) (insn : BlockInsn) → slice_get branch.updates u ≡ Some update → Stays insn
-        → update_insn bools done update ≡ Some insn
+        → step_insn bools 0 0 (update_steps update) done ≡ Some insn
         → Row (item insn (roles.Update phase n u done)) (update_goes phase n u done branch (Some update))
     update_row u done update insn got stays is =
-        plain insn (roles.Update phase n u done) _ stays (ap (option_and_then (update_insn bools done)) (update_is u update got) ∙ is)
+        plain insn (roles.Update phase n u done) _ stays
+        (ap (λ (o : Option Update). step_insn bools 0 0 (option_map_or update_steps o []) done) (update_is u update got) ∙ is)
         (ap (updated phase n u done) here ∙ ap (update_goes phase n u done branch) got)
 
     writes_lead : (u : ℕ) (updates : List Update) → Laid (slice_get branch.updates) Some u updates None

@@ -52,6 +52,7 @@ use Rattle.conspec_tree.specs.declared.types.Kind.TheVariants as kinds
 use Rattle.conspec_tree.specs.declared.types.Phase.{Phase}
 use Rattle.conspec_tree.specs.declared.types.Phase.TheVariants.{Before, After, Exceptional}
 use Rattle.conspec_tree.specs.declared.types.Update.{Update}
+use Rattle.conspec_tree.specs.declared.types.Update.TheVariants.{Set, Add}
 use Rattle.conspec_automaton.specs.declared.policy.Branch.{Branch}
 use Rattle.conspec_automaton.specs.declared.policy.Clause.{Clause}
 use Rattle.block_template.specs.declared.item.Role.{Role}
@@ -59,6 +60,7 @@ use Rattle.block_template.specs.declared.item.Role.TheVariants as roles
 use Rattle.block_template.specs.Blocks.{Clauses}
 use Rattle.block_template.specs.Flow.{
   argument_at,
+  atom_at,
   check_behind,
   checked_in,
   held,
@@ -69,6 +71,7 @@ use Rattle.block_template.specs.Flow.{
   saving,
   tries,
   unlocked_in,
+  update_at,
 }
 use Rattle.block_template.specs.Frames.{
   Around,
@@ -80,9 +83,11 @@ use Rattle.block_template.specs.Frames.{
   padded,
   phase_frame,
   saved_locals,
+  types_before,
   with_pushed,
 }
 use Rattle.block_template.specs.Typed.{FitsAround, kept_kind}
+use Rattle.block_template.specs.Steps.{ask_steps, update_steps}
 use Rattle.block_template.proofs.Acting.{met_length}
 use Rattle.block_template.proofs.Types.{
   below_none,
@@ -203,18 +208,31 @@ module _ (clauses : Clauses) (around : Around) (fits : FitsAround clauses around
   pub nothing_pushed : (f : FrameType) → ◌≡◌ {A = Option FrameType} (Some (with_pushed f [])) (Some f)
   nothing_pushed f = ap (λ (s : List VType). Some (frame f.locals s)) (append-nil f.stack)
 
+  nothing_written : (o : Option Update) → types_before (option_map_or update_steps o []) 0 ≡ []
+  nothing_written None = refl
+  nothing_written (Some (Set var value)) = refl
+  nothing_written (Some (Add var by)) = refl
+
   made_of : (phase : Phase) (n u : ℕ) (o : Option Update)
       → Enters phase (option_map_or (λ (x : Update). roles.Update phase n u 0) o (roles.Taken phase n))
   made_of phase n u None = refl
-  made_of phase n u (Some x) = nothing_pushed (phase_frame clauses around phase)
+  made_of phase n u (Some x) =
+      ap (λ (s : List VType). Some (with_pushed (phase_frame clauses around phase) s)) (nothing_written (update_at clauses phase n u))
+      ∙ nothing_pushed (phase_frame clauses around phase)
 
   pub made_enters : (phase : Phase) (n u : ℕ) (branch : Branch) → Enters phase (made phase n u branch)
   made_enters phase n u branch = made_of phase n u (slice_get branch.updates u)
 
+  nothing_asked : (o : Option Atom) → types_before (option_map_or ask_steps o []) 0 ≡ []
+  nothing_asked None = refl
+  nothing_asked (Some x) = refl
+
   held_of : (phase : Phase) (n a : ℕ) (branch : Branch) (o : Option Atom)
       → Enters phase (option_map_or (λ (x : Atom). roles.Ask phase n a 0) o (made phase n 0 branch))
   held_of phase n a branch None = made_enters phase n 0 branch
-  held_of phase n a branch (Some x) = nothing_pushed (phase_frame clauses around phase)
+  held_of phase n a branch (Some x) =
+      ap (λ (s : List VType). Some (with_pushed (phase_frame clauses around phase) s)) (nothing_asked (atom_at clauses phase n a))
+      ∙ nothing_pushed (phase_frame clauses around phase)
 
   pub held_enters : (phase : Phase) (n a : ℕ) (branch : Branch) → Enters phase (held phase n a branch)
   held_enters phase n a branch = held_of phase n a branch (slice_get branch.atoms a)

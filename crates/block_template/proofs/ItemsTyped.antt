@@ -29,7 +29,7 @@ module _ (clauses : Clauses) (around : Around) where
   told_of : (role : Role) → IsReached role → is_some (frame_at clauses around role) ≡ true
   told_of (roles.Save left) reached = refl
   told_of (roles.Lock phase pushed) reached = refl
-  told_of (roles.Ask phase branch atom pushed) reached = refl
+  told_of (roles.Ask phase branch atom done) reached = refl
   told_of (roles.Update phase branch update done) reached = refl
   told_of (roles.Taken phase branch) reached = refl
   told_of (roles.Stop phase done) reached = refl

@@ -1,4 +1,5 @@
 pub mod Saves
+pub mod StepsLaid
 pub mod Sizes
 pub mod Pigeonhole
 pub mod Policies

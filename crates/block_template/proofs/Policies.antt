@@ -22,7 +22,7 @@ use Rattle.conspec_automaton.specs.declared.policy.Clause.{Clause}
 use Rattle.conspec_automaton.specs.declared.policy.Policy.{Policy}
 use Rattle.conspec_automaton.specs.Sound.{IsBranchIn, IsClauseIn, IsPolicy}
 use Rattle.block_template.specs.Blocks.{clause_at, clauses_of, is_phase, kept, locals_used}
-use Rattle.block_template.specs.Parts.{branches_size, updates_size}
+use Rattle.block_template.specs.Parts.{asks_size, branches_size, updates_size}
 use Rattle.block_template.specs.Room.{HasLocal, HasLocals, IsRoomy, IsShort}
 use Rattle.block_template.proofs.Pigeonhole.{Into, OneToOne, pigeonhole}
 
@@ -108,6 +108,10 @@ updates_few vars maxint (u ∷ updates) all once =
 
 -- ---- checks are short
 
+asks_size_most : (atoms : List Atom) → asks_size atoms ≤ 3 * length atoms
+asks_size_most [] = omega arith
+asks_size_most (atom ∷ atoms) = omega (arith, asks_size_most atoms)
+
 updates_size_most : (updates : List Update) → updates_size updates ≤ 4 * length updates
 updates_size_most [] = omega arith
 updates_size_most (Set var value ∷ updates) = omega (arith, updates_size_most updates)
@@ -121,6 +125,7 @@ branches_size_most vars maxint askable (branch ∷ branches) few all =
       arith,
       few,
       all.0.few_atoms,
+      asks_size_most branch.atoms,
       updates_size_most branch.updates,
       updates_few vars maxint branch.updates all.0.updates all.0.once,
       branches_size_most vars maxint askable branches few all.1,

@@ -10,6 +10,7 @@ use Rattle.std.proofs.Common.{
   false,
   cond,
   List,
+  [],
   length,
   Option,
   Some,
@@ -45,7 +46,8 @@ use Rattle.block_template.specs.declared.item.Role.{Role}
 use Rattle.block_template.specs.declared.item.Role.TheVariants as roles
 use Rattle.block_template.specs.Blocks.{Clauses, catches, handler_at, items}
 use Rattle.block_template.specs.Flow.{
-  ask_insn,
+  ask_goes,
+  compared,
   branch_at,
   branches_in,
   check_behind,
@@ -71,11 +73,11 @@ use Rattle.block_template.specs.Flow.{
   unlocked_in,
   update_at,
   update_goes,
-  update_insn,
   updated,
 }
 use Rattle.block_template.specs.Pushing.{load, store}
 use Rattle.block_template.specs.Reached.{BlocksAreReached, IsReached}
+use Rattle.block_template.specs.Steps.{ask_steps, step_insn, update_steps}
 use Rattle.block_template.proofs.BlockFlows.{blocks_flow}
 use Rattle.block_template.proofs.CheckFlows.{load_stays, push_stays, store_stays}
 use Rattle.block_template.proofs.Suits.{Suits, items_suit}
@@ -178,21 +180,30 @@ module _ (clauses : Clauses) where
         either _ (made phase n (u + 1) branch) (roles.Update phase n u (done + 1)) (made_reached phase n (u + 1) branch) (λ e. absurd cc)
 
     update_of : (phase : Phase) (n u done : ℕ) (insn : BlockInsn) (branch : Branch) (o : Option Update)
-        → option_and_then (update_insn bools done) o ≡ Some insn → IsReached (update_goes phase n u done branch o)
+        → step_insn bools 0 0 (option_map_or update_steps o []) done ≡ Some insn → IsReached (update_goes phase n u done branch o)
     update_of phase n u done insn branch None e = absurd cc
     update_of phase n u done insn branch (Some x) e = goes_by phase n u done branch x
 
     updated_reached : (phase : Phase) (n u done : ℕ) (insn : BlockInsn) (o : Option Branch)
-        → option_and_then (update_insn bools done) (option_and_then (λ (b : Branch). slice_get b.updates u) o) ≡ Some insn
+        → step_insn bools 0 0 (option_map_or update_steps (option_and_then (λ (b : Branch). slice_get b.updates u) o) []) done ≡ Some insn
         → IsReached (updated phase n u done o)
     updated_reached phase n u done insn None e = absurd cc
     updated_reached phase n u done insn (Some branch) e = update_of phase n u done insn branch (slice_get branch.updates u) e
 
-    asked_reached : (phase : Phase) (n m pushed : ℕ) (insn : BlockInsn) (o : Option Branch)
-        → option_and_then (ask_insn bools base to pushed) (option_and_then (λ (b : Branch). slice_get b.atoms m) o) ≡ Some insn
-        → IsReached (option_map_or (held phase n (m + 1)) o roles.Unreached)
-    asked_reached phase n m pushed insn None e = absurd cc
-    asked_reached phase n m pushed insn (Some branch) e = held_reached phase n (m + 1) branch
+    ask_by : (phase : Phase) (n m done : ℕ) (branch : Branch) (x : Atom) → IsReached (ask_goes phase n m done branch (Some x))
+    ask_by phase n m done branch x =
+        either _ (held phase n (m + 1) branch) (roles.Ask phase n m (done + 1)) (held_reached phase n (m + 1) branch) (λ e. absurd cc)
+
+    ask_of : (phase : Phase) (n m done : ℕ) (insn : BlockInsn) (branch : Branch) (o : Option Atom)
+        → step_insn bools base to (option_map_or ask_steps o []) done ≡ Some insn → IsReached (ask_goes phase n m done branch o)
+    ask_of phase n m done insn branch None e = absurd cc
+    ask_of phase n m done insn branch (Some x) e = ask_by phase n m done branch x
+
+    compared_reached : (phase : Phase) (n m done : ℕ) (insn : BlockInsn) (o : Option Branch)
+        → step_insn bools base to (option_map_or ask_steps (option_and_then (λ (b : Branch). slice_get b.atoms m) o) []) done ≡ Some insn
+        → IsReached (compared phase n m done o)
+    compared_reached phase n m done insn None e = absurd cc
+    compared_reached phase n m done insn (Some branch) e = ask_of phase n m done insn branch (slice_get branch.atoms m) e
 
     kept_reached : (insn : BlockInsn) (o : Option Clause)
         → option_map (λ (k : Kind). store k base) (option_and_then (λ (c : Clause). c.result) o) ≡ Some insn → IsReached (kept_by mode o)
@@ -209,10 +220,7 @@ module _ (clauses : Clauses) where
     next_reached (roles.Save (suc n)) insn e suits passes = saving_reached n
     next_reached (roles.Lock phase false) insn e suits passes = λ u. absurd cc
     next_reached (roles.Lock phase true) insn e suits passes = locked_reached mode phase (clause_in clauses phase) refl suits
-    next_reached (roles.Ask phase n m zero) insn e suits passes = λ u. absurd cc
-    next_reached (roles.Ask phase n m (suc zero)) insn e suits passes = λ u. absurd cc
-    next_reached (roles.Ask phase n m (suc (suc pushed))) insn e suits passes =
-        asked_reached phase n m (suc (suc pushed)) insn (branch_at clauses phase n) e
+    next_reached (roles.Ask phase n m done) insn e suits passes = compared_reached phase n m done insn (branch_at clauses phase n) e
     next_reached (roles.Update phase n u done) insn e suits passes = updated_reached phase n u done insn (branch_at clauses phase n) e
     next_reached (roles.Taken phase n) insn e suits passes = absurd (never_passes (Jump GOTO to) insn e refl passes)
     next_reached (roles.Stop phase done) insn e suits passes = λ u. absurd cc
@@ -240,7 +248,8 @@ module _ (clauses : Clauses) where
     each_stays f None insn stays e = absurd cc
     each_stays f (Some kind) insn stays e = sym (ap jump_of (some_is (f kind) insn e)) ∙ stays kind
 
-    update_lands : (role : Role) (done : ℕ) (x : Update) (insn : BlockInsn) → update_insn bools done x ≡ Some insn → Lands role insn
+    update_lands : (role : Role) (done : ℕ) (x : Update) (insn : BlockInsn) → step_insn bools 0 0 (update_steps x) done ≡ Some insn
+        → Lands role insn
     update_lands role zero (Set var value) insn e = so role _ insn e (push_stays value)
     update_lands role (suc zero) (Set var value) insn e = so role _ insn e refl
     update_lands role (suc (suc done)) (Set var value) insn e = absurd cc
@@ -250,8 +259,8 @@ module _ (clauses : Clauses) where
     update_lands role (suc (suc (suc zero))) (Add var by) insn e = so role _ insn e refl
     update_lands role (suc (suc (suc (suc done)))) (Add var by) insn e = absurd cc
 
-    update_in : (role : Role) (done : ℕ) (o : Option Update) (insn : BlockInsn) → option_and_then (update_insn bools done) o ≡ Some insn
-        → Lands role insn
+    update_in : (role : Role) (done : ℕ) (o : Option Update) (insn : BlockInsn)
+        → step_insn bools 0 0 (option_map_or update_steps o []) done ≡ Some insn → Lands role insn
     update_in role done None insn e = absurd cc
     update_in role done (Some x) insn e = update_lands role done x insn e
 
@@ -267,7 +276,7 @@ module _ (clauses : Clauses) where
     lands (roles.Save (suc n)) insn e = inl (each_stays (λ (k : Kind). store k (base + n)) _ insn (λ k. store_stays k (base + n)) e)
     lands (roles.Lock phase false) insn e = so (roles.Lock phase false) _ insn e refl
     lands (roles.Lock phase true) insn e = so (roles.Lock phase true) _ insn e refl
-    lands (roles.Ask phase n m pushed) insn e = inr (tries_reached phase (n + 1) (branches_in clauses phase))
+    lands (roles.Ask phase n m done) insn e = inr (tries_reached phase (n + 1) (branches_in clauses phase))
     lands (roles.Update phase n u done) insn e = update_in (roles.Update phase n u done) done (update_at clauses phase n u) insn e
     lands (roles.Taken phase n) insn e = inr (checked_reached mode phase)
     lands (roles.Stop phase done) insn e = stop_lands (roles.Stop phase done) done insn e

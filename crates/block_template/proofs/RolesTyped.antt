@@ -76,7 +76,8 @@ use Rattle.block_template.specs.Blocks.{Clauses, kept}
 use Rattle.block_template.specs.Flow.{
   AreForPhases,
   argument_at,
-  ask_insn,
+  ask_goes,
+  compared,
   atom_at,
   branch_at,
   branches_in,
@@ -90,14 +91,15 @@ use Rattle.block_template.specs.Flow.{
   kept_by,
   leaving,
   locked_for,
+  made,
   may_pass,
   next,
   result_in,
   stop_insn,
   taking,
   tries,
+  update_at,
   update_goes,
-  update_insn,
   updated,
 }
 use Rattle.block_template.specs.Frames.{
@@ -110,9 +112,11 @@ use Rattle.block_template.specs.Frames.{
   padded,
   phase_frame,
   saved_locals,
+  types_before,
   with_pushed,
 }
 use Rattle.block_template.specs.Pushing.{field, load as loads, negated, push, push_base, store}
+use Rattle.block_template.specs.Steps.{ask_size, ask_steps, step_insn, update_size, update_steps}
 use Rattle.block_template.specs.Typed.{AreClausesIn, BlocksAreTyped, FitsAround, HasRoom, IsTyped, Stands, kept_kind}
 use Rattle.block_template.proofs.Acting.{Acts, alone, goes}
 use Rattle.block_template.proofs.CheckFlows.{base_stays, load_stays, push_stays, store_stays}
@@ -400,54 +404,83 @@ module _ (mode : Mode) (bools : List Bool) (vars : List Var) (maxint : ℤ) (cla
       → updated phase n u done (branch_at clauses phase n) ≡ update_goes phase n u done branch (Some x)
   update_next phase n u done branch x e f = ap (updated phase n u done) e ∙ ap (update_goes phase n u done branch) f
 
+  update_there : (phase : Phase) (n u : ℕ) (branch : Branch) (x : Update) → branch_at clauses phase n ≡ Some branch
+      → slice_get branch.updates u ≡ Some x → update_at clauses phase n u ≡ Some x
+  update_there phase n u branch x e f = ap (option_and_then (λ (b : Branch). slice_get b.updates u)) e ∙ f
+
+  update_types : (phase : Phase) (n u done : ℕ) (branch : Branch) (x : Update) → branch_at clauses phase n ≡ Some branch
+      → slice_get branch.updates u ≡ Some x
+      → frame_at clauses around (roles.Update phase n u done) ≡ Some (with_pushed (pf phase) (types_before (update_steps x) done))
+  update_types phase n u done branch x e f =
+      ap (λ (o : Option Update). Some (with_pushed (pf phase) (types_before (option_map_or update_steps o []) done)))
+      (update_there phase n u branch x e f)
+
+  -- The update goes on, with the types of the next step.
+  update_on : (phase : Phase) (n u done : ℕ) (branch : Branch) (x : Update) → branch_at clauses phase n ≡ Some branch
+      → slice_get branch.updates u ≡ Some x → (done + 1 == update_size x) ≡ false
+      → Arrives phase (types_before (update_steps x) (done + 1)) (updated phase n u done (branch_at clauses phase n))
+  update_on phase n u done branch x e f more =
+      subst (Arrives phase (types_before (update_steps x) (done + 1)))
+      (sym (update_next phase n u done branch x e f ∙ ap (λ (b : Bool). cond b (made phase n (u + 1) branch) (roles.Update phase n u (done + 1))) more))
+      (arrives phase _ (roles.Update phase n u (done + 1)) (update_types phase n u (done + 1) branch x e f))
+
+  -- It is done, and the next update is made.
+  update_done : (phase : Phase) (n u done : ℕ) (branch : Branch) (x : Update) → branch_at clauses phase n ≡ Some branch
+      → slice_get branch.updates u ≡ Some x → (done + 1 == update_size x) ≡ true
+      → Arrives phase [] (updated phase n u done (branch_at clauses phase n))
+  update_done phase n u done branch x e f last =
+      subst (Arrives phase [])
+      (sym (update_next phase n u done branch x e f ∙ ap (λ (b : Bool). cond b (made phase n (u + 1) branch) (roles.Update phase n u (done + 1))) last))
+      (enters phase (made phase n (u + 1) branch) (at.made_enters clauses around fits phase n (u + 1) branch))
+
   update : (phase : Phase) (n u done : ℕ) (branch : Branch) (x : Update) (insn : BlockInsn) → branch_at clauses phase n ≡ Some branch
       → slice_get branch.updates u ≡ Some x
-      → update_insn bools done x ≡ Some insn → Typed (roles.Update phase n u done) insn
+      → step_insn bools 0 0 (update_steps x) done ≡ Some insn → Typed (roles.Update phase n u done) insn
   update phase n u zero branch (Set var value) insn e f is =
       subst (Typed (roles.Update phase n u 0)) (some_is _ _ is)
-      (λ place stands room. in_phase phase (roles.Update phase n u 0) (push value) place [] [] (types.Int ∷ []) refl
-      (does.pushes place (pf phase).locals value stands) room (omega arith)
-      (λ p. subst (Arrives phase (types.Int ∷ [])) (sym (update_next phase n u 0 branch (Set var value) e f)) refl)
+      (λ place stands room. in_phase phase (roles.Update phase n u 0) (push value) place [] [] (types.Int ∷ [])
+      (update_types phase n u 0 branch (Set var value) e f)
+      (does.pushes place (pf phase).locals value stands) room (omega arith) (λ p. update_on phase n u 0 branch (Set var value) e f refl)
       (λ j. never (sym (ap is_some (push_stays value)) ∙ j)))
   update phase n u (suc zero) branch (Set var value) insn e f is =
       subst (Typed (roles.Update phase n u 1)) (some_is _ _ is)
       (λ place stands room. in_phase phase (roles.Update phase n u 1) (Want PUTSTATIC (field bools var)) place []
-      (types.Int ∷ []) [] refl (does.writes place (pf phase).locals bools var stands) room (omega arith)
-      (λ p. subst (Arrives phase []) (sym (update_next phase n u 1 branch (Set var value) e f))
-      (enters phase _ (at.made_enters clauses around fits phase n (u + 1) branch))) (λ j. never j))
+      (types.Int ∷ []) [] (update_types phase n u 1 branch (Set var value) e f)
+      (does.writes place (pf phase).locals bools var stands) room (omega arith)
+      (λ p. update_done phase n u 1 branch (Set var value) e f refl) (λ j. never j))
   update phase n u (suc (suc done)) branch (Set var value) insn e f is = absurd cc
   update phase n u zero branch (Add var by) insn e f is =
       subst (Typed (roles.Update phase n u 0)) (some_is _ _ is)
       (λ place stands room. in_phase phase (roles.Update phase n u 0) (Want GETSTATIC (field bools var)) place [] []
-      (types.Int ∷ []) refl (does.reads place (pf phase).locals bools var stands) room (omega arith)
-      (λ p. subst (Arrives phase (types.Int ∷ [])) (sym (update_next phase n u 0 branch (Add var by) e f)) refl) (λ j. never j))
+      (types.Int ∷ []) (update_types phase n u 0 branch (Add var by) e f) (does.reads place (pf phase).locals bools var stands) room (omega arith)
+      (λ p. update_on phase n u 0 branch (Add var by) e f refl) (λ j. never j))
   update phase n u (suc zero) branch (Add var by) insn e f is =
       subst (Typed (roles.Update phase n u 1)) (some_is _ _ is)
-      (λ place stands room. in_phase phase (roles.Update phase n u 1) (push by) place (types.Int ∷ []) [] (types.Int ∷ []) refl
-      (does.pushes place (pf phase).locals by stands) room (omega arith)
-      (λ p. subst (Arrives phase (types.Int ∷ types.Int ∷ [])) (sym (update_next phase n u 1 branch (Add var by) e f)) refl)
+      (λ place stands room. in_phase phase (roles.Update phase n u 1) (push by) place (types.Int ∷ []) [] (types.Int ∷ [])
+      (update_types phase n u 1 branch (Add var by) e f)
+      (does.pushes place (pf phase).locals by stands) room (omega arith) (λ p. update_on phase n u 1 branch (Add var by) e f refl)
       (λ j. never (sym (ap is_some (push_stays by)) ∙ j)))
   update phase n u (suc (suc zero)) branch (Add var by) insn e f is =
       subst (Typed (roles.Update phase n u 2)) (some_is _ _ is)
       (λ place stands room. in_phase phase (roles.Update phase n u 2) (Plain IADD) place [] (types.Int ∷ types.Int ∷ [])
-      (types.Int ∷ []) refl (does.adds place (pf phase).locals stands) room (omega arith)
-      (λ p. subst (Arrives phase (types.Int ∷ [])) (sym (update_next phase n u 2 branch (Add var by) e f)) refl) (λ j. never j))
+      (types.Int ∷ []) (update_types phase n u 2 branch (Add var by) e f) (does.adds place (pf phase).locals stands) room (omega arith)
+      (λ p. update_on phase n u 2 branch (Add var by) e f refl) (λ j. never j))
   update phase n u (suc (suc (suc zero))) branch (Add var by) insn e f is =
       subst (Typed (roles.Update phase n u 3)) (some_is _ _ is)
       (λ place stands room. in_phase phase (roles.Update phase n u 3) (Want PUTSTATIC (field bools var)) place []
-      (types.Int ∷ []) [] refl (does.writes place (pf phase).locals bools var stands) room (omega arith)
-      (λ p. subst (Arrives phase []) (sym (update_next phase n u 3 branch (Add var by) e f))
-      (enters phase _ (at.made_enters clauses around fits phase n (u + 1) branch))) (λ j. never j))
+      (types.Int ∷ []) [] (update_types phase n u 3 branch (Add var by) e f)
+      (does.writes place (pf phase).locals bools var stands) room (omega arith)
+      (λ p. update_done phase n u 3 branch (Add var by) e f refl) (λ j. never j))
   update phase n u (suc (suc (suc (suc done)))) branch (Add var by) insn e f is = absurd cc
 
   update_in : (phase : Phase) (n u done : ℕ) (insn : BlockInsn) (branch : Branch) → branch_at clauses phase n ≡ Some branch
       → (o : Option Update) → slice_get branch.updates u ≡ o
-      → option_and_then (update_insn bools done) o ≡ Some insn → Typed (roles.Update phase n u done) insn
+      → step_insn bools 0 0 (option_map_or update_steps o []) done ≡ Some insn → Typed (roles.Update phase n u done) insn
   update_in phase n u done insn branch e None f is = absurd cc
   update_in phase n u done insn branch e (Some x) f is = update phase n u done branch x insn e f is
 
   update_of : (phase : Phase) (n u done : ℕ) (insn : BlockInsn) (o : Option Branch) → branch_at clauses phase n ≡ o
-      → option_and_then (update_insn bools done) (option_and_then (λ (b : Branch). slice_get b.updates u) o) ≡ Some insn
+      → step_insn bools 0 0 (option_map_or update_steps (option_and_then (λ (b : Branch). slice_get b.updates u) o) []) done ≡ Some insn
       → Typed (roles.Update phase n u done) insn
   update_of phase n u done insn None e is = absurd cc
   update_of phase n u done insn (Some branch) e is = update_in phase n u done insn branch e (slice_get branch.updates u) refl is
@@ -532,38 +565,78 @@ module _ (mode : Mode) (bools : List Bool) (vars : List Var) (maxint : ℤ) (cla
       ∙ at.holds_number n.0 result.type n.2 result.held)
   base_pushed Exceptional bases.Result known place stands room = absurd known.there_is
 
-  held_next : (phase : Phase) (n m : ℕ) (o : Option Branch) → Arrives phase [] (option_map_or (held phase n m) o roles.Unreached)
-  held_next phase n m None = tt
-  held_next phase n m (Some branch) = enters phase (held phase n m branch) (at.held_enters clauses around fits phase n m branch)
+  -- The atom that a role names.
+  atom_there : (phase : Phase) (n m : ℕ) (branch : Branch) (atom : Atom) → branch_at clauses phase n ≡ Some branch
+      → slice_get branch.atoms m ≡ Some atom → atom_at clauses phase n m ≡ Some atom
+  atom_there phase n m branch atom e f = ap (option_and_then (λ (b : Branch). slice_get b.atoms m)) e ∙ f
 
-  ask : (phase : Phase) (n m pushed : ℕ) (atom : Atom) (insn : BlockInsn) → atom_at clauses phase n m ≡ Some atom
-      → ask_insn bools base to pushed atom ≡ Some insn
-      → Typed (roles.Ask phase n m pushed) insn
-  ask phase n m zero atom insn e is =
+  ask_types : (phase : Phase) (n m done : ℕ) (branch : Branch) (atom : Atom) → branch_at clauses phase n ≡ Some branch
+      → slice_get branch.atoms m ≡ Some atom
+      → frame_at clauses around (roles.Ask phase n m done) ≡ Some (with_pushed (pf phase) (types_before (ask_steps atom) done))
+  ask_types phase n m done branch atom e f =
+      ap (λ (o : Option Atom). Some (with_pushed (pf phase) (types_before (option_map_or ask_steps o []) done)))
+      (atom_there phase n m branch atom e f)
+
+  ask_next : (phase : Phase) (n m done : ℕ) (branch : Branch) (atom : Atom) → branch_at clauses phase n ≡ Some branch
+      → slice_get branch.atoms m ≡ Some atom
+      → compared phase n m done (branch_at clauses phase n) ≡ ask_goes phase n m done branch (Some atom)
+  ask_next phase n m done branch atom e f = ap (compared phase n m done) e ∙ ap (ask_goes phase n m done branch) f
+
+  -- The comparison goes on, with the types of the next step.
+  ask_on : (phase : Phase) (n m done : ℕ) (branch : Branch) (atom : Atom) → branch_at clauses phase n ≡ Some branch
+      → slice_get branch.atoms m ≡ Some atom → (done + 1 == ask_size atom) ≡ false
+      → Arrives phase (types_before (ask_steps atom) (done + 1)) (compared phase n m done (branch_at clauses phase n))
+  ask_on phase n m done branch atom e f more =
+      subst (Arrives phase (types_before (ask_steps atom) (done + 1)))
+      (sym (ask_next phase n m done branch atom e f ∙ ap (λ (b : Bool). cond b (held phase n (m + 1) branch) (roles.Ask phase n m (done + 1))) more))
+      (arrives phase _ (roles.Ask phase n m (done + 1)) (ask_types phase n m (done + 1) branch atom e f))
+
+  -- It is done, and the next atom is compared.
+  ask_done : (phase : Phase) (n m done : ℕ) (branch : Branch) (atom : Atom) → branch_at clauses phase n ≡ Some branch
+      → slice_get branch.atoms m ≡ Some atom → (done + 1 == ask_size atom) ≡ true
+      → Arrives phase [] (compared phase n m done (branch_at clauses phase n))
+  ask_done phase n m done branch atom e f last =
+      subst (Arrives phase [])
+      (sym (ask_next phase n m done branch atom e f ∙ ap (λ (b : Bool). cond b (held phase n (m + 1) branch) (roles.Ask phase n m (done + 1))) last))
+      (enters phase (held phase n (m + 1) branch) (at.held_enters clauses around fits phase n (m + 1) branch))
+
+  ask : (phase : Phase) (n m done : ℕ) (branch : Branch) (atom : Atom) (insn : BlockInsn) → branch_at clauses phase n ≡ Some branch
+      → slice_get branch.atoms m ≡ Some atom
+      → step_insn bools base to (ask_steps atom) done ≡ Some insn → Typed (roles.Ask phase n m done) insn
+  ask phase n m zero branch atom insn e f is =
       subst (Typed (roles.Ask phase n m 0)) (some_is _ _ is)
-      (λ place stands room. in_phase phase (roles.Ask phase n m 0) (push_base bools base atom.base) place [] [] (types.Int ∷ []) refl
-      (base_pushed phase atom.base (asks_of phase n m atom (clause_in clauses phase) refl e) place stands room) room (omega arith)
-      (λ p. refl)
+      (λ place stands room. in_phase phase (roles.Ask phase n m 0) (push_base bools base atom.base) place [] [] (types.Int ∷ [])
+      (ask_types phase n m 0 branch atom e f)
+      (base_pushed phase atom.base (asks_of phase n m atom (clause_in clauses phase) refl (atom_there phase n m branch atom e f)) place stands room) room
+      (omega arith)
+      (λ p. ask_on phase n m 0 branch atom e f refl)
       (λ j. never (sym (ap is_some (base_stays bools base atom.base)) ∙ j)))
-  ask phase n m (suc zero) atom insn e is =
+  ask phase n m (suc zero) branch atom insn e f is =
       subst (Typed (roles.Ask phase n m 1)) (some_is _ _ is)
-      (λ place stands room. in_phase phase (roles.Ask phase n m 1) (push atom.value) place (types.Int ∷ []) [] (types.Int ∷ []) refl
-      (does.pushes place (pf phase).locals atom.value stands) room (omega arith) (λ p. refl)
+      (λ place stands room. in_phase phase (roles.Ask phase n m 1) (push atom.value) place (types.Int ∷ []) [] (types.Int ∷ [])
+      (ask_types phase n m 1 branch atom e f)
+      (does.pushes place (pf phase).locals atom.value stands) room (omega arith) (λ p. ask_on phase n m 1 branch atom e f refl)
       (λ j. never (sym (ap is_some (push_stays atom.value)) ∙ j)))
-  ask phase n m (suc (suc zero)) atom insn e is =
+  ask phase n m (suc (suc zero)) branch atom insn e f is =
       subst (Typed (roles.Ask phase n m 2)) (some_is _ _ is)
       (λ place stands room. in_phase phase (roles.Ask phase n m 2) (Jump (negated atom.rel) to) place []
-      (types.Int ∷ types.Int ∷ []) [] refl
+      (types.Int ∷ types.Int ∷ []) [] (ask_types phase n m 2 branch atom e f)
       (does.compares place (pf phase).locals atom.rel to stands) room (omega arith)
-      (λ p. held_next phase n (m + 1) (slice_get (branches_in clauses phase) n))
+      (λ p. ask_done phase n m 2 branch atom e f refl)
       (λ j. enters phase _ (at.tries_enters clauses around fits phase (n + 1) (branches_in clauses phase))))
-  ask phase n m (suc (suc (suc pushed))) atom insn e is = absurd cc
+  ask phase n m (suc (suc (suc done))) branch atom insn e f is = absurd cc
 
-  ask_of : (phase : Phase) (n m pushed : ℕ) (insn : BlockInsn) (o : Option Atom) → atom_at clauses phase n m ≡ o
-      → option_and_then (ask_insn bools base to pushed) o ≡ Some insn
-      → Typed (roles.Ask phase n m pushed) insn
-  ask_of phase n m pushed insn None e is = absurd cc
-  ask_of phase n m pushed insn (Some atom) e is = ask phase n m pushed atom insn e is
+  ask_in : (phase : Phase) (n m done : ℕ) (insn : BlockInsn) (branch : Branch) → branch_at clauses phase n ≡ Some branch
+      → (o : Option Atom) → slice_get branch.atoms m ≡ o
+      → step_insn bools base to (option_map_or ask_steps o []) done ≡ Some insn → Typed (roles.Ask phase n m done) insn
+  ask_in phase n m done insn branch e None f is = absurd cc
+  ask_in phase n m done insn branch e (Some atom) f is = ask phase n m done branch atom insn e f is
+
+  ask_of : (phase : Phase) (n m done : ℕ) (insn : BlockInsn) (o : Option Branch) → branch_at clauses phase n ≡ o
+      → step_insn bools base to (option_map_or ask_steps (option_and_then (λ (b : Branch). slice_get b.atoms m) o) []) done ≡ Some insn
+      → Typed (roles.Ask phase n m done) insn
+  ask_of phase n m done insn None e is = absurd cc
+  ask_of phase n m done insn (Some branch) e is = ask_in phase n m done insn branch e (slice_get branch.atoms m) refl is
 
   -- ---- arguments
 
@@ -703,7 +776,7 @@ module _ (mode : Mode) (bools : List Bool) (vars : List Var) (maxint : ℤ) (cla
   typed (roles.Save (suc n)) insn e call = save_of n insn (argument_at clauses n) refl e
   typed (roles.Lock phase false) insn e call = so (roles.Lock phase false) (taking false) insn e (lock_class phase)
   typed (roles.Lock phase true) insn e call = so (roles.Lock phase true) (taking true) insn e (lock_taken phase)
-  typed (roles.Ask phase n m pushed) insn e call = ask_of phase n m pushed insn (atom_at clauses phase n m) refl e
+  typed (roles.Ask phase n m done) insn e call = ask_of phase n m done insn (branch_at clauses phase n) refl e
   typed (roles.Update phase n u done) insn e call = update_of phase n u done insn (branch_at clauses phase n) refl e
   typed (roles.Taken phase n) insn e call = so (roles.Taken phase n) (Jump GOTO to) insn e (taken phase n)
   typed (roles.Stop phase done) insn e call = stop phase done insn e

@@ -1,5 +1,5 @@
 -- How long the parts of blocks are.
-use Rattle.std.proofs.Common.{◌≡◌, ℕ, ◌+◌, ◌*◌, ◌<◌, ◌≤◌, ◌^◌, Bool, true, false, List, [], ◌∷◌, ◌++◌, length, map, refl, arith, length-append}
+use Rattle.std.proofs.Common.{◌≡◌, ℕ, ◌+◌, ◌<◌, ◌≤◌, ◌^◌, Bool, true, false, List, [], ◌∷◌, ◌++◌, length, map, refl, arith, length-append}
 use Rattle.std.specs.Prelude.{Option, Some, None, IfSome, if◌then◌else◌}
 use Rattle.cert_format.specs.declared.certificate.Mode.{Mode}
 use Rattle.cert_format.specs.declared.certificate.Mode.TheVariants.{Hold, Release}
@@ -20,6 +20,7 @@ use Rattle.block_template.specs.Blocks.{Clauses, behind, called, catches, caught
 use Rattle.block_template.specs.Room.{IsShort}
 use Rattle.block_template.specs.Parts.{
   asks,
+  asks_size,
   branch_size,
   branches,
   branches_size,
@@ -39,6 +40,10 @@ use Rattle.block_template.specs.Parts.{
 }
 
 -- ---- counts
+
+pub asks_count : (atoms : List Atom) → length atoms ≤ asks_size atoms
+asks_count [] = omega arith
+asks_count (atom ∷ atoms) = omega (arith, asks_count atoms)
 
 pub updates_count : (updates : List Update) → length updates ≤ updates_size updates
 updates_count [] = omega arith
@@ -68,7 +73,7 @@ reached_length true items = refl
 reached_length false items = mapped_length unreached items
 
 module _ (bools : List Bool) (base : ℕ) (phase : Phase) where
-  pub asks_length : (branch n next : ℕ) (atoms : List Atom) → length (asks bools base phase branch n next atoms) ≡ 3 * length atoms
+  pub asks_length : (branch n next : ℕ) (atoms : List Atom) → length (asks bools base phase branch n next atoms) ≡ asks_size atoms
   asks_length branch n next [] = refl
   asks_length branch n next (atom ∷ atoms) = omega (arith, asks_length branch (n + 1) next atoms)
 

@@ -34,16 +34,12 @@ use Rattle.conspec_tree.specs.declared.types.Phase.{Phase}
 use Rattle.conspec_tree.specs.declared.types.Phase.TheVariants.{Before, After, Exceptional}
 use Rattle.conspec_tree.specs.declared.types.Atom.{Atom}
 use Rattle.conspec_tree.specs.declared.types.Update.{Update}
-use Rattle.conspec_tree.specs.declared.types.Update.TheVariants.{Set, Add}
 use Rattle.conspec_automaton.specs.declared.policy.Branch.{Branch}
 use Rattle.conspec_automaton.specs.declared.policy.Clause.{Clause}
 use Rattle.insn_codec.specs.declared.opcodes.TheConstants.{
   ACONST_NULL,
   LDC_W,
-  IADD,
   GOTO,
-  GETSTATIC,
-  PUTSTATIC,
   INVOKESTATIC,
   ATHROW,
   MONITORENTER,
@@ -55,8 +51,9 @@ use Rattle.block_template.specs.declared.item.Item.{Item}
 use Rattle.block_template.specs.declared.item.Role.{Role}
 use Rattle.block_template.specs.declared.item.Role.TheVariants as roles
 use Rattle.offset_patch.specs.declared.block.PoolWant.TheVariants.{StateClass, Exit}
-use Rattle.block_template.specs.Parts.{update_size}
-use Rattle.block_template.specs.Pushing.{store, load, push, field, push_base, negated}
+use Rattle.block_template.specs.declared.steps.Step.{Step}
+use Rattle.block_template.specs.Pushing.{store, load}
+use Rattle.block_template.specs.Steps.{ask_size, ask_steps, step_insn, update_size, update_steps}
 use Rattle.block_template.specs.Blocks.{Clauses, catches, lets_pass, handler_at, is_locked, items}
 
 -- ---- a check
@@ -74,7 +71,17 @@ held phase n atom branch = option_map_or (λ (a : Atom). roles.Ask phase n atom 
 abbrev pub tries : Phase → ℕ → List Branch → Role
 tries phase n branches = option_map_or (held phase n 0) (slice_get branches n) (roles.Stop phase 0)
 
--- One more instruction of this update is done. A role that names no branch or update is that of no item.
+-- One more step of this atom's comparison is done. A role that names no branch or atom is that of no item.
+abbrev pub ask_goes : Phase → ℕ → ℕ → ℕ → Branch → Option Atom → Role
+ask_goes phase n a done branch None = roles.Unreached
+ask_goes phase n a done branch (Some atom) =
+    if done + 1 == ask_size atom then held phase n (a + 1) branch else roles.Ask phase n a (done + 1)
+
+abbrev pub compared : Phase → ℕ → ℕ → ℕ → Option Branch → Role
+compared phase n a done None = roles.Unreached
+compared phase n a done (Some branch) = ask_goes phase n a done branch (slice_get branch.atoms a)
+
+-- One more step of this update is done. A role that names no branch or update is that of no item.
 abbrev pub update_goes : Phase → ℕ → ℕ → ℕ → Branch → Option Update → Role
 update_goes phase n u done branch None = roles.Unreached
 update_goes phase n u done branch (Some update) =
@@ -178,10 +185,7 @@ next mode clauses (roles.Save zero) = roles.Unreached
 next mode clauses (roles.Save (suc left)) = saving left
 next mode clauses (roles.Lock phase false) = roles.Lock phase true
 next mode clauses (roles.Lock phase true) = locked_for (clause_in clauses phase) phase
-next mode clauses (roles.Ask phase branch atom zero) = roles.Ask phase branch atom 1
-next mode clauses (roles.Ask phase branch atom (suc zero)) = roles.Ask phase branch atom 2
-next mode clauses (roles.Ask phase branch atom (suc (suc pushed))) =
-    option_map_or (held phase branch (atom + 1)) (slice_get (branches_in clauses phase) branch) roles.Unreached
+next mode clauses (roles.Ask phase branch atom done) = compared phase branch atom done (slice_get (branches_in clauses phase) branch)
 next mode clauses (roles.Update phase branch update done) = updated phase branch update done (slice_get (branches_in clauses phase) branch)
 next mode clauses (roles.Taken phase branch) = roles.Unreached
 next mode clauses (roles.Stop phase done) = roles.Stop phase (done + 1)
@@ -197,7 +201,7 @@ next mode clauses roles.Unreached = roles.Unreached
 
 -- what is so where an instruction jumps: an atom that does not hold, a branch that is done, the block that is left
 abbrev pub jumps : Mode → Clauses → Role → Role
-jumps mode clauses (roles.Ask phase branch atom pushed) = tries phase (branch + 1) (branches_in clauses phase)
+jumps mode clauses (roles.Ask phase branch atom done) = tries phase (branch + 1) (branches_in clauses phase)
 jumps mode clauses (roles.Taken phase branch) = checked_in mode clauses phase
 jumps mode clauses roles.Leave = roles.Leave
 jumps mode clauses (roles.Save left) = roles.Unreached
@@ -221,23 +225,20 @@ branch_at clauses phase n = slice_get (branches_in clauses phase) n
 abbrev pub atom_at : Clauses → Phase → ℕ → ℕ → Option Atom
 atom_at clauses phase n atom = option_and_then (λ (b : Branch). slice_get b.atoms atom) (branch_at clauses phase n)
 
+-- the steps of the atom that a role names
+abbrev pub asking : Clauses → Phase → ℕ → ℕ → List Step
+asking clauses phase n atom = option_map_or ask_steps (atom_at clauses phase n atom) []
+
 abbrev pub update_at : Clauses → Phase → ℕ → ℕ → Option Update
 update_at clauses phase n update = option_and_then (λ (b : Branch). slice_get b.updates update) (branch_at clauses phase n)
+
+-- the steps of the update that a role names
+abbrev pub updating : Clauses → Phase → ℕ → ℕ → List Step
+updating clauses phase n update = option_map_or update_steps (update_at clauses phase n update) []
 
 -- the kind of the result that is kept
 abbrev pub result_in : Clauses → Option Kind
 result_in clauses = option_and_then (λ (c : Clause). c.result) clauses.after
-
--- of an update so many instructions are done
-abbrev pub update_insn : List Bool → ℕ → Update → Option BlockInsn
-update_insn bools zero (Set var value) = Some (push value)
-update_insn bools (suc zero) (Set var value) = Some (Want PUTSTATIC (field bools var))
-update_insn bools (suc (suc done)) (Set var value) = None
-update_insn bools zero (Add var by) = Some (Want GETSTATIC (field bools var))
-update_insn bools (suc zero) (Add var by) = Some (push by)
-update_insn bools (suc (suc zero)) (Add var by) = Some (Plain IADD)
-update_insn bools (suc (suc (suc zero))) (Add var by) = Some (Want PUTSTATIC (field bools var))
-update_insn bools (suc (suc (suc (suc done)))) (Add var by) = None
 
 -- on the way out so many are done
 abbrev pub stop_insn : ℕ → Option BlockInsn
@@ -246,13 +247,6 @@ stop_insn (suc zero) = Some (Want INVOKESTATIC Exit)
 stop_insn (suc (suc zero)) = Some (Plain ACONST_NULL)
 stop_insn (suc (suc (suc zero))) = Some (Plain ATHROW)
 stop_insn (suc (suc (suc (suc done)))) = None
-
--- of an atom's comparison so many are pushed
-abbrev pub ask_insn : List Bool → ℕ → ℕ → ℕ → Atom → Option BlockInsn
-ask_insn bools base to zero atom = Some (push_base bools base atom.base)
-ask_insn bools base to (suc zero) atom = Some (push atom.value)
-ask_insn bools base to (suc (suc zero)) atom = Some (Jump (negated atom.rel) to)
-ask_insn bools base to (suc (suc (suc pushed))) atom = None
 
 -- The lock is taken, and left; its class is pushed first.
 abbrev pub taking : Bool → BlockInsn
@@ -268,10 +262,8 @@ abbrev pub insn_of : List Bool → ℕ → Clauses → ℕ → ℕ → Role → 
 insn_of bools base clauses end to (roles.Save zero) = None
 insn_of bools base clauses end to (roles.Save (suc n)) = option_map (λ (k : Kind). store k (base + n)) (argument_at clauses n)
 insn_of bools base clauses end to (roles.Lock phase pushed) = Some (taking pushed)
-insn_of bools base clauses end to (roles.Ask phase branch atom pushed) =
-    option_and_then (ask_insn bools base to pushed) (atom_at clauses phase branch atom)
-insn_of bools base clauses end to (roles.Update phase branch update done) =
-    option_and_then (update_insn bools done) (update_at clauses phase branch update)
+insn_of bools base clauses end to (roles.Ask phase branch atom done) = step_insn bools base to (asking clauses phase branch atom) done
+insn_of bools base clauses end to (roles.Update phase branch update done) = step_insn bools 0 0 (updating clauses phase branch update) done
 insn_of bools base clauses end to (roles.Taken phase branch) = Some (Jump GOTO to)
 insn_of bools base clauses end to (roles.Stop phase done) = stop_insn done
 insn_of bools base clauses end to (roles.Unlock phase checked pushed) = Some (leaving pushed)

@@ -35,7 +35,11 @@ use Rattle.conspec_automaton.specs.declared.policy.Clause.{Clause}
 use Rattle.block_template.specs.declared.item.Role.{Role}
 use Rattle.block_template.specs.declared.item.Role.TheVariants as roles
 use Rattle.block_template.specs.Blocks.{Clauses}
-use Rattle.block_template.specs.Flow.{keeps_result}
+use Rattle.block_template.specs.declared.steps.Operand.{Operand}
+use Rattle.block_template.specs.declared.steps.Operand.TheVariants as operands
+use Rattle.block_template.specs.declared.steps.Step.{Step}
+use Rattle.block_template.specs.Flow.{asking, keeps_result, updating}
+use Rattle.block_template.specs.Steps.{stack_before}
 
 -- The types before a call, and behind it with what it gives on top; and where the client's locals end.
 pub record Around : Type 0 where
@@ -94,15 +98,14 @@ abbrev pub class_pushed : Bool → List VType
 class_pushed true = types.Ref (codes "java/lang/Class") ∷ []
 class_pushed false = []
 
-abbrev pub numbers : ℕ → List VType
-numbers n = replicate n types.Int
+-- what the verifier sees of an operand: each is a number
+abbrev pub operand_type : Operand → VType
+operand_type (operands.Base asked) = types.Int
+operand_type (operands.Number n) = types.Int
+operand_type (operands.Sum var by) = types.Int
 
--- of an update so many instructions are done
-abbrev pub update_pushed : ℕ → List VType
-update_pushed zero = []
-update_pushed (suc zero) = types.Int ∷ []
-update_pushed (suc (suc zero)) = types.Int ∷ types.Int ∷ []
-update_pushed (suc (suc (suc done))) = types.Int ∷ []
+abbrev pub types_before : List Step → ℕ → List VType
+types_before steps done = map operand_type (stack_before steps done)
 
 -- of the way out so many are done
 abbrev pub stop_pushed : ℕ → List VType
@@ -117,8 +120,10 @@ abbrev pub frame_at : Clauses → Around → Role → Option FrameType
 frame_at clauses around (roles.Save left) =
     Some (frame (saved_locals clauses around left) (below (kept_arguments clauses - left) around.before.stack))
 frame_at clauses around (roles.Lock phase pushed) = Some (with_pushed (phase_frame clauses around phase) (class_pushed pushed))
-frame_at clauses around (roles.Ask phase branch atom pushed) = Some (with_pushed (phase_frame clauses around phase) (numbers pushed))
-frame_at clauses around (roles.Update phase branch update done) = Some (with_pushed (phase_frame clauses around phase) (update_pushed done))
+frame_at clauses around (roles.Ask phase branch atom done) =
+    Some (with_pushed (phase_frame clauses around phase) (types_before (asking clauses phase branch atom) done))
+frame_at clauses around (roles.Update phase branch update done) =
+    Some (with_pushed (phase_frame clauses around phase) (types_before (updating clauses phase branch update) done))
 frame_at clauses around (roles.Taken phase branch) = Some (phase_frame clauses around phase)
 frame_at clauses around (roles.Stop phase done) = Some (with_pushed (phase_frame clauses around phase) (stop_pushed done))
 frame_at clauses around (roles.Unlock phase checked pushed) = Some (with_pushed (phase_frame clauses around phase) (class_pushed pushed))

@@ -1,4 +1,5 @@
 pub mod Pushing
+pub mod Steps
 pub mod Parts
 pub mod Blocks
 pub mod Denial

@@ -1,21 +1,21 @@
 -- The parts of blocks. Each instruction stands with what is so before it. Places are counted from the front of the block.
 -- (docs/BLOCKS.md)
-use Rattle.std.specs.Prelude.{ℕ, pos, ◌+◌, ◌*◌, Bool, true, false, List, [], ◌∷◌, ◌++◌, length, map, Option, Some, None}
+use Rattle.std.specs.Prelude.{ℕ, pos, ◌+◌, Bool, true, false, List, [], ◌∷◌, ◌++◌, map, Option, Some, None}
 use Rattle.conspec_tree.specs.declared.types.Atom.{Atom}
 use Rattle.conspec_tree.specs.declared.types.Kind.{Kind}
 use Rattle.conspec_tree.specs.declared.types.Phase.{Phase}
 use Rattle.conspec_tree.specs.declared.types.Update.{Update}
-use Rattle.conspec_tree.specs.declared.types.Update.TheVariants.{Set, Add}
 use Rattle.conspec_automaton.specs.declared.policy.Branch.{Branch}
 use Rattle.conspec_automaton.specs.declared.policy.Clause.{Clause}
 use Rattle.offset_patch.specs.declared.block.BlockInsn.{BlockInsn}
 use Rattle.offset_patch.specs.declared.block.BlockInsn.TheVariants.{Plain, Byte, Want, Jump}
 use Rattle.offset_patch.specs.declared.block.PoolWant.TheVariants.{StateClass, Exit}
-use Rattle.insn_codec.specs.declared.opcodes.TheConstants.{ACONST_NULL, LDC_W, IADD, GOTO, GETSTATIC, PUTSTATIC, INVOKESTATIC, ATHROW, MONITORENTER, MONITOREXIT}
+use Rattle.insn_codec.specs.declared.opcodes.TheConstants.{ACONST_NULL, LDC_W, GOTO, INVOKESTATIC, ATHROW, MONITORENTER, MONITOREXIT}
 use Rattle.block_template.specs.declared.item.Item.{Item}
 use Rattle.block_template.specs.declared.item.Role.{Role}
 use Rattle.block_template.specs.declared.item.Role.TheVariants as roles
-use Rattle.block_template.specs.Pushing.{store, load, push, field, push_base, negated}
+use Rattle.block_template.specs.Pushing.{store, load}
+use Rattle.block_template.specs.Steps.{ask_size, ask_steps, laid, update_size, update_steps}
 
 abbrev pub item : BlockInsn → Role → Item
 item insn role = record { insn = insn; role = role }
@@ -45,44 +45,33 @@ loads locked base n (kind ∷ others) = item (load kind (base + n)) (roles.Load 
 
 -- ---- a check
 
--- The atom's base and constant are compared; where it does not hold, the next branch is tried, or the program stopped.
+-- An atom is compared; where it does not hold, the next branch is tried, or the program stopped.
 abbrev pub ask : List Bool → ℕ → Phase → ℕ → ℕ → ℕ → Atom → List Item
-ask bools base phase branch n next atom =
-    item (push_base bools base atom.base) (roles.Ask phase branch n 0)
-    ∷ item (push atom.value) (roles.Ask phase branch n 1)
-    ∷ item (Jump (negated atom.rel) next) (roles.Ask phase branch n 2)
-    ∷ []
+ask bools base phase branch n next atom = laid bools base next (roles.Ask phase branch n) 0 (ask_steps atom)
 
 abbrev pub asks : List Bool → ℕ → Phase → ℕ → ℕ → ℕ → List Atom → List Item
 asks bools base phase branch n next [] = []
 asks bools base phase branch n next (atom ∷ atoms) =
     ask bools base phase branch n next atom ++ asks bools base phase branch (n + 1) next atoms
 
--- A variable is set, or changed by a number.
+-- A variable is set, or changed by a number, which names no local and does not jump.
 abbrev pub write : List Bool → Phase → ℕ → ℕ → Update → List Item
-write bools phase branch n (Set var value) =
-    item (push value) (roles.Update phase branch n 0) ∷ item (Want PUTSTATIC (field bools var)) (roles.Update phase branch n 1) ∷ []
-write bools phase branch n (Add var by) =
-    item (Want GETSTATIC (field bools var)) (roles.Update phase branch n 0)
-    ∷ item (push by) (roles.Update phase branch n 1)
-    ∷ item (Plain IADD) (roles.Update phase branch n 2)
-    ∷ item (Want PUTSTATIC (field bools var)) (roles.Update phase branch n 3)
-    ∷ []
+write bools phase branch n update = laid bools 0 0 (roles.Update phase branch n) 0 (update_steps update)
 
 abbrev pub writes : List Bool → Phase → ℕ → ℕ → List Update → List Item
 writes bools phase branch n [] = []
 writes bools phase branch n (update ∷ updates) = write bools phase branch n update ++ writes bools phase branch (n + 1) updates
 
-abbrev pub update_size : Update → ℕ
-update_size (Set var value) = 2
-update_size (Add var by) = 4
-
 abbrev pub updates_size : List Update → ℕ
 updates_size [] = 0
 updates_size (update ∷ updates) = update_size update + updates_size updates
 
+abbrev pub asks_size : List Atom → ℕ
+asks_size [] = 0
+asks_size (atom ∷ atoms) = ask_size atom + asks_size atoms
+
 abbrev pub branch_size : Branch → ℕ
-branch_size branch = 3 * length branch.atoms + updates_size branch.updates + 1
+branch_size branch = asks_size branch.atoms + updates_size branch.updates + 1
 
 -- Where all atoms hold the updates are made, and the check is done.
 abbrev pub tried : List Bool → ℕ → Phase → ℕ → ℕ → ℕ → Branch → List Item

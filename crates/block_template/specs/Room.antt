@@ -6,6 +6,8 @@ use Rattle.conspec_tree.specs.declared.types.Base.{Base}
 use Rattle.conspec_tree.specs.declared.types.Base.TheVariants as bases
 use Rattle.conspec_automaton.specs.declared.policy.Branch.{Branch}
 use Rattle.conspec_automaton.specs.declared.policy.Clause.{Clause}
+use Rattle.block_template.specs.declared.steps.Act.{Act}
+use Rattle.block_template.specs.declared.steps.Act.TheVariants.{PushBase, PushNumber, JumpUnless, AddNumbers, WriteVar}
 use Rattle.block_template.specs.Blocks.{Clauses, kept}
 use Rattle.block_template.specs.Parts.{branches_size}
 
@@ -14,6 +16,13 @@ abbrev pub HasLocal : ℕ → Base → Type 0
 HasLocal base (bases.Var var) = ⊤
 HasLocal base (bases.Arg i) = base + i < 2 ^ 16
 HasLocal base bases.Result = base < 2 ^ 16
+
+abbrev pub ActHasLocal : ℕ → Act → Type 0
+ActHasLocal base (PushBase asked) = HasLocal base asked
+ActHasLocal base (PushNumber n) = ⊤
+ActHasLocal base (JumpUnless rel) = ⊤
+ActHasLocal base AddNumbers = ⊤
+ActHasLocal base (WriteVar var) = ⊤
 
 abbrev pub HasLocals : ℕ → Branch → Type 0
 HasLocals base branch = AllByRecursion (λ (a : Atom). HasLocal base a.base) branch.atoms

@@ -164,7 +164,7 @@ phase_locals around Exceptional = around.before.locals
 abbrev pub client_locals : Around → Role → List VType
 client_locals around (roles.Save left) = around.before.locals
 client_locals around (roles.Lock phase pushed) = phase_locals around phase
-client_locals around (roles.Ask phase branch atom pushed) = phase_locals around phase
+client_locals around (roles.Ask phase branch atom done) = phase_locals around phase
 client_locals around (roles.Update phase branch update done) = phase_locals around phase
 client_locals around (roles.Taken phase branch) = phase_locals around phase
 client_locals around (roles.Stop phase done) = phase_locals around phase

@@ -46,6 +46,7 @@ use std::alloc::Global;
 // ---- a check, and what stands behind it
 
 fn put_checked(
+    alloc: Global,
     items: &mut List<Item>,
     vars: &[Var],
     base: u16,
@@ -57,7 +58,7 @@ fn put_checked(
     requires short { IsShort base clause.now }
     ensures { OnOk result (items.new ≡ items.old ++ checked (bools_in vars.now) base at clause.now behind.now) }
 {
-    put_check(items, vars, base, at, clause)?;
+    put_check(alloc, items, vars, base, at, clause)?;
     put_if_reached(items, lets_pass(Some(clause)), behind)
 }
 
@@ -79,7 +80,7 @@ fn put_released(
     put_unlock(&mut left, clause.phase, true)?;
     put_if_reached(&mut left, true, behind)?;
     put_lock(items, clause.phase)?;
-    put_checked(items, vars, base, at + 2, clause, left.as_slice())
+    put_checked(alloc, items, vars, base, at + 2, clause, left.as_slice())
 }
 
 // ---- before the call
@@ -146,7 +147,7 @@ fn put_asked(
         Mode::Release => put_released(alloc, items, vars, base, at, clause, last),
         Mode::Hold => {
             put_lock(items, Phase::Before)?;
-            put_checked(items, vars, base, at + 2, clause, last)
+            put_checked(alloc, items, vars, base, at + 2, clause, last)
         }
     }
 }
@@ -211,7 +212,7 @@ fn put_returned(
         Mode::Hold => {
             put_unlock(&mut last, Phase::After, true)?;
             put_give(&mut last, base, clause.result)?;
-            put_checked(items, vars, base, begin, clause, last.as_slice())
+            put_checked(alloc, items, vars, base, begin, clause, last.as_slice())
         }
     }
 }
@@ -266,7 +267,7 @@ fn put_thrown(
         Mode::Hold => {
             put_unlock(&mut last, Phase::Exceptional, true)?;
             put_rethrow(&mut last)?;
-            put_checked(items, vars, base, at, clause, last.as_slice())
+            put_checked(alloc, items, vars, base, at, clause, last.as_slice())
         }
     }
 }

@@ -3,8 +3,9 @@
 ghost use Rattle.std.specs.Prelude.{◌≡◌};
 ghost use Rattle.std.specs.Option.{option_copied};
 ghost use Rattle.block_template.specs.Blocks.{clause_at, clauses_of, lets_pass, is_phase};
+ghost use Rattle.block_template.specs.Flow.{branch_at, clause_in};
 
-use conspec_automaton::{Clause, Policy};
+use conspec_automaton::{Branch, Clause, Policy};
 use conspec_tree::Phase;
 use std::marker::Model;
 
@@ -46,6 +47,27 @@ pub fn clause_at(policy: &Policy, method: u32, phase: Phase) -> Option<&Clause>
 {
     policy.clauses.as_slice().iter().find(|clause| clause.method == method
         && is_phase(phase, clause.phase))
+}
+
+/// The clause for this phase.
+pub fn clause_in<'a>(clauses: &MethodClauses<'a>, phase: Phase) -> Option<&'a Clause>
+    ensures { option_copied result ≡ clause_in clauses.now phase }
+{
+    match phase {
+        Phase::Before => clauses.before,
+        Phase::After => clauses.after,
+        Phase::Exceptional => clauses.exceptional,
+    }
+}
+
+/// The branch of this number of the clause for this phase.
+pub fn branch_at<'a>(clauses: &MethodClauses<'a>, phase: Phase, n: u32) -> Option<&'a Branch>
+    ensures { option_copied result ≡ branch_at clauses.now phase n }
+{
+    match clause_in(clauses, phase) {
+        Some(clause) => clause.branches.as_slice().get(n as usize),
+        None => None,
+    }
 }
 
 /// Whether the phases are the same.

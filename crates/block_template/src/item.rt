@@ -15,15 +15,15 @@ pub enum Role {
         phase: Phase,
         pushed: bool,
     },
-    /// The branches before this one fail and so many of its atoms hold; of the next atom's base and constant so many are
-    /// pushed.
+    /// The branches before this one fail and so many of its atoms hold; of the next atom's comparison so many steps are
+    /// done.
     Ask {
         phase: Phase,
         branch: u32,
         atom: u32,
-        pushed: u32,
+        done: u32,
     },
-    /// The branch is taken and so many of its updates are made; so many instructions of the next one are done.
+    /// The branch is taken and so many of its updates are made; so many steps of the next one are done.
     Update {
         phase: Phase,
         branch: u32,

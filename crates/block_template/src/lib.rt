@@ -14,6 +14,7 @@ mod numbers;
 mod parts;
 mod plan;
 mod pushing;
+mod steps;
 
 pub use blocks::{block, items, locals_used};
 pub use clauses::{MethodClauses, clauses_of};
@@ -24,3 +25,4 @@ pub use laws::{
 };
 pub use made::PolicyItems;
 pub use plan::PolicyPlan;
+pub use steps::{Act, Operand, Step, ask_steps, asking, stack_before, update_steps, updating};

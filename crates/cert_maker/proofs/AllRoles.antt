@@ -1,6 +1,7 @@
 -- Each role of a block has a row of its note, and so has the call.
-use Rattle.std.proofs.Common.{◌≡◌, ℕ, zero, suc, ◌+◌, Bool, true, false, cond, List, Option, Some, None, refl, sym, ap, subst, ◌∙◌, arith}
+use Rattle.std.proofs.Common.{◌≡◌, ℕ, zero, suc, ◌+◌, Bool, true, false, cond, List, [], Option, Some, None, refl, sym, ap, subst, ◌∙◌, arith}
 use Rattle.std.specs.Prelude.{◌==◌, ◌||◌, is_some, nat_lt, slice_get, option_and_then, option_map}
+use Rattle.std.specs.Option.{option_map_or}
 use Rattle.std.proofs.lemmas.Bool.{false≢true}
 use Rattle.class_codec.specs.declared.tree.Const.{Const}
 use Rattle.insn_codec.specs.declared.insn.Insn.{Insn}
@@ -29,8 +30,9 @@ use Rattle.offset_patch.specs.Splicing.{is_call}
 use Rattle.block_template.specs.declared.item.Role.{Role}
 use Rattle.block_template.specs.declared.item.Role.TheVariants as roles
 use Rattle.block_template.specs.Blocks.{bools_of, catches, is_locked}
-use Rattle.block_template.specs.Flow.{behind_return, thrown, tries, argument_at, ask_insn, branch_at as branch_in, check_behind, clause_in, insn_of, kept_by, result_in, update_insn}
+use Rattle.block_template.specs.Flow.{behind_return, thrown, tries, argument_at, branch_at as branch_in, check_behind, clause_in, insn_of, kept_by, result_in}
 use Rattle.block_template.specs.Pushing.{load as load_insn, store as store_insn}
+use Rattle.block_template.specs.Steps.{ask_steps, step_insn, update_steps}
 use Rattle.block_logic.specs.Annotations.{held_in, holds_round}
 use Rattle.block_logic.specs.Clauses.{clause_at, needs, result_kind}
 use Rattle.block_logic.specs.Notes.{is_granted}
@@ -213,21 +215,25 @@ module _ (b : Blocked) (pool : List Const) (fronts : List ℕ) (begin : ℕ) (ow
   so : (role : Role) (y x : BlockInsn) → ◌≡◌ {A = Option BlockInsn} (Some y) (Some x) → Is role y → Is role x
   so role y x e is = subst (Is role) (some_is y x e) is
 
-  ask_of : (p : Phase) (n m to pushed : ℕ) (x : BlockInsn) (o : Option Branch) → branch_in (clauses b) p n ≡ o
-      → option_and_then (ask_insn bools base to pushed) (option_and_then (λ (c : Branch). slice_get c.atoms m) o) ≡ Some x → Is (roles.Ask p n m pushed) x
-  ask_of p n m to pushed x None e f = absurd cc
-  ask_of p n m to pushed x (Some branch) e f = by (slice_get branch.atoms m) refl f
+  ask_of : (p : Phase) (n m to done : ℕ) (x : BlockInsn) (o : Option Branch) → branch_in (clauses b) p n ≡ o
+      → step_insn bools base to (option_map_or ask_steps (option_and_then (λ (c : Branch). slice_get c.atoms m) o) []) done ≡ Some x
+      → Is (roles.Ask p n m done) x
+  ask_of p n m to done x None e f = absurd cc
+  ask_of p n m to done x (Some branch) e f = by (slice_get branch.atoms m) refl f
     where
-      by : (o : Option Atom) → slice_get branch.atoms m ≡ o → option_and_then (ask_insn bools base to pushed) o ≡ Some x → Is (roles.Ask p n m pushed) x
+      by : (o : Option Atom) → slice_get branch.atoms m ≡ o → step_insn bools base to (option_map_or ask_steps o []) done ≡ Some x
+          → Is (roles.Ask p n m done) x
       by None g f = absurd cc
-      by (Some atom) g f = ask b pool fronts begin own ref p n branch (branch_is b p n branch e) m atom g to pushed x f
+      by (Some atom) g f = ask b pool fronts begin own ref p n branch (branch_is b p n branch e) m atom g to done x f
 
   update_of : (p : Phase) (n u done : ℕ) (x : BlockInsn) (o : Option Branch) → branch_in (clauses b) p n ≡ o
-      → option_and_then (update_insn bools done) (option_and_then (λ (c : Branch). slice_get c.updates u) o) ≡ Some x → Is (roles.Update p n u done) x
+      → step_insn bools 0 0 (option_map_or update_steps (option_and_then (λ (c : Branch). slice_get c.updates u) o) []) done ≡ Some x
+      → Is (roles.Update p n u done) x
   update_of p n u done x None e f = absurd cc
   update_of p n u done x (Some branch) e f = by (slice_get branch.updates u) refl f
     where
-      by : (o : Option Update) → slice_get branch.updates u ≡ o → option_and_then (update_insn bools done) o ≡ Some x → Is (roles.Update p n u done) x
+      by : (o : Option Update) → slice_get branch.updates u ≡ o → step_insn bools 0 0 (option_map_or update_steps o []) done ≡ Some x
+          → Is (roles.Update p n u done) x
       by None g f = absurd cc
       by (Some what) g f = update b pool fronts begin own ref p n branch (branch_is b p n branch e) u done what x g f
 
@@ -244,7 +250,7 @@ module _ (b : Blocked) (pool : List Const) (fronts : List ℕ) (begin : ℕ) (ow
       each_of (roles.Save (suc n)) (λ (k : Kind). store_insn k (base + n)) (argument_at (clauses b) n) x e (λ kind f. save b pool fronts begin own ref n kind)
   noted (roles.Lock p false) x end to e other suits = so (roles.Lock p false) _ x e (lock_class b pool fronts begin own ref p)
   noted (roles.Lock p true) x end to e other suits = so (roles.Lock p true) _ x e (lock_taken b pool fronts begin own ref p)
-  noted (roles.Ask p n m pushed) x end to e other suits = ask_of p n m to pushed x (branch_in (clauses b) p n) refl e
+  noted (roles.Ask p n m done) x end to e other suits = ask_of p n m to done x (branch_in (clauses b) p n) refl e
   noted (roles.Update p n u done) x end to e other suits = update_of p n u done x (branch_in (clauses b) p n) refl e
   noted (roles.Taken p n) x end to e other suits = so (roles.Taken p n) _ x e (taken_of p n to (branch_in (clauses b) p n) refl suits)
   noted (roles.Stop p done) x end to e other suits = stop b pool fronts begin own ref p done x e

@@ -1,7 +1,6 @@
 -- The roles of a check: each instruction has a row of its note, and what comes next meets it.
 use Rattle.std.proofs.Common.{◌≡◌, ◌≢◌, ℕ, zero, suc, ◌+◌, ℤ, pos, Bool, true, false, cond, List, [], ◌∷◌, ◌++◌, length, take, Option, Some, None, refl, sym, ap, subst, ◌∙◌, arith}
 use Rattle.std.specs.Prelude.{◌==◌, int_le, is_some, ◌-ℤ◌, slice_get, slice_set}
-use Rattle.std.specs.Option.{option_map_or}
 use Rattle.std.proofs.lemmas.Bool.{and_from, false≢true}
 use Rattle.std.proofs.lemmas.Int.{ints}
 use Rattle.std.proofs.lemmas.Option.{slice_get_within}
@@ -39,9 +38,9 @@ use Rattle.offset_patch.specs.declared.block.BlockInsn.TheVariants.{Plain, Want,
 use Rattle.block_template.specs.declared.item.Role.{Role}
 use Rattle.block_template.specs.declared.item.Role.TheVariants as roles
 use Rattle.block_template.specs.Blocks.{bools_of}
-use Rattle.block_template.specs.Flow.{branches_of as branches_told, held as held_in, made, tries, update_goes, updated, ask_insn, branches_in, checked_in, next, update_insn}
-use Rattle.block_template.specs.Parts.{update_size}
+use Rattle.block_template.specs.Flow.{branches_of as branches_told, held as held_in, made, tries, update_goes, updated, ask_goes, branches_in, checked_in, compared, next}
 use Rattle.block_template.specs.Pushing.{field, local, negated, push, push_base}
+use Rattle.block_template.specs.Steps.{ask_size, ask_steps, step_insn, update_size, update_steps}
 use Rattle.block_template.proofs.CheckFlows.{base_stays, push_stays}
 use Rattle.block_logic.specs.Clauses.{is_number}
 use Rattle.block_logic.specs.Operands.{calls}
@@ -50,7 +49,7 @@ use Rattle.block_logic.specs.Rows.{Asked, Given, Row, gives, is_addend, term_pus
 use Rattle.block_logic.specs.Standing.{is_after, is_before, done}
 use Rattle.block_logic.specs.Terms.{after_updates, variable_after, as_taken, base_term}
 use Rattle.block_logic.specs.Terms.{written as written_term}
-use Rattle.cert_maker.specs.Noting.{phase_of, update_terms}
+use Rattle.cert_maker.specs.Noting.{phase_of, terms_before}
 use Rattle.cert_maker.proofs.Checks.{Arrives, Blocked, IsBranch, ask_is, clauses, branches_are, held_arrives, held_wide, made_arrives, note, rules, same_inside, site, taken_is, tries_arrives, update_is}
 use Rattle.cert_maker.proofs.RoleRows.{of_does}
 use Rattle.cert_maker.proofs.Roles.{IsNoted, done_wide, held_noted, loading_arrives}
@@ -167,14 +166,27 @@ module _ (b : Blocked) (pool : List Const) (fronts : List ℕ) (begin : ℕ) (ow
           base_pushed atom.base
           (all_get (λ (a : Atom). IsBase (length b.policy.vars) (asked p is.clause.args is.clause.result) a.base) branch.atoms m atom is.is.atoms there)
 
+      -- what comes next, in the comparison and behind it
+      goes_on : (done : ℕ) → next b.mode (clauses b) (roles.Ask p n m done) ≡ ask_goes p n m done branch (Some atom)
+      goes_on done =
+          ap (compared p n m done) (ap (λ (bs : List Branch). slice_get bs n) (sym (branches_are b p)) ∙ is.at)
+          ∙ ap (ask_goes p n m done branch) there
+
+      more : (done : ℕ) → (done + 1 == ask_size atom) ≡ false → (wants : Asked) → Arrives b wants (roles.Ask p n m (done + 1))
+          → Arrives b wants (next b.mode (clauses b) (roles.Ask p n m done))
+      more done some wants arrives =
+          subst (Arrives b wants)
+          (sym (goes_on done ∙ ap (λ (c : Bool). cond c (held_in p n (m + 1) branch) (roles.Ask p n m (done + 1))) some)) arrives
+
       ask_first : Is (roles.Ask p n m 0) (push_base bools base atom.base)
       ask_first =
           held_noted b pool fronts begin own ref (roles.Ask p n m 0) (push_base bools base atom.base)
           (notes.Held (site b p) n m [] (as_taken b.policy)) (ask_is b p n branch is m 0 atom there) refl asks_base.quiet _
           (held_pushes (rules b) (site b p) is.clause is.found n m (as_taken b.policy) [] (shape_of (at_place (push_base bools base atom.base)))
           (names (push_base bools base atom.base)) (base_term atom.base) asks_base.term)
-          (λ q. same_inside b (notes.Held (site b p) n m (base_term atom.base ∷ []) (as_taken b.policy)) (roles.Ask p n m 1)
-          (ask_is b p n branch is m 1 atom there))
+          (λ q. more 0 refl (Given (notes.Held (site b p) n m (base_term atom.base ∷ []) (as_taken b.policy)))
+          (same_inside b (notes.Held (site b p) n m (base_term atom.base ∷ []) (as_taken b.policy)) (roles.Ask p n m 1)
+          (ask_is b p n branch is m 1 atom there)))
           (λ j. never (sym (ap is_some (base_stays bools base atom.base)) ∙ j)) refl
 
       ask_second : Is (roles.Ask p n m 1) (push atom.value)
@@ -182,16 +194,16 @@ module _ (b : Blocked) (pool : List Const) (fronts : List ℕ) (begin : ℕ) (ow
           let row = constant_pushed m (as_taken b.policy) (base_term atom.base ∷ []) atom.value in
           held_noted b pool fronts begin own ref (roles.Ask p n m 1) (push atom.value)
           (notes.Held (site b p) n m (base_term atom.base ∷ []) (as_taken b.policy)) (ask_is b p n branch is m 1 atom there) refl row.1 _ row.0
-          (λ q. same_inside b (notes.Held (site b p) n m (base_term atom.base ∷ terms.Const atom.value ∷ []) (as_taken b.policy))
-          (roles.Ask p n m 2) (ask_is b p n branch is m 2 atom there))
+          (λ q. more 1 refl (Given (notes.Held (site b p) n m (base_term atom.base ∷ terms.Const atom.value ∷ []) (as_taken b.policy)))
+          (same_inside b (notes.Held (site b p) n m (base_term atom.base ∷ terms.Const atom.value ∷ []) (as_taken b.policy))
+          (roles.Ask p n m 2) (ask_is b p n branch is m 2 atom there)))
           (λ j. never (sym (ap is_some (push_stays atom.value)) ∙ j)) refl
 
-      held_next : Arrives b (Given (notes.Held (site b p) n (m + 1) [] (as_taken b.policy)))
-          (option_map_or (held_in p n (m + 1)) (slice_get (branches_in (clauses b) p) n) roles.Unreached)
-      held_next =
-          subst (λ (o : Option Branch). Arrives b (Given (notes.Held (site b p) n (m + 1) [] (as_taken b.policy)))
-          (option_map_or (held_in p n (m + 1)) o roles.Unreached))
-          (sym (ap (λ (bs : List Branch). slice_get bs n) (sym (branches_are b p)) ∙ is.at))
+      held_next : (done : ℕ) → (done + 1 == ask_size atom) ≡ true
+          → Arrives b (Given (notes.Held (site b p) n (m + 1) [] (as_taken b.policy))) (next b.mode (clauses b) (roles.Ask p n m done))
+      held_next done last =
+          subst (Arrives b (Given (notes.Held (site b p) n (m + 1) [] (as_taken b.policy))))
+          (sym (goes_on done ∙ ap (λ (c : Bool). cond c (held_in p n (m + 1) branch) (roles.Ask p n m (done + 1))) last))
           (held_arrives b p n branch is (Given (notes.Held (site b p) n (m + 1) [] (as_taken b.policy))) (m + 1)
           (omega (arith, slice_get_within branch.atoms m atom there)) (held_wide b n p (m + 1) (as_taken b.policy)))
 
@@ -211,13 +223,13 @@ module _ (b : Blocked) (pool : List Const) (fronts : List ℕ) (begin : ℕ) (ow
           (tested (rules b) (site b p) is.clause is.found n m (as_taken b.policy))
           (ap (λ (s : Shape). rows_of m (as_taken b.policy) (base_term atom.base ∷ terms.Const atom.value ∷ []) s target.None) shape
           ∙ held_tests (rules b) (site b p) is.clause is.found n m (as_taken b.policy) branch atom (begin + to) is.listed there)
-          (λ q. held_next) (λ j. fails_next) refl
+          (λ q. held_next 2 refl) (λ j. fails_next) refl
 
-      pub ask : (to pushed : ℕ) (x : BlockInsn) → ask_insn bools base to pushed atom ≡ Some x → Is (roles.Ask p n m pushed) x
+      pub ask : (to done : ℕ) (x : BlockInsn) → step_insn bools base to (ask_steps atom) done ≡ Some x → Is (roles.Ask p n m done) x
       ask to zero x e = subst (Is (roles.Ask p n m 0)) (some_is _ x e) ask_first
       ask to (suc zero) x e = subst (Is (roles.Ask p n m 1)) (some_is _ x e) ask_second
       ask to (suc (suc zero)) x e = subst (Is (roles.Ask p n m 2)) (some_is _ x e) (ask_last to)
-      ask to (suc (suc (suc pushed))) x e = absurd cc
+      ask to (suc (suc (suc done))) x e = absurd cc
 
     -- ---- an update
 
@@ -228,7 +240,7 @@ module _ (b : Blocked) (pool : List Const) (fronts : List ℕ) (begin : ℕ) (ow
       abbrev count : ℕ
       count = length branch.atoms
 
-      told : (done : ℕ) → note b (roles.Update p n u done) ≡ notes.Held (site b p) n count (update_terms done update) so_far
+      told : (done : ℕ) → note b (roles.Update p n u done) ≡ notes.Held (site b p) n count (terms_before (update_steps update) done) so_far
       told done = update_is b p n branch is u done update there
 
       fits : IsUpdateIn b.policy.vars b.policy.maxint update
@@ -268,7 +280,7 @@ module _ (b : Blocked) (pool : List Const) (fronts : List ℕ) (begin : ℕ) (ow
           (omega (arith, slice_get_within branch.updates u update there))
           (held_wide b n p count (after_updates b.policy (take (u + 1) branch.updates)))))
 
-      writes : (done var : ℕ) (x : BlockInsn) → x ≡ Want PUTSTATIC (field bools var) → update_terms done update ≡ written_term update ∷ []
+      writes : (done var : ℕ) (x : BlockInsn) → x ≡ Want PUTSTATIC (field bools var) → terms_before (update_steps update) done ≡ written_term update ∷ []
           → updated_variable update ≡ var → (done + 1 == update_size update) ≡ true → Is (roles.Update p n u done) x
       writes done var x e list of last =
           subst (Is (roles.Update p n u done)) (sym e)
@@ -279,8 +291,8 @@ module _ (b : Blocked) (pool : List Const) (fronts : List ℕ) (begin : ℕ) (ow
           (λ q. made_next done var of last) (λ j. tt) refl)
 
       -- A number is pushed.
-      pushes : (done : ℕ) (list : List Term) (value : ℤ) (x : BlockInsn) → x ≡ push value → update_terms done update ≡ list
-          → update_terms (done + 1) update ≡ list ++ terms.Const value ∷ [] → (done + 1 == update_size update) ≡ false
+      pushes : (done : ℕ) (list : List Term) (value : ℤ) (x : BlockInsn) → x ≡ push value → terms_before (update_steps update) done ≡ list
+          → terms_before (update_steps update) (done + 1) ≡ list ++ terms.Const value ∷ [] → (done + 1 == update_size update) ≡ false
           → Is (roles.Update p n u done) x
       pushes done list value x e before after more =
           let row = constant_pushed count so_far list value in
@@ -331,7 +343,7 @@ module _ (b : Blocked) (pool : List Const) (fronts : List ℕ) (begin : ℕ) (ow
           (told u (Add var by) there 3)))
           (λ j. tt) refl
 
-    pub update : (u done : ℕ) (what : Update) (x : BlockInsn) → slice_get branch.updates u ≡ Some what → update_insn bools done what ≡ Some x
+    pub update : (u done : ℕ) (what : Update) (x : BlockInsn) → slice_get branch.updates u ≡ Some what → step_insn bools 0 0 (update_steps what) done ≡ Some x
         → Is (roles.Update p n u done) x
     update u zero (Set var value) x there e = pushes u (Set var value) there 0 [] value x (sym (some_is _ x e)) refl refl refl
     update u (suc zero) (Set var value) x there e = writes u (Set var value) there 1 var x (sym (some_is _ x e)) refl refl refl

@@ -34,7 +34,8 @@ use Rattle.block_logic.specs.Notes.{meets}
 use Rattle.block_logic.specs.Standing.{branches_of, done, fails, is_done, may_stand, same_note, stands_for_held}
 use Rattle.block_logic.specs.Terms.{after_updates, as_taken}
 use Rattle.cert_maker.specs.declared.called.Called.{Called}
-use Rattle.cert_maker.specs.Noting.{asked_terms, branch_at, byte, note_of, site_of, update_terms}
+use Rattle.block_template.specs.Steps.{ask_steps, update_steps}
+use Rattle.cert_maker.specs.Noting.{branch_at, byte, note_of, site_of, terms_before}
 use Rattle.cert_maker.proofs.ClausesAlike as told
 use Rattle.cert_maker.proofs.Same.{note_itself}
 
@@ -117,15 +118,15 @@ module _ (b : Blocked) where
     atoms_few : byte (length branch.atoms) ≡ length branch.atoms
     atoms_few = small_byte (length branch.atoms) (omega (arith, is.is.few_atoms))
 
-    pub ask_is : (m pushed : ℕ) (atom : Atom) → slice_get branch.atoms m ≡ Some atom
-        → note (roles.Ask p n m pushed) ≡ notes.Held (site p) n m (asked_terms pushed atom) (as_taken b.policy)
-    ask_is m pushed atom there =
+    pub ask_is : (m done : ℕ) (atom : Atom) → slice_get branch.atoms m ≡ Some atom
+        → note (roles.Ask p n m done) ≡ notes.Held (site p) n m (terms_before (ask_steps atom) done) (as_taken b.policy)
+    ask_is m done atom there =
         let few : byte m ≡ m = small_byte m (omega (arith, is.is.few_atoms, slice_get_within branch.atoms m atom there)) in
         rw (is.at, there, branch_few, few) refl
 
     pub update_is : (u done : ℕ) (update : Update) → slice_get branch.updates u ≡ Some update
         → note (roles.Update p n u done)
-        ≡ notes.Held (site p) n (length branch.atoms) (update_terms done update) (after_updates b.policy (take u branch.updates))
+        ≡ notes.Held (site p) n (length branch.atoms) (terms_before (update_steps update) done) (after_updates b.policy (take u branch.updates))
     update_is u done update there = rw (is.at, there, branch_few, atoms_few) refl
 
     pub taken_is : note (roles.Taken p n)

@@ -1,5 +1,5 @@
 -- The branches of each policy that was read name what a byte tells.
-use Rattle.std.proofs.Common.{◌≡◌, ℕ, ℤ, ◌<◌, ◌≤◌, List, [], ◌∷◌, length, Option, Some, None, refl, arith}
+use Rattle.std.proofs.Common.{◌≡◌, ℕ, zero, suc, ℤ, ◌<◌, ◌≤◌, List, [], ◌∷◌, length, Option, Some, None, refl, arith}
 use Rattle.std.specs.Prelude.{◌==◌, ◌&&◌, IfSome, slice_get}
 use Rattle.std.specs.List.{AllByRecursion}
 use Rattle.std.specs.Option.{option_map_or}
@@ -13,6 +13,7 @@ use Rattle.conspec_tree.specs.declared.types.Kind.{Kind}
 use Rattle.conspec_tree.specs.declared.types.Phase.{Phase}
 use Rattle.conspec_tree.specs.declared.types.Phase.TheVariants.{Before, After, Exceptional}
 use Rattle.conspec_tree.specs.declared.types.Update.{Update}
+use Rattle.conspec_tree.specs.declared.types.Update.TheVariants.{Set, Add}
 use Rattle.conspec_tree.specs.declared.types.Var.{Var}
 use Rattle.conspec_tree.specs.Tree.{AreAtoms, IsBase, IsNumber, IsUpdateIn, asked}
 use Rattle.conspec_tree.specs.Updates.{target}
@@ -20,10 +21,28 @@ use Rattle.conspec_automaton.specs.declared.policy.Branch.{Branch}
 use Rattle.conspec_automaton.specs.declared.policy.Clause.{Clause}
 use Rattle.conspec_automaton.specs.declared.policy.Policy.{Policy}
 use Rattle.conspec_automaton.specs.Sound.{IsBranchIn, IsClauseIn, IsPolicy}
+use Rattle.block_template.specs.Steps.{ask_steps, stack_before, update_steps}
 use Rattle.block_logic.specs.Clauses.{clause_of, is_of_phase}
 use Rattle.cert_maker.specs.Noting.{branch_at}
-use Rattle.cert_maker.specs.Small.{IsSmall, IsSmallBase, IsSmallUpdate}
+use Rattle.cert_maker.specs.Small.{IsSmall, IsSmallBase, IsSmallOperand, IsSmallUpdate}
 use Rattle.cert_maker.proofs.ClausesAlike.{found_has}
+
+-- So is what stands on the stack in a comparison and an update.
+pub ask_small : (atom : Atom) (done : ℕ) → IsSmallBase atom.base → AllByRecursion IsSmallOperand (stack_before (ask_steps atom) done)
+ask_small atom zero small = tt
+ask_small atom (suc zero) small = (small, tt)
+ask_small atom (suc (suc zero)) small = (small, (tt, tt))
+ask_small atom (suc (suc (suc done))) small = tt
+
+pub update_small : (update : Update) (done : ℕ) → IsSmallUpdate update → AllByRecursion IsSmallOperand (stack_before (update_steps update) done)
+update_small (Set var value) zero small = tt
+update_small (Set var value) (suc zero) small = (tt, tt)
+update_small (Set var value) (suc (suc done)) small = tt
+update_small (Add var by) zero small = tt
+update_small (Add var by) (suc zero) small = (small, tt)
+update_small (Add var by) (suc (suc zero)) small = (small, (tt, tt))
+update_small (Add var by) (suc (suc (suc zero))) small = (small, tt)
+update_small (Add var by) (suc (suc (suc (suc done)))) small = tt
 
 argument_there : (kinds : List Kind) (i : ℕ) → IsNumber (slice_get kinds i) → i < length kinds
 argument_there kinds i is = by (slice_get kinds i) refl is

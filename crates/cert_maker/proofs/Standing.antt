@@ -128,7 +128,7 @@ module _ (k : Blocked) where
   inside wants roles.Leave reached arrives = ap (λ (w : Asked). meets (rules k) w notes.Free) arrives
   inside wants (roles.Save left) reached arrives = arrives
   inside wants (roles.Lock phase pushed) reached arrives = arrives
-  inside wants (roles.Ask phase branch atom pushed) reached arrives = arrives
+  inside wants (roles.Ask phase branch atom done) reached arrives = arrives
   inside wants (roles.Update phase branch update done) reached arrives = arrives
   inside wants (roles.Taken phase branch) reached arrives = arrives
   inside wants (roles.Stop phase done) reached arrives = arrives

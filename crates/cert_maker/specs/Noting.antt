@@ -1,6 +1,6 @@
 -- The certificate of a woven program: its types, and the note of each instruction, told by its role in its block.
 -- (docs/PROMISES.md)
-use Rattle.std.specs.Prelude.{ℕ, zero, suc, min, Bool, true, false, if◌then◌else◌, List, [], ◌∷◌, ◌++◌, drop, length, map, take, Option, Some, None, slice_get}
+use Rattle.std.specs.Prelude.{ℕ, min, Bool, true, false, if◌then◌else◌, List, [], ◌∷◌, ◌++◌, drop, length, map, take, Option, Some, None, slice_get}
 use Rattle.std.specs.Option.{option_map_or}
 use Rattle.bytecode_model.specs.declared.program.LinkedClass.{LinkedClass}
 use Rattle.bytecode_model.specs.declared.program.Method.{Method}
@@ -23,14 +23,17 @@ use Rattle.conspec_tree.specs.declared.types.Atom.{Atom}
 use Rattle.conspec_tree.specs.declared.types.Phase.{Phase}
 use Rattle.conspec_tree.specs.declared.types.Phase.TheVariants.{Before, After, Exceptional}
 use Rattle.conspec_tree.specs.declared.types.Update.{Update}
-use Rattle.conspec_tree.specs.declared.types.Update.TheVariants.{Set, Add}
 use Rattle.conspec_automaton.specs.declared.policy.Branch.{Branch}
 use Rattle.conspec_automaton.specs.declared.policy.Policy.{Policy}
 use Rattle.conspec_automaton.specs.Next.{has_clauses}
 use Rattle.block_template.specs.declared.item.Item.{Item}
 use Rattle.block_template.specs.declared.item.Role.{Role}
 use Rattle.block_template.specs.declared.item.Role.TheVariants as roles
+use Rattle.block_template.specs.declared.steps.Operand.{Operand}
+use Rattle.block_template.specs.declared.steps.Operand.TheVariants as operands
+use Rattle.block_template.specs.declared.steps.Step.{Step}
 use Rattle.block_template.specs.Blocks.{bools_of, clauses_of, items}
+use Rattle.block_template.specs.Steps.{ask_steps, stack_before, update_steps}
 use Rattle.cert_maker.specs.declared.called.Called.{Called}
 use Rattle.block_logic.specs.Clauses.{needs}
 use Rattle.block_logic.specs.Standing.{asks_kept, branches_of}
@@ -71,27 +74,25 @@ unlock_note policy call Exceptional checked pushed = left_note policy (site_of c
 
 -- ---- a check
 
--- of an atom's base and constant so many are pushed
-abbrev pub asked_terms : ℕ → Atom → List Term
-asked_terms pushed atom = take pushed (base_term atom.base ∷ terms.Const atom.value ∷ [])
+-- what notes say of an operand
+abbrev pub operand_term : Operand → Term
+operand_term (operands.Base asked) = base_term asked
+operand_term (operands.Number n) = terms.Const n
+operand_term (operands.Sum var by) = terms.VarAdd var by
+
+abbrev pub terms_before : List Step → ℕ → List Term
+terms_before steps done = map operand_term (stack_before steps done)
 
 -- A role that names no atom, branch or update is that of no item.
 abbrev pub ask_note : Policy → Site → ℕ → ℕ → ℕ → Option Atom → Note
-ask_note policy site branch atom pushed None = notes.Free
-ask_note policy site branch atom pushed (Some asked) = notes.Held site (byte branch) (byte atom) (asked_terms pushed asked) (as_taken policy)
+ask_note policy site branch atom done None = notes.Free
+ask_note policy site branch atom done (Some asked) =
+    notes.Held site (byte branch) (byte atom) (terms_before (ask_steps asked) done) (as_taken policy)
 
 -- The branches before this one fail and its atoms hold, and so many of its updates are made.
 abbrev pub made_note : Policy → Site → ℕ → ℕ → List Term → Branch → Note
 made_note policy site branch update pushed of =
     notes.Held site (byte branch) (byte (length of.atoms)) pushed (after_updates policy (take update of.updates))
-
--- of an update so many instructions are done
-abbrev pub update_terms : ℕ → Update → List Term
-update_terms zero update = []
-update_terms (suc done) (Set var value) = terms.Const value ∷ []
-update_terms (suc zero) (Add var by) = terms.Var var ∷ []
-update_terms (suc (suc zero)) (Add var by) = terms.Var var ∷ terms.Const by ∷ []
-update_terms (suc (suc (suc done))) (Add var by) = terms.VarAdd var by ∷ []
 
 abbrev pub branch_at : Policy → Site → ℕ → Option Branch
 branch_at policy site branch = slice_get (branches_of policy site) branch
@@ -102,7 +103,7 @@ atom_of (Some branch) atom = slice_get branch.atoms atom
 
 abbrev pub updating_note : Policy → Site → ℕ → ℕ → ℕ → Branch → Note
 updating_note policy site branch update done of =
-    made_note policy site branch update (option_map_or (update_terms done) (slice_get of.updates update) []) of
+    made_note policy site branch update (option_map_or (λ (u : Update). terms_before (update_steps u) done) (slice_get of.updates update) []) of
 
 abbrev pub update_note : Policy → Site → ℕ → ℕ → ℕ → Note
 update_note policy site branch update done =
@@ -118,8 +119,8 @@ taken_note policy site branch =
 abbrev pub note_of : Policy → Called → Role → Note
 note_of policy call (roles.Save left) = notes.Free
 note_of policy call (roles.Lock phase pushed) = lock_note policy call phase pushed
-note_of policy call (roles.Ask phase branch atom pushed) =
-    ask_note policy (site_of call phase) branch atom pushed (atom_of (branch_at policy (site_of call phase) branch) atom)
+note_of policy call (roles.Ask phase branch atom done) =
+    ask_note policy (site_of call phase) branch atom done (atom_of (branch_at policy (site_of call phase) branch) atom)
 note_of policy call (roles.Update phase branch update done) = update_note policy (site_of call phase) branch update done
 note_of policy call (roles.Taken phase branch) = taken_note policy (site_of call phase) branch
 note_of policy call (roles.Stop phase done) = notes.Stop (site_of call phase) (byte done)

@@ -7,6 +7,8 @@ use Rattle.conspec_tree.specs.declared.types.Base.TheVariants as bases
 use Rattle.conspec_tree.specs.declared.types.Update.{Update}
 use Rattle.conspec_tree.specs.Updates.{target}
 use Rattle.conspec_automaton.specs.declared.policy.Branch.{Branch}
+use Rattle.block_template.specs.declared.steps.Operand.{Operand}
+use Rattle.block_template.specs.declared.steps.Operand.TheVariants as operands
 
 abbrev pub IsSmallBase : Base → Type 0
 IsSmallBase (bases.Var var) = var < 2 ^ 8
@@ -15,6 +17,12 @@ IsSmallBase bases.Result = ⊤
 
 abbrev pub IsSmallUpdate : Update → Type 0
 IsSmallUpdate update = target update < 2 ^ 8
+
+-- The variable or argument that stands on the stack.
+abbrev pub IsSmallOperand : Operand → Type 0
+IsSmallOperand (operands.Base asked) = IsSmallBase asked
+IsSmallOperand (operands.Number n) = ⊤
+IsSmallOperand (operands.Sum var by) = var < 2 ^ 8
 
 -- The variables and arguments that a branch asks, and the variables that it updates.
 pub record IsSmall (branch : Branch) : Type 0 where

@@ -12,7 +12,7 @@ ghost use Rattle.cert_maker.specs.Small.{IsSmall};
 use crate::called::{Called, byte, site_of};
 use crate::clauses::branch_at;
 use crate::locks::{lock_note, unlock_note};
-use crate::terms::{after_updates, asked_terms, first_updates, update_terms};
+use crate::terms::{after_updates, ask_terms, first_updates, update_terms};
 use block_logic::needs;
 use block_template::Role;
 use cert_format::{Note, Site, Term};
@@ -35,8 +35,8 @@ pub fn note_of(alloc: Global, policy: &Policy, call: Called, role: Role) -> Resu
             phase,
             branch,
             atom,
-            pushed,
-        } => ask_note(alloc, policy, site_of(call, phase), branch, atom, pushed),
+            done,
+        } => ask_note(alloc, policy, site_of(call, phase), branch, atom, done),
         Role::Update {
             phase,
             branch,
@@ -93,17 +93,17 @@ fn kept_note(call: Called, locked: bool) -> Note
 
 // ---- a check
 
-/// Of an atom's base and constant so many are pushed.
+/// Of an atom's comparison so many steps are done.
 fn ask_note(
     alloc: Global,
     policy: &Policy,
     site: Site,
     branch: u32,
     atom: u32,
-    pushed: u32,
+    done: u32,
 ) -> Result<Note, NoMemory>
     requires policy { IsPolicy policy.now }
-    ensures { IfOk result (λ note. note ≡ ask_note policy.now site branch atom pushed (atom_of (branch_at policy.now site branch) atom)) }
+    ensures { IfOk result (λ note. note ≡ ask_note policy.now site branch atom done (atom_of (branch_at policy.now site branch) atom)) }
 {
     let Some(of) = branch_at(policy, site, branch) else {
         return Ok(Note::Free);
@@ -115,12 +115,12 @@ fn ask_note(
         site,
         failed: byte(branch),
         holding: byte(atom),
-        terms: asked_terms(alloc, pushed, *asked)?,
+        terms: ask_terms(alloc, *asked, done)?,
         map: after_updates(alloc, policy, &[])?,
     })
 }
 
-/// Of an update so many instructions are done.
+/// Of an update so many steps are done.
 fn update_note(
     alloc: Global,
     policy: &Policy,
@@ -152,7 +152,7 @@ fn updating_note(
     ensures { IfOk result (λ note. note ≡ updating_note policy.now site branch update done of.now) }
 {
     let terms = match of.updates.as_slice().get(update as usize) {
-        Some(next) => update_terms(alloc, done, *next)?,
+        Some(next) => update_terms(alloc, *next, done)?,
         None => List::new(alloc),
     };
     made_note(alloc, policy, site, branch, update as usize, terms, of)

@@ -1,13 +1,14 @@
 //! What stands on the stack in a check, and what the policy's variables are.
 
-ghost use Rattle.std.specs.Prelude.{◌≡◌, ◌≤◌, ℕ, IfOk, length, take};
+ghost use Rattle.std.specs.Prelude.{◌≡◌, ◌≤◌, ℕ, IfOk, length, map, take};
 ghost use Rattle.std.specs.List.{AllByRecursion};
-ghost use Rattle.conspec_tree.specs.declared.types.Update.TheVariants.{Set, Add};
 ghost use Rattle.conspec_tree.specs.Updates.{target};
 ghost use Rattle.block_logic.specs.Terms.{after_updates, base_term, variable_after, written};
-ghost use Rattle.cert_maker.specs.Noting.{asked_terms, update_terms};
-ghost use Rattle.cert_maker.specs.Small.{IsSmallBase, IsSmallUpdate};
+ghost use Rattle.block_template.specs.Steps.{ask_steps, update_steps};
+ghost use Rattle.cert_maker.specs.Noting.{operand_term, terms_before};
+ghost use Rattle.cert_maker.specs.Small.{IsSmallBase, IsSmallOperand, IsSmallUpdate};
 
+use block_template::{Operand, ask_steps, stack_before, update_steps};
 use cert_format::Term;
 use conspec_automaton::Policy;
 use conspec_tree::{Atom, Base, Update, target};
@@ -26,56 +27,49 @@ fn base_term(base: Base) -> Term
     }
 }
 
-/// Of an atom's base and constant so many are pushed.
-pub fn asked_terms(alloc: Global, pushed: u32, atom: Atom) -> Result<List<Term>, NoMemory>
+/// What a note says of an operand.
+fn operand_term(operand: Operand) -> Term
+    requires { IsSmallOperand operand }
+    ensures { result ≡ operand_term operand }
+{
+    match operand {
+        Operand::Base(asked) => base_term(asked),
+        Operand::Number(number) => Term::Const(number),
+        Operand::Sum(var, by) => Term::VarAdd(var as u8, by),
+    }
+}
+
+fn operand_terms(alloc: Global, operands: &[Operand]) -> Result<List<Term>, NoMemory>
+    requires { AllByRecursion IsSmallOperand operands.now }
+    ensures { IfOk result (λ terms. terms ≡ map operand_term operands.now) }
+{
+    let mut terms = List::with_room(alloc, operands.len())?;
+    let mut left = operands;
+    while let [operand, others @ ..] = left {
+        terms.push(operand_term(*operand))?;
+        left = others;
+    }
+    Ok(terms)
+}
+
+/// What stands on the stack where so many steps of an atom's comparison are done.
+#[tactic(auto, using(crate::proofs::Small::ask_small))]
+pub fn ask_terms(alloc: Global, atom: Atom, done: u32) -> Result<List<Term>, NoMemory>
     requires { IsSmallBase atom.base }
-    ensures { IfOk result (λ terms. terms ≡ asked_terms pushed atom) }
+    ensures { IfOk result (λ terms. terms ≡ terms_before (ask_steps atom) done) }
 {
-    let mut terms = List::with_room(alloc, pushed.min(2) as usize)?;
-    if pushed > 0 {
-        terms.push(base_term(atom.base))?;
-    }
-    if pushed > 1 {
-        terms.push(Term::Const(atom.value))?;
-    }
-    Ok(terms)
+    let steps = ask_steps(alloc, atom)?;
+    operand_terms(alloc, stack_before(steps.as_slice(), done))
 }
 
-/// Of an update so many instructions are done.
-pub fn update_terms(alloc: Global, done: u32, update: Update) -> Result<List<Term>, NoMemory>
+/// What stands on the stack where so many steps of an update are done.
+#[tactic(auto, using(crate::proofs::Small::update_small))]
+pub fn update_terms(alloc: Global, update: Update, done: u32) -> Result<List<Term>, NoMemory>
     requires { IsSmallUpdate update }
-    ensures { IfOk result (λ terms. terms ≡ update_terms done update) }
+    ensures { IfOk result (λ terms. terms ≡ terms_before (update_steps update) done) }
 {
-    match update {
-        Update::Set { value, .. } => set_terms(alloc, done, value),
-        Update::Add { var, by } => add_terms(alloc, done, var as u8, by),
-    }
-}
-
-fn set_terms(alloc: Global, done: u32, value: i32) -> Result<List<Term>, NoMemory>
-    ensures { IfOk result (λ terms. (var : ℕ) → terms ≡ update_terms done (Set var value)) }
-{
-    let mut terms = List::with_room(alloc, done.min(1) as usize)?;
-    if done > 0 {
-        terms.push(Term::Const(value))?;
-    }
-    Ok(terms)
-}
-
-fn add_terms(alloc: Global, done: u32, var: u8, by: i32) -> Result<List<Term>, NoMemory>
-    ensures { IfOk result (λ terms. terms ≡ update_terms done (Add var by)) }
-{
-    let mut terms = List::with_room(alloc, done.min(2) as usize)?;
-    match done {
-        0 => {}
-        1 => terms.push(Term::Var(var))?,
-        2 => {
-            terms.push(Term::Var(var))?;
-            terms.push(Term::Const(by))?;
-        }
-        _ => terms.push(Term::VarAdd(var, by))?,
-    }
-    Ok(terms)
+    let steps = update_steps(alloc, update)?;
+    operand_terms(alloc, stack_before(steps.as_slice(), done))
 }
 
 /// What the policy's variables are once these updates are made.

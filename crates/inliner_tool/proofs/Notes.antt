@@ -26,7 +26,8 @@ use Rattle.cert_format.specs.declared.note.Term.{Term}
 use Rattle.cert_format.specs.declared.note.Term.TheVariants as terms
 use Rattle.cert_format.specs.Fits.{FitsNote, FitsSite, FitsTerm}
 use Rattle.cert_maker.specs.declared.called.Called.{Called}
-use Rattle.cert_maker.specs.Noting.{ask_note, asked_terms, atom_of, block_notes, branch_at, byte, left_note, lock_note, made_note, note_of, part_notes, parts_notes, site_of, taken_note, unlock_note, update_note, update_terms, updating_note}
+use Rattle.cert_maker.specs.Noting.{ask_note, atom_of, block_notes, branch_at, byte, left_note, lock_note, made_note, note_of, part_notes, parts_notes, site_of, taken_note, terms_before, unlock_note, update_note, updating_note}
+use Rattle.block_template.specs.Steps.{ask_steps, update_steps}
 use Rattle.conspec_automaton.specs.declared.policy.Branch.{Branch}
 use Rattle.conspec_automaton.specs.declared.policy.Clause.{Clause}
 use Rattle.conspec_automaton.specs.declared.policy.Policy.{Policy}
@@ -167,23 +168,22 @@ module _ (policy : Policy) (is : IsPolicy policy) (numbers : HasNumbers policy) 
     unlock_fits After checked pushed = left_fits After checked pushed
     unlock_fits Exceptional checked pushed = left_fits Exceptional checked pushed
 
-    asked_fit : (pushed : ℕ) (atom : Atom) → AtomFits atom → IsU1 (length (asked_terms pushed atom)) × AllByRecursion FitsTerm (asked_terms pushed atom)
+    asked_fit : (done : ℕ) (atom : Atom) → AtomFits atom
+        → IsU1 (length (terms_before (ask_steps atom) done)) × AllByRecursion FitsTerm (terms_before (ask_steps atom) done)
     asked_fit zero atom fits = (omega arith, tt)
     asked_fit (suc zero) atom fits = (omega arith, (fits.0, tt))
-    asked_fit (suc (suc n)) atom fits = (take_two n, all_take FitsTerm (suc (suc n)) (base_term atom.base ∷ terms.Const atom.value ∷ []) (fits.0, (fits.1, tt))) where
-      take_two : (n : ℕ) → IsU1 (length (take (suc (suc n)) (base_term atom.base ∷ terms.Const atom.value ∷ [])))
-      take_two zero = omega arith
-      take_two (suc n) = omega arith
+    asked_fit (suc (suc zero)) atom fits = (omega arith, (fits.0, (fits.1, tt)))
+    asked_fit (suc (suc (suc done))) atom fits = (omega arith, tt)
 
-    ask_fits : (phase : Phase) (branch atom pushed : ℕ) → Fits (ask_note policy (site_of call phase) branch atom pushed (atom_of (branch_at policy (site_of call phase) branch) atom))
-    ask_fits phase branch atom pushed = by (branch_at policy (site_of call phase) branch) refl where
-      of_atom : (b : Branch) → BranchFits b → (o : Option Atom) → slice_get b.atoms atom ≡ o → Fits (ask_note policy (site_of call phase) branch atom pushed o)
+    ask_fits : (phase : Phase) (branch atom done : ℕ) → Fits (ask_note policy (site_of call phase) branch atom done (atom_of (branch_at policy (site_of call phase) branch) atom))
+    ask_fits phase branch atom done = by (branch_at policy (site_of call phase) branch) refl where
+      of_atom : (b : Branch) → BranchFits b → (o : Option Atom) → slice_get b.atoms atom ≡ o → Fits (ask_note policy (site_of call phase) branch atom done o)
       of_atom b fits None e = tt
       of_atom b fits (Some a) e =
-          let pushes = asked_fit pushed a (all_get AtomFits b.atoms atom a fits.atoms e) in
+          let pushes = asked_fit done a (all_get AtomFits b.atoms atom a fits.atoms e) in
           (site_fits call phase base, (byte_fits branch, (byte_fits atom, (pushes, map_fits [] tt))))
 
-      by : (o : Option Branch) → branch_at policy (site_of call phase) branch ≡ o → Fits (ask_note policy (site_of call phase) branch atom pushed (atom_of o atom))
+      by : (o : Option Branch) → branch_at policy (site_of call phase) branch ≡ o → Fits (ask_note policy (site_of call phase) branch atom done (atom_of o atom))
       by None e = tt
       by (Some b) e = of_atom b (all_get BranchFits (branches_of policy (site_of call phase)) branch b (of_site (site_of call phase)) e) (slice_get b.atoms atom) refl
 
@@ -192,20 +192,24 @@ module _ (policy : Policy) (is : IsPolicy policy) (numbers : HasNumbers policy) 
     made_fits phase branch update pushed b fits few terms_fit =
         (site_fits call phase base, (byte_fits branch, (byte_fits (length b.atoms), ((few, terms_fit), map_fits (take update b.updates) (all_take Writes update b.updates fits.updates)))))
 
-    terms_fit : (done : ℕ) (update : Update) → Writes update → IsU1 (length (update_terms done update)) × AllByRecursion FitsTerm (update_terms done update)
-    terms_fit zero update h = (omega arith, tt)
-    terms_fit (suc done) (Set var value) h = (omega arith, (set_fits h.variable.is_bool value h.fits, tt))
+    terms_fit : (done : ℕ) (update : Update) → Writes update
+        → IsU1 (length (terms_before (update_steps update) done)) × AllByRecursion FitsTerm (terms_before (update_steps update) done)
+    terms_fit zero (Set var value) h = (omega arith, tt)
+    terms_fit (suc zero) (Set var value) h = (omega arith, (set_fits h.variable.is_bool value h.fits, tt))
+    terms_fit (suc (suc done)) (Set var value) h = (omega arith, tt)
+    terms_fit zero (Add var by) h = (omega arith, tt)
     terms_fit (suc zero) (Add var by) h = (omega arith, ((update_fits (Add var by) h).0, tt))
     terms_fit (suc (suc zero)) (Add var by) h = (omega arith, ((update_fits (Add var by) h).0, ((update_fits (Add var by) h).1, tt)))
-    terms_fit (suc (suc (suc done))) (Add var by) h = (omega arith, (update_fits (Add var by) h, tt))
+    terms_fit (suc (suc (suc zero))) (Add var by) h = (omega arith, (update_fits (Add var by) h, tt))
+    terms_fit (suc (suc (suc (suc done)))) (Add var by) h = (omega arith, tt)
 
     updating_fits : (phase : Phase) (branch update done : ℕ) (b : Branch) → BranchFits b → Fits (updating_note policy (site_of call phase) branch update done b)
     updating_fits phase branch update done b fits = by (slice_get b.updates update) refl where
-      by : (o : Option Update) → slice_get b.updates update ≡ o → Fits (made_note policy (site_of call phase) branch update (option_map_or (update_terms done) o []) b)
+      by : (o : Option Update) → slice_get b.updates update ≡ o → Fits (made_note policy (site_of call phase) branch update (option_map_or (λ (u : Update). terms_before (update_steps u) done) o []) b)
       by None e = made_fits phase branch update [] b fits (omega arith) tt
       by (Some u) e =
           let pushes = terms_fit done u (all_get Writes b.updates update u fits.updates e) in
-          made_fits phase branch update (update_terms done u) b fits pushes.0 pushes.1
+          made_fits phase branch update (terms_before (update_steps u) done) b fits pushes.0 pushes.1
 
     update_note_fits : (phase : Phase) (branch update done : ℕ) → Fits (update_note policy (site_of call phase) branch update done)
     update_note_fits phase branch update done = by (branch_at policy (site_of call phase) branch) refl where
@@ -227,7 +231,7 @@ module _ (policy : Policy) (is : IsPolicy policy) (numbers : HasNumbers policy) 
     role_fits : (role : Role) → Fits (note_of policy call role)
     role_fits (roles.Save left) = tt
     role_fits (roles.Lock phase pushed) = lock_fits phase pushed
-    role_fits (roles.Ask phase branch atom pushed) = ask_fits phase branch atom pushed
+    role_fits (roles.Ask phase branch atom done) = ask_fits phase branch atom done
     role_fits (roles.Update phase branch update done) = update_note_fits phase branch update done
     role_fits (roles.Taken phase branch) = taken_fits phase branch
     role_fits (roles.Stop phase done) = (site_fits call phase base, byte_fits done)

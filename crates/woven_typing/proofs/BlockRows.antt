@@ -260,7 +260,7 @@ module _ (t : Typed) (c : CallAt t) where
   is_reached_or roles.Unreached = inl refl
   is_reached_or (roles.Save left) = inr (λ e. absurd cc)
   is_reached_or (roles.Lock phase pushed) = inr (λ e. absurd cc)
-  is_reached_or (roles.Ask phase branch atom pushed) = inr (λ e. absurd cc)
+  is_reached_or (roles.Ask phase branch atom done) = inr (λ e. absurd cc)
   is_reached_or (roles.Update phase branch update done) = inr (λ e. absurd cc)
   is_reached_or (roles.Taken phase branch) = inr (λ e. absurd cc)
   is_reached_or (roles.Stop phase done) = inr (λ e. absurd cc)

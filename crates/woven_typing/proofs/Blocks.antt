@@ -174,7 +174,7 @@ thrown_not Hold (Some clause) = tries_not Exceptional 0 clause.branches
 pub told_of : (these : Clauses) (near : Around) (role : Role) → IsReached role → is_some (frame_at these near role) ≡ true
 told_of these near (roles.Save left) reached = refl
 told_of these near (roles.Lock phase pushed) reached = refl
-told_of these near (roles.Ask phase branch atom pushed) reached = refl
+told_of these near (roles.Ask phase branch atom done) reached = refl
 told_of these near (roles.Update phase branch update done) reached = refl
 told_of these near (roles.Taken phase branch) reached = refl
 told_of these near (roles.Stop phase done) reached = refl
@@ -336,7 +336,7 @@ module _ (t : Typed) (c : CallAt t) where
       → locals_fit (b t).new (local_caught (client_locals near role)) 0 to ≡ true
   in_role (roles.Save left) reached to e = e
   in_role (roles.Lock phase pushed) reached to e = in_phase phase to e
-  in_role (roles.Ask phase branch atom pushed) reached to e = in_phase phase to e
+  in_role (roles.Ask phase branch atom done) reached to e = in_phase phase to e
   in_role (roles.Update phase branch update done) reached to e = in_phase phase to e
   in_role (roles.Taken phase branch) reached to e = in_phase phase to e
   in_role (roles.Stop phase done) reached to e = in_phase phase to e

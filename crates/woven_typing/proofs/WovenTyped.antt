@@ -291,7 +291,7 @@ module _ (old new : Program) (policy : Policy) (mode : Mode) (typing : Typing) (
   reached_by : (these : Clauses) (near : Around) (role : Role) → is_some (frame_at these near role) ≡ is_reached role
   reached_by these near (roles.Save left) = refl
   reached_by these near (roles.Lock phase pushed) = refl
-  reached_by these near (roles.Ask phase branch atom pushed) = refl
+  reached_by these near (roles.Ask phase branch atom done) = refl
   reached_by these near (roles.Update phase branch update done) = refl
   reached_by these near (roles.Taken phase branch) = refl
   reached_by these near (roles.Stop phase done) = refl

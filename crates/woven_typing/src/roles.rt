@@ -6,22 +6,22 @@ ghost use Rattle.cert_format.specs.declared.typing.VType.TheVariants.{Ref, Top};
 ghost use Rattle.bytecode_model.specs.Makes.{below};
 ghost use Rattle.bytecode_model.specs.Rules.{when_thrown};
 ghost use Rattle.conspec_tree.specs.declared.types.Phase.TheVariants.{After, Exceptional};
-ghost use Rattle.block_template.specs.Flow.{keeps_result};
+ghost use Rattle.block_template.specs.Flow.{asking, keeps_result, updating};
 ghost use Rattle.block_template.specs.Frames.{
   class_pushed,
   frame_at,
   kept_arguments,
-  numbers,
+  operand_type,
   padded,
   phase_frame,
   saved_locals,
   stop_pushed,
-  update_pushed,
+  types_before,
   with_pushed,
 };
 ghost use Rattle.woven_typing.specs.Pushed.{types_pushed};
 
-use block_template::{MethodClauses, Role};
+use block_template::{MethodClauses, Operand, Role, asking, stack_before, updating};
 use bytecode_model::own;
 use cert_format::{FrameType, Name, VType, copied_types, put_types};
 use conspec_tree::Phase;
@@ -77,14 +77,14 @@ impl Names {
 
 // ---- what a block has pushed
 
-/// What a block has pushed on the operands.
+/// What a block has pushed on the operands, but for a comparison or an update.
 #[derive(Clone, Copy)]
 pub enum Pushed {
+    Nothing,
     /// The class of the lock.
     Class,
     Null,
-    /// So many numbers.
-    Numbers(u32),
+    Number,
 }
 
 fn class_pushed(pushed: bool) -> Pushed
@@ -93,17 +93,7 @@ fn class_pushed(pushed: bool) -> Pushed
     if pushed {
         Pushed::Class
     } else {
-        Pushed::Numbers(0)
-    }
-}
-
-fn update_pushed(done: u32) -> Pushed
-    ensures { types_pushed result ≡ update_pushed done }
-{
-    match done {
-        0 => Pushed::Numbers(0),
-        2 => Pushed::Numbers(2),
-        _ => Pushed::Numbers(1),
+        Pushed::Nothing
     }
 }
 
@@ -111,19 +101,40 @@ fn stop_pushed(done: u32) -> Pushed
     ensures { types_pushed result ≡ stop_pushed done }
 {
     match done {
-        0 => Pushed::Numbers(0),
-        1 => Pushed::Numbers(1),
-        2 => Pushed::Numbers(0),
+        0 => Pushed::Nothing,
+        1 => Pushed::Number,
+        2 => Pushed::Nothing,
         _ => Pushed::Null,
     }
+}
+
+/// What the verifier sees of an operand.
+fn operand_type(operand: Operand) -> VType
+    ensures { result ≡ operand_type operand }
+{
+    match operand {
+        Operand::Base(_) => VType::Int,
+        Operand::Number(_) => VType::Int,
+        Operand::Sum(_, _) => VType::Int,
+    }
+}
+
+fn put_operands(out: &mut List<VType>, operands: &[Operand]) -> Result<(), NoMemory>
+    ensures { OnOk result (out.new ≡ out.old ++ map operand_type operands.now) }
+{
+    for operand in operands {
+        out.push(operand_type(*operand))?;
+    }
+    Ok(())
 }
 
 /// How many operands that are.
 fn count_pushed(pushed: Pushed) -> usize {
     match pushed {
+        Pushed::Nothing => 0,
         Pushed::Class => 1,
         Pushed::Null => 1,
-        Pushed::Numbers(n) => n as usize,
+        Pushed::Number => 1,
     }
 }
 
@@ -131,21 +142,11 @@ fn put_pushed(out: &mut List<VType>, names: &Names, pushed: Pushed) -> Result<()
     ensures { OnOk result (out.new ≡ out.old ++ types_pushed pushed) }
 {
     match pushed {
+        Pushed::Nothing => Ok(()),
         Pushed::Class => out.push(names.class()?),
         Pushed::Null => out.push(VType::Null),
-        Pushed::Numbers(n) => put_numbers(out, n),
+        Pushed::Number => out.push(VType::Int),
     }
-}
-
-fn put_numbers(out: &mut List<VType>, n: u32) -> Result<(), NoMemory>
-    ensures { OnOk result (out.new ≡ out.old ++ numbers n) }
-{
-    let mut left = n;
-    while left > 0 {
-        out.push(VType::Int)?;
-        left -= 1;
-    }
-    Ok(())
 }
 
 // ---- what a block keeps
@@ -362,6 +363,54 @@ impl<'a> CallTypes<'a> {
         Ok(FrameType { locals, stack })
     }
 
+    /// While a check of this phase is made, with these operands.
+    fn with_operands(
+        &self,
+        alloc: Global,
+        phase: Phase,
+        operands: &[Operand],
+    ) -> Result<FrameType, NoMemory>
+        ensures { IfOk result (λ made. made
+            ≡ with_pushed (phase_frame self.now.clauses self.now.around phase) (map operand_type operands.now)) }
+    {
+        let FrameType { locals, stack } = self.phase_frame(alloc, phase, operands.len())?;
+        let mut stack = stack;
+        put_operands(&mut stack, operands)?;
+        Ok(FrameType { locals, stack })
+    }
+
+    /// While an atom is compared, and so many steps of that are done.
+    fn comparing(
+        &self,
+        alloc: Global,
+        phase: Phase,
+        branch: u32,
+        atom: u32,
+        done: u32,
+    ) -> Result<FrameType, NoMemory>
+        ensures { IfOk result (λ made. made ≡ with_pushed (phase_frame self.now.clauses self.now.around phase)
+            (types_before (asking self.now.clauses phase branch atom) done)) }
+    {
+        let steps = asking(alloc, &self.clauses, phase, branch, atom)?;
+        self.with_operands(alloc, phase, stack_before(steps.as_slice(), done))
+    }
+
+    /// While an update is made, and so many steps of that are done.
+    fn writing(
+        &self,
+        alloc: Global,
+        phase: Phase,
+        branch: u32,
+        update: u32,
+        done: u32,
+    ) -> Result<FrameType, NoMemory>
+        ensures { IfOk result (λ made. made ≡ with_pushed (phase_frame self.now.clauses self.now.around phase)
+            (types_before (updating self.now.clauses phase branch update) done)) }
+    {
+        let steps = updating(alloc, &self.clauses, phase, branch, update)?;
+        self.with_operands(alloc, phase, stack_before(steps.as_slice(), done))
+    }
+
     /// Where all arguments are kept, and stand on the stack.
     fn at_call(&self, alloc: Global) -> Result<FrameType, NoMemory>
         ensures { IfOk result (λ made. made ≡ record {
@@ -391,12 +440,18 @@ impl<'a> CallTypes<'a> {
         let frame = match role {
             Role::Save { left } => self.among(alloc, left, left),
             Role::Lock { phase, pushed } => self.with_pushed(alloc, phase, class_pushed(pushed)),
-            Role::Ask { phase, pushed, .. } => {
-                self.with_pushed(alloc, phase, Pushed::Numbers(pushed))
-            }
-            Role::Update { phase, done, .. } => {
-                self.with_pushed(alloc, phase, update_pushed(done))
-            }
+            Role::Ask {
+                phase,
+                branch,
+                atom,
+                done,
+            } => self.comparing(alloc, phase, branch, atom, done),
+            Role::Update {
+                phase,
+                branch,
+                update,
+                done,
+            } => self.writing(alloc, phase, branch, update, done),
             Role::Taken { phase, .. } => self.phase_frame(alloc, phase, 0),
             Role::Stop { phase, done } => self.with_pushed(alloc, phase, stop_pushed(done)),
             Role::Unlock { phase, pushed, .. } => {

@@ -1,7 +1,21 @@
-use Rattle.std.proofs.Common.{◌++◌, ◌∷◌, [], w32, refl, append_assoc, arith}
-use Rattle.std.proofs.lemmas.Int.{to_z-of_z}
+use Rattle.std.proofs.Common.{arith, ap, length, subst}
+use Rattle.std.specs.List.{AllByRecursion}
+use Rattle.mon_base.proofs.Lists.{front_is}
+use Rattle.block_template.specs.declared.item.Role.TheVariants as roles
+use Rattle.block_template.specs.declared.steps.Step.{Step}
+use Rattle.block_template.specs.Pushing.{bools_in}
+use Rattle.block_template.specs.Room.{ActHasLocal}
+use Rattle.block_template.proofs.StepsLaid.{laid_more}
 use Rattle.block_template.proofs.checks.put_ask.Goals as goal
 
-pub returns : goal.returns
-returns c =
-    rw (c.in_ok-put-3.ensures, c.in_ok-put-2.ensures, c.in_ok-put.ensures, c.ask_role-3.ensures, c.negated.ensures, c.ask_role-2.ensures, c.push-second.ensures, c.ask_role.ensures, c.push_base-first.ensures, append_assoc (c.args.items.now ++ _ ∷ []) _ _, append_assoc c.args.items.now _ _, to_z-of_z w32 c.args.asked.value (omega arith)) refl
+pub loop-left-preserved : goal.loop-left-preserved
+loop-left-preserved c =
+    let split = front_is c.loop-left.left.now c.step-item.result c.in-len1-up.len_at_least c.step-item.is in
+    record {
+      so_far =
+          laid_more (bools_in c.args.vars.now) c.args.base c.args.next (roles.Ask c.args.phase c.args.branch c.args.atom) c.loop-left.done
+          c.step-item.result c.loop-left.left.now _ c.act_insn.result c.loop-left.items c.put.new.items _ split c.act_insn.ensures
+          c.in_ok-put.ensures c.loop-left.invariant.so_far;
+      count = omega (arith, c.loop-left.invariant.count, ap length split);
+      locals = (subst (λ xs. AllByRecursion (λ (s : Step). ActHasLocal c.args.base s.act) xs) split c.loop-left.invariant.locals).1;
+    }
