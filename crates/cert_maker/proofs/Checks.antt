@@ -14,6 +14,7 @@ use Rattle.conspec_tree.specs.declared.types.Atom.{Atom}
 use Rattle.conspec_tree.specs.declared.types.Phase.{Phase}
 use Rattle.conspec_tree.specs.declared.types.Phase.TheVariants.{Before, After, Exceptional}
 use Rattle.conspec_tree.specs.declared.types.Update.{Update}
+use Rattle.conspec_tree.specs.declared.types.Update.TheVariants.{Set, Add}
 use Rattle.conspec_tree.specs.Tree.{asked}
 use Rattle.conspec_automaton.specs.declared.policy.Branch.{Branch}
 use Rattle.conspec_automaton.specs.declared.policy.Clause.{Clause}
@@ -51,6 +52,11 @@ pub record Blocked : Type 0 where
   pub has : has_clauses policy call.callee ≡ true
   pub alike : (p : Phase) (c : Clause) → clause_in_block policy call.callee p ≡ Some c
       → is_some (result_kind policy call.callee) ≡ is_some c.result
+
+-- Before an update nothing stands on the stack.
+nothing_written : (update : Update) → terms_before (update_steps update) 0 ≡ []
+nothing_written (Set var value) = refl
+nothing_written (Add var by) = refl
 
 module _ (b : Blocked) where
   abbrev pub rules : Rules
@@ -178,7 +184,8 @@ module _ (b : Blocked) where
         by (Some update) there =
             wide (note (roles.Update p n u 0))
             (same_held p n (length branch.atoms) (after_updates b.policy (take u branch.updates)) (note (roles.Update p n u 0))
-            (update_is p n branch is u 0 update there))
+            (update_is p n branch is u 0 update there
+            ∙ ap (λ (ts : List Term). notes.Held (site p) n (length branch.atoms) ts (after_updates b.policy (take u branch.updates))) (nothing_written update)))
 
     -- So many of its atoms hold.
     pub held_arrives : (wants : Asked) (m : ℕ) → m ≤ length branch.atoms → Wide wants n p m (as_taken b.policy) → Arrives wants (held p n m branch)
