@@ -139,8 +139,11 @@ module _ (program : Program) (policy : Policy) (annotations : Annotations) (laws
         → insn_stepped program machine (record { number = number; thread = thread; frame = frame; below = below }) next ≡ Some change
         → Moves machine number recorded parts.Clear change
     frame_moves frame below next notes.Free ints well waits there told free e =
-        inl (refl, laws.client_steps machine (record { number = number; thread = thread; frame = frame; below = below }) next change
-        (record { world = world; well = well; there = there; told = told; below = waits }) free e)
+        inl (
+          refl,
+          laws.client_steps machine (record { number = number; thread = thread; frame = frame; below = below }) next change
+              (record { world = world; well = well; there = there; told = told; below = waits }) free e,
+        )
     frame_moves frame below next (notes.Taking site) ints well waits there told free e =
         inr (inr (laws.taking_steps machine (record { number = number; thread = thread; frame = frame; below = below }) next change site ints
         (record { world = world; well = well; there = there; told = told; below = waits }) free e))
@@ -497,8 +500,8 @@ module _ (program : Program) (policy : Policy) (annotations : Annotations) (laws
           ∙ sym (length-append (slice_set machine.threads number change.thread) (option_to_list change.begins)
           ∙ ap (λ (b : Option Thread). length (slice_set machine.threads number change.thread) + length (option_to_list b)) c.begins
           ∙ ap (λ (n : ℕ). n + 0) (length_set machine.threads number change.thread) ∙ no_more (length machine.threads)) where
-        no_more : (n : ℕ) → n + 0 ≡ n
-        no_more n = omega arith
+            no_more : (n : ℕ) → n + 0 ≡ n
+            no_more n = omega arith
 
       either_loose : (Loose part × Loose c.due × IfSome (clause_event policy change.event) (IsLooseEvent policy annotations.held Fit)) ⊎ ((n : ℕ) (q : Part) → n ≢ number → slice_get among n ≡ Some q → Loose q)
       either_loose = by mine refl c.loose where

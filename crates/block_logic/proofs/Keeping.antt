@@ -84,7 +84,7 @@ module _ (program : Program) (policy : Policy) (annotations : Annotations) where
     by : (frames : List Frame) → thread.frames ≡ frames → IsKnownIn program policy annotations laws frames
     by [] is = tt
     by (frame ∷ below) is = λ formed local n e.
-        formed.numbers r.steps number local thread frame n (ap (λ (m : Machine). slice_get m.threads number) r.at ∙ there) (ap (λ (fs : List Frame). slice_get fs 0) is) e
+        formed.words r.steps number local thread frame n (ap (λ (m : Machine). slice_get m.threads number) r.at ∙ there) (ap (λ (fs : List Frame). slice_get fs 0) is) e
 
 module _ (program : Program) (policy : Policy) (annotations : Annotations) (laws : StepLaws program policy annotations) where
   -- a step of a thread that is there

@@ -1,5 +1,6 @@
 -- What the steps of threads change, by whether the thread holds the lock.
-use Rattle.std.specs.Prelude.{◌≡◌, ◌≢◌, ◌⊎◌, ℕ, ℤ, Bool, false, true, IfSome, List, [], Option, Some, None, slice_get}
+use Rattle.std.specs.Prelude.{◌≡◌, ◌≢◌, ◌⊎◌, ℕ, ℤ, Bool, false, true, FitsSigned, IfSome, List, [], Option, Some, None, slice_get}
+use Rattle.std.specs.Int.{w32}
 use Rattle.api_listing.specs.declared.events.Event.{Event}
 use Rattle.insn_codec.specs.declared.insn.Insn.{Insn}
 use Rattle.bytecode_model.specs.declared.program.Program.{Program}
@@ -25,7 +26,7 @@ use Rattle.guest_model.specs.Stepping.{Acting, call_stepped, insn_stepped}
 use Rattle.block_logic.specs.Agreement.{Part, Turns, clause_event}
 use Rattle.block_logic.specs.Agreement as parts
 use Rattle.block_logic.specs.Fitting.{AreBelow, AreBlockCall, ArePassed, Fits, IsClient, IsClientCall, IsCleanWorld, IsOther, IsOwner, held_locks, locked_by, state_of}
-use Rattle.block_logic.specs.Formed.{FitsRuns, IsInt, RunsAreFormed}
+use Rattle.block_logic.specs.Formed.{FitsRuns, RunsAreFormed}
 use Rattle.block_logic.specs.Meaning.{AreState, IsFrame, IsFree, Means, note_of}
 use Rattle.block_logic.proofs.Racing.{IsGood, IsLoose, IsLooseEvent}
 
@@ -76,7 +77,7 @@ module _ (program : Program) (policy : Policy) (annotations : Annotations) where
 
   -- Each number in a local has 32 bits.
   abbrev pub HasIntsIn : Frame → Type 0
-  HasIntsIn frame = RunsAreFormed program policy → (local : ℕ) (n : ℤ) → slice_get frame.locals local ≡ Some (values.Int n) → IsInt n
+  HasIntsIn frame = RunsAreFormed program policy → (local : ℕ) (n : ℤ) → slice_get frame.locals local ≡ Some (values.Int n) → FitsSigned w32 n
 
   -- What is known of an event that a part tells of.
   abbrev pub IsFit : Event → Type 0

@@ -28,7 +28,11 @@ pub enum Denial {
     /// A test of the program and its certificate fails.
     Fault(CheckFault),
     /// So many points of two clauses would have to be tried to decide whether the policy is race-free, which is too many.
-    CellLimit { first: u32, second: u32, count: u64 },
+    CellLimit {
+        first: u32,
+        second: u32,
+        count: u64,
+    },
     /// The policy is not race-free: the condition that a state and events break, as `decide` tells it.
     Racy {
         condition: u8,
@@ -90,22 +94,26 @@ fn race_denied(decided: Result<RaceVerdict, RaceFault>) -> Result<(), Denial>
 {
     match decided {
         Ok(RaceVerdict::Free) => Ok(()),
-        Ok(RaceVerdict::Racy {
-            condition,
-            state,
-            first,
-            second,
-        }) => Err(Denial::Racy {
+        Ok(
+            RaceVerdict::Racy {
+                condition,
+                state,
+                first,
+                second,
+            },
+        ) => Err(Denial::Racy {
             condition,
             state,
             first,
             second,
         }),
-        Err(RaceFault::CellLimit {
-            first,
-            second,
-            count,
-        }) => Err(Denial::CellLimit {
+        Err(
+            RaceFault::CellLimit {
+                first,
+                second,
+                count,
+            },
+        ) => Err(Denial::CellLimit {
             first,
             second,
             count,

@@ -24,6 +24,7 @@ use Rattle.guest_heap.specs.declared.value.Value.{Value}
 use Rattle.guest_model.specs.declared.machine.Choice.{Choice}
 use Rattle.guest_model.specs.declared.machine.Choice.TheVariants as choices
 use Rattle.guest_model.specs.declared.machine.Machine.{Machine}
+use Rattle.guest_heap.specs.declared.value.Value.TheVariants as values
 use Rattle.guest_model.specs.declared.machine.Step.{Step}
 use Rattle.guest_model.specs.Monitors.{entered, left}
 use Rattle.guest_model.specs.Places.{insn_at, insn_in, method_at}
@@ -49,8 +50,8 @@ use Rattle.guest_model.proofs.Options.{
 }
 use Rattle.guest_model.specs.Changes.{Change, World, with_monitors, world_of}
 use Rattle.guest_model.specs.Kinds.{class_of_value}
-use Rattle.guest_model.specs.Numbers.{IsInRange, SeesInRange}
-use Rattle.guest_model.specs.Runs.{start_of}
+use Rattle.guest_model.specs.Numbers.{IsInRange, KeepsWords, SeesInRange}
+use Rattle.guest_model.specs.Runs.{exec, start_of, trace}
 use Rattle.guest_model.specs.Stepping.{
   Acting,
   acts_on,
@@ -269,5 +270,13 @@ module _ (program : Program) (insns : HasInsns program) (names : NamesWords prog
         seen = all_append (IsInRange program) events (option_to_list change.event) was.seen good.seen;
       }
 
+  pub always_in_range : AllInRange (start_of program) [] → (steps : List Step) → AllInRange (exec program steps) (trace program steps)
+  always_in_range first steps = holds_always program AllInRange first change_keeps steps
+
   pub sees_in_range : AllInRange (start_of program) [] → SeesInRange program
-  sees_in_range first steps = (holds_always program AllInRange first change_keeps steps).seen
+  sees_in_range first steps = (always_in_range first steps).seen
+
+  pub keeps_words : AllInRange (start_of program) [] → KeepsWords program
+  keeps_words first steps number local thread frame n there top is =
+      let of = all_get ThreadWords (exec program steps).threads number thread (always_in_range first steps).threads there in
+      all_get IsWord frame.locals local (values.Int n) (all_get FrameWords thread.frames 0 frame of.frames top).0 is

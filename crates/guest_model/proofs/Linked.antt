@@ -42,9 +42,9 @@ use Rattle.guest_model.proofs.Options.{
   all_mapped,
 }
 use Rattle.guest_model.specs.Layout.{constant_bytes, first_value, is_of_references, starting_value, two_bytes, value_of_constant, value_told}
-use Rattle.guest_model.specs.Numbers.{SeesInRange}
-use Rattle.guest_model.specs.Runs.{initialisers}
-use Rattle.guest_model.proofs.InRange.{NamesWords, sees_in_range}
+use Rattle.guest_model.specs.Numbers.{KeepsWords, SeesInRange}
+use Rattle.guest_model.specs.Runs.{initialisers, start_of}
+use Rattle.guest_model.proofs.InRange.{AllInRange, NamesWords, keeps_words, sees_in_range}
 use Rattle.guest_model.proofs.KeptWords.{first_word, small}
 use Rattle.guest_model.proofs.Passing.{LiteralsAreShort}
 use Rattle.guest_model.proofs.Words.{AreWords, IsShort, IsWord, ObjectWords, rests_words}
@@ -185,15 +185,20 @@ module _ (program : Program) (sound : IsSound program) (named : AreNamed program
 
   -- ---- the law
 
+  starts_in_range : AllInRange program (has_insns program sound) names_words each_short (start_of program) []
+  starts_in_range = record {
+    world = record {
+      heap = all_append ObjectWords _ _ (all_map ObjectWords _ program.listing.fields (λ f. (tt, tt))) ((tt, small 0 (omega arith)), tt);
+      statics =
+          all_mapped IsSoundClass AreWords (λ (c : LinkedClass). map (starting_value program c.file) c.file.fields) program.classes
+          class_words sound.classes;
+    };
+    threads = (rests_words program (initialisers program ++ (program.main_class, program.main_method) ∷ []), tt);
+    seen = tt;
+  }
+
   pub linked_sees_in_range : SeesInRange program
-  linked_sees_in_range =
-      sees_in_range program (has_insns program sound) names_words each_short (record {
-        world = record {
-          heap = all_append ObjectWords _ _ (all_map ObjectWords _ program.listing.fields (λ f. (tt, tt))) ((tt, small 0 (omega arith)), tt);
-          statics =
-              all_mapped IsSoundClass AreWords (λ (c : LinkedClass). map (starting_value program c.file) c.file.fields) program.classes
-              class_words sound.classes;
-        };
-        threads = (rests_words program (initialisers program ++ (program.main_class, program.main_method) ∷ []), tt);
-        seen = tt;
-      })
+  linked_sees_in_range = sees_in_range program (has_insns program sound) names_words each_short starts_in_range
+
+  pub linked_keeps_words : KeepsWords program
+  linked_keeps_words = keeps_words program (has_insns program sound) names_words each_short starts_in_range

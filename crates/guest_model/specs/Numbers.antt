@@ -1,5 +1,5 @@
 -- The numbers that the library sees are of 32 bits, and those that it returns are in the range of their type. (docs/MACHINE.md)
-use Rattle.std.specs.Prelude.{◌≡◌, ℤ, ◌==◌, ◌&&◌, Bool, true, false, IsTrue, List, length, Option, Some, None, slice_get, IsSomeAnd, FitsSigned}
+use Rattle.std.specs.Prelude.{◌≡◌, ℕ, ℤ, ◌==◌, ◌&&◌, Bool, true, false, IsTrue, List, length, Option, Some, None, slice_get, IsSomeAnd, FitsSigned}
 use Rattle.std.specs.Int.{w32}
 use Rattle.std.specs.List.{AllByRecursion}
 use Rattle.api_listing.specs.declared.descriptor.Element.{Element}
@@ -12,10 +12,14 @@ use Rattle.api_listing.specs.declared.events.Event.{Event}
 use Rattle.api_listing.specs.declared.events.Event.TheVariants as events
 use Rattle.api_listing.specs.declared.types.ListedMethod.{ListedMethod}
 use Rattle.bytecode_model.specs.declared.program.Program.{Program}
+use Rattle.guest_heap.specs.declared.frame.Frame.{Frame}
+use Rattle.guest_heap.specs.declared.thread.Thread.{Thread}
+use Rattle.guest_heap.specs.declared.value.Value.TheVariants as values
+use Rattle.guest_model.specs.declared.machine.Machine.{Machine}
 use Rattle.guest_model.specs.declared.machine.Step.{Step}
 use Rattle.guest_model.specs.Answers.{fits_number}
 use Rattle.guest_model.specs.Calls.{types_of}
-use Rattle.guest_model.specs.Runs.{trace}
+use Rattle.guest_model.specs.Runs.{exec, trace}
 use Rattle.insn_codec.specs.declared.shape.One.{One}
 use Rattle.insn_codec.specs.declared.shape.Two.{Two}
 use Rattle.guest_frames.specs.Values.{made_of_one, made_of_two}
@@ -82,3 +86,15 @@ IsInRange program (events.Except thread method) = Unit {0}
 -- Whatever the steps are, each event is so.
 abbrev pub SeesInRange : Program → Type 0
 SeesInRange program = (steps : List Step) → AllByRecursion (IsInRange program) (trace program steps)
+
+-- ---- locals
+
+-- Each number in a local of a top frame is of 32 bits.
+abbrev pub HasWords : Machine → Type 0
+HasWords machine =
+    (number local : ℕ) (thread : Thread) (frame : Frame) (n : ℤ) → slice_get machine.threads number ≡ Some thread → slice_get thread.frames 0 ≡ Some frame
+    → slice_get frame.locals local ≡ Some (values.Int n) → FitsSigned w32 n
+
+-- It is so whatever the steps are.
+abbrev pub KeepsWords : Program → Type 0
+KeepsWords program = (steps : List Step) → HasWords (exec program steps)

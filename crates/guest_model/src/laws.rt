@@ -11,7 +11,7 @@ ghost use Rattle.guest_model.specs.Standing.{Places, HasInsns, IsClosed, SeesOnl
 ghost use Rattle.guest_model.specs.Always.{IsKeptBySteps, HoldsAlways};
 ghost use Rattle.guest_model.specs.Counting.{FewAreAdded, SeesFewObjects, StepsAddOne};
 ghost use Rattle.guest_model.specs.First.{SeesFirstCall, GoesOnBehindFirstCall};
-ghost use Rattle.guest_model.specs.Numbers.{SeesInRange, AnswersAreWords, OneMakesWords, TwoMakeWords};
+ghost use Rattle.guest_model.specs.Numbers.{KeepsWords, SeesInRange, AnswersAreWords, OneMakesWords, TwoMakeWords};
 ghost use Rattle.guest_model.specs.Seeing.{EventsAreOfTheirThread, SeesGiven, SeesListed};
 ghost use Rattle.guest_model.specs.Staying.{OtherThreadsStay};
 ghost use Rattle.guest_model.specs.Throwing.{CoveringIsFound, HandlersCover};
@@ -74,6 +74,8 @@ pub fn sees_only_what_is_called()
 /// a method without a result returns nothing, one whose result is a number one in the range of its type.
 pub fn sees_numbers_in_range()
     ensures sees { (program : Program) → IsSound program → AreNamed program → AreLiterals program → SeesInRange program }
+    // So is each number in a local of a frame that runs.
+    ensures locals { (program : Program) → IsSound program → AreNamed program → AreLiterals program → KeepsWords program }
 {}
 
 /// The machine moves: where no class has an initialiser and the first instruction of `main` calls a static method of the

@@ -340,6 +340,7 @@ module _ (program : Program) (policy : Policy) (annotations : Annotations) (o : 
       same_locks : (b : Bool) → LocksAre program policy annotations b number shared shared → LocksAre program policy annotations b number shared gave.0
       same_locks true l = ap (held_locks program) clean.monitors ∙ l
       same_locks false l = ap (held_locks program) clean.monitors
+
       same_variables : (b : Bool) → VariablesAre program policy annotations b fields shared shared → VariablesAre program policy annotations b fields shared gave.0
       same_variables true v = ap (λ (statics : List (List Value)). slice_get statics (state_of program policy annotations)) clean.statics ∙ v
       same_variables false v = ap (λ (statics : List (List Value)). slice_get statics (state_of program policy annotations)) clean.statics
@@ -425,6 +426,7 @@ module _ (program : Program) (policy : Policy) (annotations : Annotations) (o : 
       same_locks : (b : Bool) → LocksAre program policy annotations b number shared shared → LocksAre program policy annotations b number shared with_thrown
       same_locks true l = l
       same_locks false l = refl
+
       same_variables : (b : Bool) → VariablesAre program policy annotations b fields shared shared → VariablesAre program policy annotations b fields shared with_thrown
       same_variables true v = v
       same_variables false v = refl

@@ -235,16 +235,20 @@ module _ (program : Program) (policy : Policy) (annotations : Annotations) (o : 
         → Goes program machine a change (world_of machine) at a.frame.locals (drop 2 a.frame.stack.items) → Changes
     tells at true outcome leads g =
         let items = drop 2 a.frame.stack.items in
-        goes_with program policy annotations o true machine a next change _ fields h recorded part ranged not_other at a.frame.locals items (holding_on check) h.acts.well.locals leads g
-        (refl, means_on at items failed (holding + 1) (without 2 list) map fields tops.below
-        (one_more_holds program recorded m.event m.clause.branches failed holding branch atom there atom_is m.tried outcome) m.variables tops.others
-        (above_rest tops.below items (ap (drop 2) tops.is)))
+        goes_with program policy annotations o true machine a next change _ fields h recorded part ranged not_other at a.frame.locals items (holding_on check) h.acts.well.locals leads g (
+          refl,
+          means_on at items failed (holding + 1) (without 2 list) map fields tops.below
+              (one_more_holds program recorded m.event m.clause.branches failed holding branch atom there atom_is m.tried outcome) m.variables tops.others
+              (above_rest tops.below items (ap (drop 2) tops.is)),
+        )
     tells at false outcome leads g =
         let items = drop 2 a.frame.stack.items in
-        goes_with program policy annotations o true machine a next change _ fields h recorded part ranged not_other at a.frame.locals items (failing check) h.acts.well.locals leads g
-        (refl, means_on at items (failed + 1) 0 (without 2 list) map fields tops.below
-        (one_more_fails program recorded m.event m.clause.branches failed holding branch atom there atom_is m.tried outcome) m.variables tops.others
-        (above_rest tops.below items (ap (drop 2) tops.is)))
+        goes_with program policy annotations o true machine a next change _ fields h recorded part ranged not_other at a.frame.locals items (failing check) h.acts.well.locals leads g (
+          refl,
+          means_on at items (failed + 1) 0 (without 2 list) map fields tops.below
+              (one_more_fails program recorded m.event m.clause.branches failed holding branch atom there atom_is m.tried outcome) m.variables tops.others
+              (above_rest tops.below items (ap (drop 2) tops.is)),
+        )
 
     -- control jumps, or goes on
     jumps_or_not : (jump outcome : Bool) → so ≡ outcome → cond jump h.ruled.r.jump h.ruled.r.past ≡ Given (cond outcome (holding_on check) (failing check))

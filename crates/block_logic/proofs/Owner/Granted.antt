@@ -297,8 +297,8 @@ module _ (program : Program) (policy : Policy) (annotations : Annotations) (o : 
           variables = refl;
           still = refl;
           other = inr (block_anywhere program policy annotations recorded [] fields [] (moved_to a.frame a.frame.at a.frame.locals l.passed.beneath ∷ a.below)
-          (doings.InCall site.method l.passed.receiver l.passed.arguments) Clear
-          (clauses, (subst (λ (x : Bool). IsBlockCall program policy annotations x recorded fields site.method (moved_to a.frame a.frame.at a.frame.locals l.passed.beneath) Clear) is waits, h.acts.below), (taken_clean.receiver, taken_clean.arguments)));
+              (doings.InCall site.method l.passed.receiver l.passed.arguments) Clear
+              (clauses, (subst (λ (x : Bool). IsBlockCall program policy annotations x recorded fields site.method (moved_to a.frame a.frame.at a.frame.locals l.passed.beneath) Clear) is waits, h.acts.below), (taken_clean.receiver, taken_clean.arguments)));
         }
 
         changes : IfSome (Some event) (IsFit program policy annotations) → ChangesBlock program policy annotations mine (world_of machine) a.number recorded part made

@@ -1,10 +1,9 @@
 -- The lock is taken where nobody holds it, and is waited for while another thread does.
-use Rattle.std.proofs.Common.{◌≡◌, ℕ, zero, suc, ◌+◌, ℤ, pos, Bool, true, false, List, [], ◌∷◌, ◌++◌, length, drop, Option, Some, None, refl, sym, ap, ◌∙◌, subst, arith, inl, inr}
+use Rattle.std.proofs.Common.{◌≡◌, ℕ, zero, suc, ◌<◌, ◌+◌, ℤ, pos, Bool, true, false, List, [], ◌∷◌, ◌++◌, length, drop, Option, Some, None, refl, sym, ap, ◌∙◌, subst, arith, inl, inr}
 use Rattle.std.specs.Bool.{beq}
-use Rattle.std.specs.Prelude.{◌==◌, ◌&&◌, ◌≢◌, find, is_some, option_and_then, slice_get}
-use Rattle.std.specs.List.{AllByRecursion, list_any}
-use Rattle.std.specs.Option.{option_map_or}
-use Rattle.std.proofs.lemmas.Bool.{and_parts, cases_Bool}
+use Rattle.std.specs.Int.{w32}
+use Rattle.std.specs.Prelude.{◌==◌, ◌-ℤ◌, ◌≢◌, FitsSigned, int_le, is_some, negsuc, option_and_then, slice_get}
+use Rattle.std.proofs.lemmas.Bool.{and_from, and_parts, cases_Bool, le-leb}
 use Rattle.std.proofs.lemmas.List.{length-map}
 use Rattle.api_listing.specs.declared.events.ApiValue.{ApiValue}
 use Rattle.api_listing.specs.declared.events.ApiValue.TheVariants as api
@@ -27,10 +26,9 @@ use Rattle.conspec_tree.specs.declared.types.Kind.{Kind}
 use Rattle.conspec_tree.specs.declared.types.Phase.TheVariants as phases
 use Rattle.conspec_automaton.specs.declared.policy.Clause.{Clause}
 use Rattle.conspec_automaton.specs.declared.policy.Policy.{Policy}
-use Rattle.conspec_automaton.specs.Denying.{Denies}
 use Rattle.conspec_automaton.specs.Events.{IsNumberOf, number_range, passed_range}
 use Rattle.conspec_automaton.specs.Next.{Values, has_clauses, number_in as shown_number}
-use Rattle.conspec_automaton.specs.Range.{in_range}
+use Rattle.conspec_automaton.specs.Range.{in_range, is_between}
 use Rattle.guest_heap.specs.declared.frame.Frame.{Frame}
 use Rattle.guest_heap.specs.declared.value.Value.{Value}
 use Rattle.guest_heap.specs.declared.value.Value.TheVariants as values
@@ -44,7 +42,7 @@ use Rattle.block_logic.specs.Accepted.{rules_of}
 use Rattle.block_logic.specs.Agreement.{Clear, Part}
 use Rattle.block_logic.specs.Clauses.{clause_at, clause_of, is_of_phase}
 use Rattle.block_logic.specs.Fitting.{held_locks, locked_by}
-use Rattle.block_logic.specs.Formed.{FitsRuns, IsInt}
+use Rattle.block_logic.specs.Formed.{FitsRuns}
 use Rattle.block_logic.specs.Meaning.{AreClean, AreState, IsAbove, IsDue, IsEventOf, IsGranted, IsOwed, Means, MeansHeld, MeansOwed, TellsArguments, TellsIn, TellsOne, lock_of, lock_on}
 use Rattle.block_logic.specs.Obeying.{IsObeying}
 use Rattle.block_logic.specs.Rows.{Asked, Given, Nothing, begins_owed, note_taken}
@@ -115,8 +113,15 @@ call_tells strict locals site clause = record {
   each = λ i kind there. told_each strict locals site.base clause.args i kind there;
 }
 
--- It is well formed, where the numbers in the locals have 32 bits.
-number_told : (locals : List Value) (base : ℕ) (kind : Kind) → ((local : ℕ) (n : ℤ) → slice_get locals local ≡ Some (values.Int n) → IsInt n)
+-- a number of 32 bits is one of an int
+word_between : (n : ℤ) → FitsSigned w32 n → is_between (pos 0 -ℤ pos 2147483648) (pos 2147483647) n ≡ true
+word_between (pos m) fits = let lt : m < 2147483648 = fits.sfits in le-leb m 2147483647 (omega arith)
+word_between (negsuc m) fits =
+    let lt : m < 2147483648 = fits.sfits in and_from (int_le (pos 0 -ℤ pos 2147483648) (negsuc m)) (int_le (negsuc m) (pos 2147483647))
+    (le-leb m 2147483647 (omega arith)) refl
+
+-- It is well formed, where the numbers in the locals are of 32 bits.
+number_told : (locals : List Value) (base : ℕ) (kind : Kind) → ((local : ℕ) (n : ℤ) → slice_get locals local ≡ Some (values.Int n) → FitsSigned w32 n)
     → IsNumberOf (passed_range kind) (Some (shown false kind (option_and_then number_in (slice_get locals base))))
 number_told locals base kind ints = by (number_range kind) refl where
   number_is : (v : Value) (n : ℤ) → number_in v ≡ Some n → v ≡ values.Int n
@@ -129,13 +134,13 @@ number_told locals base kind ints = by (number_range kind) refl where
   by : (range : Option (ℤ × ℤ)) → number_range kind ≡ range → IsNumberOf (passed_range kind) (Some (shown false kind (option_and_then number_in (slice_get locals base))))
   by None is = rw is tt
   by (Some range) is = rw is (of (option_and_then number_in (slice_get locals base)) refl) where
-    of : (known : Option ℤ) → option_and_then number_in (slice_get locals base) ≡ known → (n : ℤ) × (Some (shown false kind known) ≡ Some (api.Int n)) × IsInt n
+    of : (known : Option ℤ) → option_and_then number_in (slice_get locals base) ≡ known → (n : ℤ) × (Some (shown false kind known) ≡ Some (api.Int n)) × (is_between (pos 0 -ℤ pos 2147483648) (pos 2147483647) n ≡ true)
     of (Some n) e =
         let v = and_then_of number_in (slice_get locals base) n e in
-        (n, refl, ints base n (v.1 ∙ ap Some (number_is v.0 n v.2)))
+        (n, refl, word_between n (ints base n (v.1 ∙ ap Some (number_is v.0 n v.2))))
     of None e = (pos 0, rw is refl, refl)
 
-told_fits : (locals : List Value) (base : ℕ) (kinds : List Kind) → ((local : ℕ) (n : ℤ) → slice_get locals local ≡ Some (values.Int n) → IsInt n)
+told_fits : (locals : List Value) (base : ℕ) (kinds : List Kind) → ((local : ℕ) (n : ℤ) → slice_get locals local ≡ Some (values.Int n) → FitsSigned w32 n)
     → (i : ℕ) (kind : Kind) → slice_get kinds i ≡ Some kind → IsNumberOf (passed_range kind) (slice_get (told_by false locals base kinds) i)
 told_fits locals base [] ints i kind there = absurd cc
 told_fits locals base (k ∷ kinds) ints zero kind there = let same : k ≡ kind = cc in rw same (number_told locals base kind ints)
