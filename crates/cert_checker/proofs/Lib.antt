@@ -6,3 +6,4 @@ mod Security
 mod Denied
 pub mod Covering
 mod Unbroken
+mod Judged

@@ -5,11 +5,14 @@ ghost use Rattle.std.specs.List.{AllByRecursion};
 ghost use Rattle.bytecode_model.specs.Sound.{IsSound};
 ghost use Rattle.block_logic.specs.Accepted.{IsAccepted};
 ghost use Rattle.block_logic.specs.Formed.{RunsAreFormed};
-ghost use Rattle.block_logic.specs.Obeying.{FitsListing};
+ghost use Rattle.block_logic.specs.Annotations.{annotations_of};
+ghost use Rattle.block_logic.specs.Obeying.{EventsAreLocked, FitsListing};
+ghost use Rattle.block_logic.specs.Outside.{LeavesBlocks};
 ghost use Rattle.cert_checker.specs.Judging.{IsAllowed, judged, race_denied, races_denied};
 ghost use Rattle.cert_checker.specs.Secure.{Secure};
 ghost use Rattle.cert_checker.specs.declared.judging.Denial.TheVariants as denials;
 ghost use Rattle.cert_format.specs.declared.certificate.Mode.TheVariants as modes;
+ghost use Rattle.conspec_automaton.specs.Racing.{IsRaceFree};
 ghost use Rattle.conspec_automaton.specs.Sound.{IsPolicy, NamesMethods};
 ghost use Rattle.mon_base.specs.Answer.{Answers};
 
@@ -71,6 +74,9 @@ pub fn judge(
     // Then every list of steps obeys: in mode hold, and in mode release where runs are well formed, as those of a typed program are.
     ensures secure { IsOk result → (certificate.now.mode ≡ modes.Release → RunsAreFormed program.now policy.now)
         → Secure certificate.now.mode program.now policy.now }
+    // What `check` says of the lock and of errors.
+    ensures locked { IsOk result → certificate.now.mode ≡ modes.Hold → EventsAreLocked program.now policy.now }
+    ensures leaves_blocks { IsOk result → LeavesBlocks program.now policy.now (annotations_of certificate.now) }
 {
     let accepted = check(program, policy, certificate)?;
     judge_races(alloc, policy, certificate.mode)?;
@@ -80,7 +86,8 @@ pub fn judge(
 /// Whether the policy is race-free, where the lock is let go round calls.
 fn judge_races(alloc: Global, policy: &Policy, mode: Mode) -> Result<(), Denial>
     requires { IsPolicy policy.now }
-    ensures { Answers Denial.Memory result (races_denied mode policy.now) }
+    ensures exact { Answers Denial.Memory result (races_denied mode policy.now) }
+    ensures race { IsOk result → mode ≡ modes.Release → IsRaceFree policy.now }
 {
     match mode {
         Mode::Hold => Ok(()),
