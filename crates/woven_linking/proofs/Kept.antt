@@ -150,13 +150,13 @@ pub record IsKept (old new : ClassFile) : Type 0 where
   pub fields : new.fields ≡ old.fields
   pub methods : Each IsKeptMember old.methods new.methods
 
-record AreKept (made last : Members) (members : List Member) : Type 0 where
-  longer : IsLonger made.entries last.entries
-  items : List Member
-  are : last.items ≡ made.items ++ items
-  kept : Each IsKeptMember members items
+pub record AreKept (made last : Members) (members : List Member) : Type 0 where
+  pub longer : IsLonger made.entries last.entries
+  pub items : List Member
+  pub are : last.items ≡ made.items ++ items
+  pub kept : Each IsKeptMember members items
 
-members_kept : (plan : Plan) (state : ℕ) (class : LinkedClass) (members : List Member) (made last : Members) → folded (member_woven plan state class) made members ≡ Ok last → AreKept made last members
+pub members_kept : (plan : Plan) (state : ℕ) (class : LinkedClass) (members : List Member) (made last : Members) → folded (member_woven plan state class) made members ≡ Ok last → AreKept made last members
 members_kept plan state class [] made last e =
     subst (λ (x : Members). AreKept made x []) (ok_is SpliceFault made last e) (record { longer = same_pool made.entries; items = []; are = sym (append-nil made.items); kept = tt })
 members_kept plan state class (member ∷ members) made last e =

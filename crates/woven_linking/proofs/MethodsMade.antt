@@ -83,7 +83,7 @@ module _ (plan : Plan) (state : ℕ) (m : Method) where
 
 module _ (plan : Plan) (state : ℕ) (files : List ClassFile) (listing : Listing) (class : LinkedClass) where
   -- What one member more makes of the methods, where these are the constants at last.
-  IsMade : List Const → Members → Members → Method → Type 0
+  abbrev IsMade : List Const → Members → Members → Method → Type 0
   IsMade pool made next m = (next.methods ≡ made.methods ++ method_with plan state pool m ∷ []) × (next.number ≡ made.number + 1)
 
   body_method : (made next : Members) (member : Member) (m : Method) → (c : Option Code) → body_linked files listing class.file made.number member c ≡ Ok m
