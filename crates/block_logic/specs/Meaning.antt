@@ -14,8 +14,6 @@ use Rattle.bytecode_model.specs.Classes.{classes_of}
 use Rattle.bytecode_model.specs.Typed.{reached}
 use Rattle.block_logic.specs.declared.held_calls.HeldCalls.{HeldCalls}
 use Rattle.block_logic.specs.Annotations.{Annotations, holds_round, is_always}
-use Rattle.cert_format.specs.declared.certificate.Mode.{Mode}
-use Rattle.cert_format.specs.declared.certificate.Mode.TheVariants as modes
 use Rattle.cert_format.specs.declared.note.Note.{Note}
 use Rattle.cert_format.specs.declared.note.Note.TheVariants as notes
 use Rattle.cert_format.specs.declared.note.Phase8.{Phase8}
@@ -28,7 +26,6 @@ use Rattle.conspec_tree.specs.declared.types.Kind.{Kind}
 use Rattle.conspec_automaton.specs.declared.policy.Branch.{Branch}
 use Rattle.conspec_automaton.specs.declared.policy.Clause.{Clause}
 use Rattle.conspec_automaton.specs.declared.policy.Policy.{Policy}
-use Rattle.conspec_automaton.specs.Denying.{DeniesOnly}
 use Rattle.conspec_automaton.specs.Next.{Values, argument, holds, is_taken, moment, returned}
 use Rattle.conspec_automaton.specs.Events.{number_range}
 use Rattle.conspec_automaton.specs.Obeys.{is_return}
@@ -48,14 +45,6 @@ use Rattle.block_logic.specs.Operands.{calls, has_clause, state_name}
 use Rattle.block_logic.specs.Formed.{FitsRuns, RunsAreFormed}
 use Rattle.block_logic.specs.Standing.{in_phase, is_before, is_open, takes_for_call}
 
--- what is promised: that events obey in mode hold, or where calls are denied outright
-abbrev pub Promised : Mode → Policy → Type 0
-Promised mode policy = (mode ≡ modes.Hold) ⊎ DeniesOnly policy
-
--- The lock is held round each call that has a clause, or each such call is denied.
-abbrev pub IsLocking : HeldCalls → Policy → Type 0
-IsLocking held policy = (is_always held ≡ true) ⊎ DeniesOnly policy
-
 -- of two methods the lock is not held round the calls of both
 abbrev pub one_is_loose : HeldCalls → Pairs
 one_is_loose held first second = not (holds_round held first && holds_round held second)
@@ -65,8 +54,9 @@ pub record IsReleasing (program : Program) (policy : Policy) (held : HeldCalls) 
   pub race : IsRaceFreeFor (one_is_loose held) policy
   pub formed : RunsAreFormed program policy
 
+-- The lock is held round each call that has a clause, or the policy is race-free.
 abbrev pub IsJudged : Program → Policy → HeldCalls → Type 0
-IsJudged program policy held = IsLocking held policy ⊎ IsReleasing program policy held
+IsJudged program policy held = (is_always held ≡ true) ⊎ IsReleasing program policy held
 
 -- ---- the lock
 
@@ -211,7 +201,6 @@ pub record IsChecked (program : Program) (policy : Policy) (held : HeldCalls) (s
   pub is : part ≡ parts.Granted event
   pub of : IsEventOf (in_phase Before site) event
   pub formed : FitsRuns program policy held event
-  pub accepts : DeniesOnly policy → ⊥
   pub told : TellsArguments (is_always held) site.base clause.args locals event
 
 -- It is granted, or has no clause.
@@ -293,7 +282,6 @@ pub record MeansOwed (program : Program) (policy : Policy) (held : HeldCalls) (m
 pub record IsKnownEnd (program : Program) (policy : Policy) (held : HeldCalls) (end : Event) : Type 0 where
   pub ends : is_return end ≡ true
   pub formed : FitsRuns program policy held end
-  pub accepts : DeniesOnly policy → ⊥
 
 -- A call that is refused is not granted; a return that is refused is owed for ever.
 abbrev pub IsRefused : Program → Policy → HeldCalls → Part → Type 0

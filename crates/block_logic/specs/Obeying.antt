@@ -9,7 +9,7 @@ use Rattle.bytecode_model.specs.Sound.{IsSound}
 use Rattle.bytecode_model.specs.Typed.{reached}
 use Rattle.cert_format.specs.declared.certificate.Certificate.{Certificate}
 use Rattle.cert_format.specs.declared.certificate.Mode.TheVariants as modes
-use Rattle.block_logic.specs.Annotations.{Annotations, annotations_of}
+use Rattle.block_logic.specs.Annotations.{Annotations, annotations_of, is_always}
 use Rattle.conspec_automaton.specs.declared.policy.Clause.{Clause}
 use Rattle.conspec_automaton.specs.declared.policy.Policy.{Policy}
 use Rattle.conspec_automaton.specs.Next.{has_clause}
@@ -23,7 +23,7 @@ use Rattle.guest_model.specs.Standing.{HasInsns, IsClosed}
 use Rattle.guest_model.specs.Stepping.{stepped}
 use Rattle.block_logic.specs.Accepted.{AreAccepted}
 use Rattle.block_logic.specs.Fitting.{held_locks, locked_by}
-use Rattle.block_logic.specs.Meaning.{IsJudged, IsLocking}
+use Rattle.block_logic.specs.Meaning.{IsJudged}
 
 -- A clause tells how many arguments its method takes, and whether it gives something.
 abbrev pub FitsListing : Listing → Clause → Type 0
@@ -48,11 +48,10 @@ AcceptedObeys =
     (program : Program) (policy : Policy) (certificate : Certificate) → IsObeying program policy (annotations_of certificate)
     → (steps : List Step) → Obeys certificate.mode policy (trace program steps)
 
--- Where the lock is held round each call, or each is denied: while a thread holds the lock, no step of another thread has an event with
--- a clause.
+-- Where the lock is held round each call: while a thread holds the lock, no step of another thread has an event with a clause.
 abbrev pub LockOrders : Type 0
 LockOrders =
-    (program : Program) (policy : Policy) (annotations : Annotations) → IsObeying program policy annotations → IsLocking annotations.held policy
+    (program : Program) (policy : Policy) (annotations : Annotations) → IsObeying program policy annotations → is_always annotations.held ≡ true
     → (steps : List Step) (owner : ℕ) (step : Step) → held_locks program (exec program steps).monitors ≡ locked_by program owner
     → step.thread ≢ owner → AllByRecursion (λ (e : Event). has_clause policy e ≡ false) (seen program (exec program steps) step)
 

@@ -23,7 +23,7 @@ use Rattle.guest_model.specs.Standing.{HasInsns, IsClosed}
 use Rattle.block_logic.specs.Accepted.{IsAccepted}
 use Rattle.block_logic.specs.Annotations.{annotations_of, held_in}
 use Rattle.block_logic.specs.Formed.{RunsAreFormed}
-use Rattle.block_logic.specs.Meaning.{IsJudged, IsReleasing, Promised}
+use Rattle.block_logic.specs.Meaning.{IsJudged, IsReleasing}
 use Rattle.block_logic.specs.Obeying.{AcceptedObeys, EventsAreLocked, FitsListing, IsObeying, LockIsHeld}
 use Rattle.cert_checker.specs.Secure.{Secure}
 use Rattle.cert_checker.proofs.Options.{all_at, and_then_of}
@@ -67,11 +67,6 @@ pub record Laws : Type 0 where
   pub next : GoesToReached
   pub caught : IsCaughtReached
 
--- what is promised of the mode, as it is said of the calls round which the lock is held
-judged : (program : Program) (mode : Mode) (policy : Policy) → Promised mode policy → IsJudged program policy (held_in mode)
-judged program mode policy (inl hold) = inl (inl (rw hold refl))
-judged program mode policy (inr denies) = inl (inr denies)
-
 -- a race-free policy is race-free of each two methods
 releasing : (program : Program) (mode : Mode) (policy : Policy) → IsRaceFree policy → RunsAreFormed program policy → IsReleasing program policy (held_in mode)
 releasing program mode policy race formed = record {
@@ -83,6 +78,11 @@ releasing program mode policy race formed = record {
   };
   formed = formed;
 }
+
+-- what is known of the mode, as it is said of the calls round which the lock is held
+judged : (program : Program) (mode : Mode) (policy : Policy) → (mode ≡ modes.Release → IsRaceFree policy) → (mode ≡ modes.Release → RunsAreFormed program policy) → IsJudged program policy (held_in mode)
+judged program modes.Hold policy race formed = inl refl
+judged program modes.Release policy race formed = inr (releasing program modes.Release policy (race refl) (formed refl))
 
 -- what is known of a program and a policy before the check
 pub record IsGiven (program : Program) (policy : Policy) : Type 0 where
@@ -149,11 +149,8 @@ module _ (laws : Laws) (program : Program) (policy : Policy) (certificate : Cert
     closed = closed;
   }
 
-  pub secure : Promised certificate.mode policy → Secure certificate.mode program policy
-  secure promised steps = laws.obeys program policy certificate (obeying (judged program certificate.mode policy promised)) steps
-
-  pub released : IsRaceFree policy → RunsAreFormed program policy → Secure certificate.mode program policy
-  released race formed steps = laws.obeys program policy certificate (obeying (inr (releasing program certificate.mode policy race formed))) steps
+  pub secure : (certificate.mode ≡ modes.Release → IsRaceFree policy) → (certificate.mode ≡ modes.Release → RunsAreFormed program policy) → Secure certificate.mode program policy
+  secure race formed steps = laws.obeys program policy certificate (obeying (judged program certificate.mode policy race formed)) steps
 
   pub locked : certificate.mode ≡ modes.Hold → EventsAreLocked program policy
-  locked hold = laws.held program policy certificate (obeying (judged program certificate.mode policy (inl hold))) hold
+  locked hold = laws.held program policy certificate (obeying (inl (rw hold refl))) hold

@@ -1,4 +1,5 @@
--- What is judged of a program and its policy: the check, and then races, where the lock is let go round calls. (docs/CERTIFICATES.md)
+-- What the check says of a program with its certificate: the first test that fails, and then races, where the lock is let go round
+-- calls. (docs/CERTIFICATES.md)
 use Rattle.std.specs.Prelude.{◌≡◌, Result, Ok, Err}
 use Rattle.bytecode_model.specs.declared.program.Program.{Program}
 use Rattle.block_logic.specs.Accepted.{IsAccepted}
@@ -11,13 +12,14 @@ use Rattle.cert_format.specs.declared.certificate.Certificate.{Certificate}
 use Rattle.cert_format.specs.declared.certificate.Mode.{Mode}
 use Rattle.cert_format.specs.declared.certificate.Mode.TheVariants as modes
 use Rattle.conspec_automaton.specs.declared.policy.Policy.{Policy}
-use Rattle.conspec_automaton.specs.Racing.{IsRaceFree}
+use Rattle.conspec_automaton.specs.Racing.{IsRaceFree, all_pairs}
 use Rattle.mon_base.specs.Reading.{◌>>=◌}
 use Rattle.race_free_check.specs.declared.fault.RaceFault.{RaceFault}
 use Rattle.race_free_check.specs.declared.fault.RaceFault.TheVariants as faults
 use Rattle.race_free_check.specs.declared.verdict.RaceVerdict.{RaceVerdict}
 use Rattle.race_free_check.specs.declared.verdict.RaceVerdict.TheVariants as verdicts
 use Rattle.race_free_check.specs.Deciding.{decided}
+use Rattle.race_free_check.specs.Limit.{AllHaveFewPoints}
 
 -- the denial for what is decided of races
 abbrev pub race_denied : Result RaceVerdict RaceFault → Result (Unit {0}) Denial
@@ -40,7 +42,8 @@ abbrev pub judged : Program → Policy → Certificate → Result Accepted Denia
 judged program policy certificate =
     check_denied (verdict program policy certificate) >>= λ accepted. races_denied certificate.mode policy >>= λ free. Ok accepted
 
--- It is accepted, and in mode release the policy is race-free.
+-- It is accepted, and in mode release the policy is race-free, with so few points of each two clauses that this is decided.
 pub record IsAllowed (program : Program) (policy : Policy) (certificate : Certificate) : Type 0 where
   pub accepted : IsAccepted program policy certificate
   pub race : certificate.mode ≡ modes.Release → IsRaceFree policy
+  pub few : certificate.mode ≡ modes.Release → AllHaveFewPoints all_pairs policy

@@ -1,4 +1,4 @@
-//! The check as a whole.
+//! The tests of a program with its certificate, one after the other.
 
 ghost use Rattle.std.specs.Prelude.{◌≡◌, ◌↔◌, ◌<◌, ◌^◌, IsOk, length, count_by, sum_by};
 ghost use Rattle.std.specs.List.{AllByRecursion};
@@ -9,7 +9,6 @@ ghost use Rattle.conspec_automaton.specs.Racing.{IsRaceFree};
 ghost use Rattle.conspec_automaton.specs.Sound.{IsPolicy, NamesMethods};
 ghost use Rattle.block_logic.specs.Accepted.{IsAccepted};
 ghost use Rattle.block_logic.specs.Formed.{RunsAreFormed};
-ghost use Rattle.block_logic.specs.Meaning.{Promised};
 ghost use Rattle.block_logic.specs.Obeying.{EventsAreLocked, FitsListing};
 ghost use Rattle.block_logic.specs.Operands.{has_clause};
 ghost use Rattle.block_logic.specs.Annotations.{annotations_of};
@@ -37,8 +36,9 @@ pub struct Accepted {
     pub sites: u64,
 }
 
-/// Checks a program with its certificate. It runs nothing, and takes no memory.
-pub fn check(
+/// Examines a program with its certificate: its shape, its types, the class of the policy's variables, and its notes. It runs
+/// nothing, and takes no memory.
+pub fn examine(
     program: &Indexed,
     policy: &Policy,
     certificate: &Certificate,
@@ -47,12 +47,11 @@ pub fn check(
     requires policy { IsPolicy policy.now }
     requires named { NamesMethods (length program.now.listing.methods) policy.now }
     requires listed { AllByRecursion (FitsListing program.now.listing) policy.now.clauses }
-    // It is accepted exactly where the conditions hold. Then, in mode hold or where calls are denied outright, every list of steps
-    // obeys; and in either mode where the policy is race-free and runs are well formed.
+    // It passes exactly where the conditions hold. Then every list of steps obeys: in mode hold, and in mode release where the policy
+    // is race-free and runs are well formed.
     ensures ok { IsOk result ↔ IsAccepted program.now policy.now certificate.now }
-    ensures secure { IsOk result → Promised certificate.now.mode policy.now → Secure certificate.now.mode program.now policy.now }
-    ensures released { IsOk result → IsRaceFree policy.now → RunsAreFormed program.now policy.now
-        → Secure certificate.now.mode program.now policy.now }
+    ensures secure { IsOk result → (certificate.now.mode ≡ modes.Release → IsRaceFree policy.now)
+        → (certificate.now.mode ≡ modes.Release → RunsAreFormed program.now policy.now) → Secure certificate.now.mode program.now policy.now }
 
     // In mode hold each step whose event has a clause is of the thread that holds the lock: the lock's order is that of the events.
     ensures locked { IsOk result → certificate.now.mode ≡ modes.Hold → EventsAreLocked program.now policy.now }

@@ -1,6 +1,7 @@
-//! Whether a program is accepted and its policy race-free, where the lock is let go round calls.
+//! The check as a whole: a program is examined with its certificate, and where the lock is let go round calls its policy has to be
+//! race-free.
 
-ghost use Rattle.std.specs.Prelude.{◌≡◌, ◌<◌, ◌^◌, IsOk, length};
+ghost use Rattle.std.specs.Prelude.{◌≡◌, IfErr, IsOk, length};
 ghost use Rattle.std.specs.List.{AllByRecursion};
 ghost use Rattle.bytecode_model.specs.Sound.{IsSound};
 ghost use Rattle.block_logic.specs.Accepted.{IsAccepted};
@@ -12,11 +13,12 @@ ghost use Rattle.cert_checker.specs.Judging.{IsAllowed, judged, race_denied, rac
 ghost use Rattle.cert_checker.specs.Secure.{Secure};
 ghost use Rattle.cert_checker.specs.declared.judging.Denial.TheVariants as denials;
 ghost use Rattle.cert_format.specs.declared.certificate.Mode.TheVariants as modes;
-ghost use Rattle.conspec_automaton.specs.Racing.{IsRaceFree};
+ghost use Rattle.conspec_automaton.specs.Racing.{IsRaceFree, all_pairs};
 ghost use Rattle.conspec_automaton.specs.Sound.{IsPolicy, NamesMethods};
 ghost use Rattle.mon_base.specs.Answer.{Answers};
+ghost use Rattle.race_free_check.specs.Limit.{AllHaveFewPoints};
 
-use crate::checking::{Accepted, check};
+use crate::checking::{Accepted, examine};
 use crate::fault::CheckFault;
 use api_listing::Event;
 use cert_format::{Certificate, Mode};
@@ -55,9 +57,9 @@ impl From<CheckFault> for Denial {
     }
 }
 
-/// Judges a program with its certificate: it is checked, and where the lock is let go round calls it is decided whether the
-/// policy is race-free.
-pub fn judge(
+/// Checks a program with its certificate. Where the lock is let go round calls it is decided besides whether the policy is
+/// race-free, which takes memory. It runs nothing.
+pub fn check(
     alloc: Global,
     program: &Indexed,
     policy: &Policy,
@@ -67,18 +69,21 @@ pub fn judge(
     requires policy { IsPolicy policy.now }
     requires named { NamesMethods (length program.now.listing.methods) policy.now }
     requires listed { AllByRecursion (FitsListing program.now.listing) policy.now.clauses }
-    // The first test that fails, and then what is decided of races.
+    // Which answer it is: the first test that fails, with its first place, and then what is decided of races.
     ensures exact { Answers Denial.Memory result (judged program.now policy.now certificate.now) }
-    // It is accepted, and race-free where it has to be.
+    // It is accepted exactly where it is allowed, if memory is there.
     ensures allowed { IsOk result → IsAllowed program.now policy.now certificate.now }
+    ensures only { IsAllowed program.now policy.now certificate.now → IfErr result (λ denial. denial ≡ denials.Memory) }
     // Then every list of steps obeys: in mode hold, and in mode release where runs are well formed, as those of a typed program are.
     ensures secure { IsOk result → (certificate.now.mode ≡ modes.Release → RunsAreFormed program.now policy.now)
         → Secure certificate.now.mode program.now policy.now }
-    // What `check` says of the lock and of errors.
+    // In mode hold each step whose event has a clause is of the thread that holds the lock: the lock's order is that of the events.
     ensures locked { IsOk result → certificate.now.mode ≡ modes.Hold → EventsAreLocked program.now policy.now }
+    // In either mode an error that a Java machine throws in a block leads out of it: where it is caught no lock is held, no call
+    // with a clause before it is granted, and nothing is owed.
     ensures leaves_blocks { IsOk result → LeavesBlocks program.now policy.now (annotations_of certificate.now) }
 {
-    let accepted = check(program, policy, certificate)?;
+    let accepted = examine(program, policy, certificate)?;
     judge_races(alloc, policy, certificate.mode)?;
     Ok(accepted)
 }
@@ -88,6 +93,9 @@ fn judge_races(alloc: Global, policy: &Policy, mode: Mode) -> Result<(), Denial>
     requires { IsPolicy policy.now }
     ensures exact { Answers Denial.Memory result (races_denied mode policy.now) }
     ensures race { IsOk result → mode ≡ modes.Release → IsRaceFree policy.now }
+    ensures few { IsOk result → mode ≡ modes.Release → AllHaveFewPoints all_pairs policy.now }
+    ensures only { (mode ≡ modes.Release → IsRaceFree policy.now) → (mode ≡ modes.Release → AllHaveFewPoints all_pairs policy.now)
+        → IfErr result (λ denial. denial ≡ denials.Memory) }
 {
     match mode {
         Mode::Hold => Ok(()),

@@ -14,9 +14,9 @@ mod passing;
 mod shape;
 mod state;
 
-pub use checking::{Accepted, check};
+pub use checking::Accepted;
 pub use fault::CheckFault;
-pub use judging::{Denial, judge};
+pub use judging::{Denial, check};
 pub use laws::denied_call_disobeys;
 pub use note_rules::note_fault;
 pub use notes::check_note;

@@ -1,4 +1,3 @@
-mod Denials
 pub mod Ranges
 pub mod Built
 pub mod Obeying

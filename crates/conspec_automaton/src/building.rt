@@ -1,7 +1,6 @@
 //! The automaton of a policy, out of its tree.
 
-ghost use Rattle.std.specs.Prelude.{◌≡◌, ◌++◌, map, length, IfOk, OnOk, IsTrue};
-ghost use Rattle.std.specs.List.{list_all};
+ghost use Rattle.std.specs.Prelude.{◌≡◌, ◌++◌, map, length, IfOk, OnOk};
 ghost use Rattle.conspec_automaton.specs.Building.{
   atoms_of,
   branch_of,
@@ -15,10 +14,9 @@ ghost use Rattle.conspec_automaton.specs.Building.{
 ghost use Rattle.conspec_automaton.specs.Sound.{IsPolicy, NamesMethods};
 ghost use Rattle.conspec_tree.specs.Tree.{IsPolicyTree};
 ghost use Rattle.api_listing.specs.declared.types.Listing.{Listing};
-ghost use Rattle.conspec_automaton.specs.Denying.{DeniesOnly, denies_only, is_denial};
 
 use crate::policy::{Branch, Clause, Policy};
-use conspec_tree::{Atom, Base, Guard, Phase, PolicyTree, Rel, TreeClause, Update, Var};
+use conspec_tree::{Atom, Base, Guard, PolicyTree, Rel, TreeClause, Update, Var};
 use mon_base::{List, NoMemory};
 use std::alloc::Global;
 
@@ -41,33 +39,6 @@ fn built(alloc: Global, tree: &PolicyTree) -> Result<Policy, NoMemory>
         vars: copy_vars(alloc, tree.vars.as_slice())?,
         clauses: clauses_built(alloc, tree.maxint, tree.clauses.as_slice())?,
     })
-}
-
-/// Whether the policy denies calls outright, and says nothing else: it has no variables, and its clauses are for calls
-/// and have no branch.
-pub fn denies_only(tree: &PolicyTree) -> bool
-    ensures is { result ≡ denies_only tree.now }
-    ensures denies { IsTrue result → DeniesOnly (built tree.now) }
-{
-    are_denied(tree)
-}
-
-fn are_denied(tree: &PolicyTree) -> bool
-    ensures { result ≡ denies_only tree.now }
-{
-    tree.vars.is_empty() && are_denials(tree.clauses.as_slice())
-}
-
-fn are_denials(clauses: &[TreeClause]) -> bool
-    ensures { result ≡ list_all is_denial clauses.now }
-{
-    clauses.iter().all(|clause| is_denial(clause))
-}
-
-fn is_denial(clause: &TreeClause) -> bool
-    ensures { result ≡ is_denial clause.now }
-{
-    matches!(clause.phase, Phase::Before) && clause.guards.is_empty()
 }
 
 fn copy_vars(alloc: Global, vars: &[Var]) -> Result<List<Var>, NoMemory>

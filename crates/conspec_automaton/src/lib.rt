@@ -14,7 +14,7 @@ mod running;
 mod state;
 
 pub use asking::{clause_of, has_clause, is_return};
-pub use building::{build, denies_only};
+pub use building::build;
 pub use laws::{modes_differ, ranges_are_kept, runs_join, seen_is_enough};
 pub use policy::{Branch, Clause, Policy, has_clauses};
 pub use running::{Verdict, accept, initial, next, stays_in_range};

@@ -6,8 +6,8 @@ use Rattle.block_logic.specs.Accepted.{IsAccepted}
 use Rattle.block_logic.specs.State.{state_fault}
 use Rattle.cert_checker.specs.Acceptance.{notes_fault, shape_fault}
 use Rattle.cert_checker.proofs.Accepting.{is_noted, is_shaped, nothing_found}
-use Rattle.cert_checker.proofs.Security.{IsGiven, Laws, locked, released, secure}
-use Rattle.cert_checker.proofs.checking.check.Goals as goal
+use Rattle.cert_checker.proofs.Security.{IsGiven, Laws, locked, secure}
+use Rattle.cert_checker.proofs.checking.examine.Goals as goal
 
 pub returns-in-Some-clause-ok : goal.returns-in-Some-clause-ok
 returns-in-Some-clause-ok c = (
@@ -72,10 +72,6 @@ given_here c = record {
 pub returns-clause-secure : goal.returns-clause-secure
 returns-clause-secure c =
     λ e. secure (laws_here c) c.args.program.now c.args.policy.now c.args.certificate.now (given_here c) (accepted_here c)
-
-pub returns-clause-released : goal.returns-clause-released
-returns-clause-released c =
-    λ e. released (laws_here c) c.args.program.now c.args.policy.now c.args.certificate.now (given_here c) (accepted_here c)
 
 pub returns-clause-locked : goal.returns-clause-locked
 returns-clause-locked c =
