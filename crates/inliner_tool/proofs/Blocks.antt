@@ -9,7 +9,7 @@ use Rattle.bytecode_model.specs.Sound.{IsSound}
 use Rattle.block_logic.specs.Accepted.{IsAccepted}
 use Rattle.block_template.specs.Blocks.{plan_of}
 use Rattle.block_template.specs.Good.{HasNumbers, PlansAreGood}
-use Rattle.cert_checker.specs.Acceptance.{verdict}
+use Rattle.cert_checker.specs.Judging.{IsAllowed, judged}
 use Rattle.cert_checker.specs.Secure.{Secure}
 use Rattle.cert_format.specs.Fits.{CanSpell}
 use Rattle.class_linking.specs.Fault.{Linked}
@@ -86,7 +86,7 @@ module _ (links : WovenLinks) (good : PlansAreGood) (inputs : InlineInputs) (kno
       (assembled_of inputs.classes.files inputs.listing main Original given.client client_links) sound (good given.policy given.mode is_policy numbers) is_policy.few_vars weaves
 
 module _ (named : NamedInline) (inputs : InlineInputs) (given : Given) (made : Woven) (links : original inputs.listing inputs.classes named.main ≡ Ok given.client)
-    (typed : AreTypes given.client given.typing) (is : given.policy ≡ built inputs.policy) (chosen : mode_for named.weaving inputs.policy ≡ Ok given.mode) (listing : given.client.listing ≡ inputs.listing)
+    (typed : AreTypes given.client given.typing) (is : given.policy ≡ built inputs.policy) (chosen : mode_for named.weaving inputs.policy given.client.listing ≡ Ok given.mode) (listing : given.client.listing ≡ inputs.listing)
     (weaves : woven given.client (plan_of given.policy given.mode) given.policy.vars ≡ Ok made)
     (remade : (new : Program) × ((woven_links made.files inputs.listing named.main ≡ Ok new) × IsWoven given.client (plan_of given.policy given.mode) given.policy.vars new)) where
   whole : (ready : Ready) → IsRewoven named given made.files ready → IsPlanned named inputs ready
@@ -114,41 +114,30 @@ module _ (named : NamedInline) (inputs : InlineInputs) (given : Given) (made : W
 module _ (main folder : List ℕ) (given : Given) (made : Woven) (program : Program) (links : woven_links made.files given.client.listing main ≡ Ok program)
     (accepts : IsAccepted program given.policy (certificate_for given program)) where
   -- What is judged is what is made anew.
-  pub remakes : (result : Step Ready) → Accepts folder given.policy program (certificate_for given program) result → UnlessMemory (Remakes main folder given made) result
-  remakes result (accepted, verdict, told) = by result told
-    where
-      by : (r : Step Ready) → UnlessMemory (Then (Equals (outputs_step folder program (certificate_for given program))) (Told program accepted)) r → UnlessMemory (Remakes main folder given made) r
-      by (Ok ready) fits = record {
-        program = program;
-        accepted = accepted;
-        remade = record { links = links; typed = accepts.typed; verdict = verdict };
-        fits = fits;
-      }
-      by (Err e) (inl fits) = inl (record {
-        program = program;
-        accepted = accepted;
-        remade = record { links = links; typed = accepts.typed; verdict = verdict };
-        fits = fits;
-      })
-      by (Err e) (inr memory) = inr memory
+  pub remakes : (result : Step Ready) → UnlessMemory (Accepts folder given.policy program (certificate_for given program)) result → UnlessMemory (Remakes main folder given made) result
+  remakes (Ok ready) (accepted, verdict, fits) =
+      record { program = program; accepted = accepted; remade = record { links = links; typed = accepts.typed; verdict = verdict }; fits = fits }
+  remakes (Err e) (inl (accepted, verdict, fits)) =
+      inl (record { program = program; accepted = accepted; remade = record { links = links; typed = accepts.typed; verdict = verdict }; fits = fits })
+  remakes (Err e) (inr memory) = inr memory
 
 pub known_rewoven : (named : NamedInline) (given : Given) (made : Woven) (program : Program) → woven_links made.files given.client.listing named.main ≡ Ok program → unlinked program ≡ made.files
-    → IsSound program → IsAccepted program given.policy (certificate_for given program) → Secure given.mode program given.policy
+    → IsSound program → IsAllowed program given.policy (certificate_for given program)
     → (is_written (certificate_for given program) ≡ true → CanSpell (length given.policy.vars) (certificate_for given program))
-    → (r : Step Ready) → IfOk r (λ ready. verdict program given.policy (certificate_for given program) ≡ Ok ready.accepted) → IfOk r (λ ready. is_written (certificate_for given program) ≡ true) → IfOk r (λ ready. ready.outputs ≡ outputs_of named.folder program (certificate_for given program))
+    → (r : Step Ready) → IfOk r (λ ready. Secure given.mode program given.policy) → IfOk r (λ ready. judged program given.policy (certificate_for given program) ≡ Ok ready.accepted) → IfOk r (λ ready. is_written (certificate_for given program) ≡ true) → IfOk r (λ ready. ready.outputs ≡ outputs_of named.folder program (certificate_for given program))
     → IfOk r (λ ready. IsRewoven named given made.files ready)
-known_rewoven named given made program links back sound accepted secure spells (Ok ready) judged written outputs = record {
+known_rewoven named given made program links back sound allowed spells (Ok ready) secure judged written outputs = record {
   program = program;
   links = links;
   same = back;
   sound = sound;
   certificate = certificate_for given program;
   mode_is = refl;
-  accepted = accepted;
+  accepted = allowed;
   verdict = judged;
   secure = secure;
   spells = spells written;
   written = written;
   outputs = outputs;
 }
-known_rewoven named given made program links back sound accepted secure spells (Err e) judged written outputs = tt
+known_rewoven named given made program links back sound allowed spells (Err e) secure judged written outputs = tt

@@ -1,11 +1,12 @@
 -- What `check` answers to files that the store tells, without a fault: what it is of what they are, or that memory ran out.
-use Rattle.std.proofs.Common.{◌≡◌, ◌⊎◌, inl, inr, ℕ, Bool, true, cond, List, length, Result, Ok, Err, refl, sym, ap, subst, ◌∙◌}
+use Rattle.std.proofs.Common.{◌≡◌, ◌⊎◌, inl, inr, ℕ, List, length, Result, Ok, Err, refl, sym, ap, subst, ◌∙◌}
 use Rattle.std.specs.Prelude.{IsSome}
 use Rattle.api_listing.specs.declared.types.Listing.{Listing}
 use Rattle.bytecode_model.specs.declared.program.Program.{Program}
 use Rattle.cert_checker.specs.declared.checking.Accepted.{Accepted}
-use Rattle.cert_checker.specs.declared.fault.CheckFault.{CheckFault}
-use Rattle.cert_checker.specs.Acceptance.{verdict}
+use Rattle.cert_checker.specs.declared.judging.Denial.{Denial}
+use Rattle.cert_checker.specs.declared.judging.Denial.TheVariants as denials
+use Rattle.cert_checker.specs.Judging.{judged}
 use Rattle.cert_format.specs.declared.certificate.Certificate.{Certificate}
 use Rattle.command_words.specs.Words.{Check, NamedCheck}
 use Rattle.conspec_automaton.specs.Building.{built}
@@ -19,9 +20,8 @@ use Rattle.input_files.specs.Forms.{Count, ReadsForm}
 use Rattle.input_files.specs.Kinds.{certificate_form, listing_form, policy_form}
 use Rattle.inliner_tool.specs.declared.answer.Answer.{Answer}
 use Rattle.inliner_tool.specs.declared.answer.Answer.TheVariants as answers
-use Rattle.inliner_tool.specs.declared.refusal.Refusal.TheVariants as refusals
 use Rattle.inliner_tool.specs.Answers.{stopped}
-use Rattle.inliner_tool.specs.Check.{check_answer, is_judged, link_inputs, linked_answer, verdict_answer}
+use Rattle.inliner_tool.specs.Check.{check_answer, link_inputs, linked_answer, verdict_answer}
 use Rattle.inliner_tool.specs.CheckDecision.{CheckDecides}
 use Rattle.inliner_tool.specs.Decision.{IsDecision}
 use Rattle.inliner_tool.specs.Tool.{CarriesOut, Ends, IsAnswer, status_of}
@@ -84,16 +84,17 @@ module _ (files : Files) (count : Count) (named : NamedCheck) (quiet : Rose coun
 
 -- ---- what is answered
 
--- To inputs that link the answer is the verdict, where the certificate is judged.
-pub answers_verdict : (main : List ℕ) (inputs : CheckInputs) (program : Program) → link_inputs main inputs ≡ Ok program → is_judged inputs.certificate.mode inputs.policy ≡ true
-    → check_answer main inputs ≡ verdict_answer program (verdict program (built inputs.policy) inputs.certificate)
-answers_verdict main inputs program links judged =
-    ap (linked_answer inputs.policy inputs.certificate) links
-    ∙ ap (λ (b : Bool). cond b (verdict_answer program (verdict program (built inputs.policy) inputs.certificate)) (answers.Refused refusals.NotBuilt)) judged
+-- To inputs that link the answer is the verdict.
+pub answers_verdict : (main : List ℕ) (inputs : CheckInputs) (program : Program) → link_inputs main inputs ≡ Ok program
+    → check_answer main inputs ≡ verdict_answer inputs.policy program (judged program (built inputs.policy) inputs.certificate)
+answers_verdict main inputs program links = ap (linked_answer inputs.policy inputs.certificate) links
 
-verdict_decides : (program : Program) (r : Result Accepted CheckFault) → IsDecision (status_of (verdict_answer program r))
-verdict_decides program (Ok accepted) = inl refl
-verdict_decides program (Err fault) = inr (inl refl)
+verdict_decides : (policy : PolicyTree) (program : Program) (r : Result Accepted Denial) → IsDecision (status_of (verdict_answer policy program r))
+verdict_decides policy program (Ok accepted) = inl refl
+verdict_decides policy program (Err (denials.Fault fault)) = inr (inl refl)
+verdict_decides policy program (Err (denials.CellLimit first second count)) = inr (inl refl)
+verdict_decides policy program (Err (denials.Racy condition state first second)) = inr (inl refl)
+verdict_decides policy program (Err denials.Memory) = inr (inr refl)
 
 pub check_decides : CheckDecides
 check_decides seen named answer is quiet names = by (check_says seen.old seen.count named quiet names.told inputs listing policy certificate classes seen.new answer is) where
@@ -114,6 +115,6 @@ check_decides seen named answer is quiet names = by (check_says seen.old seen.co
 
   by : (answer ≡ check_answer named.main inputs) ⊎ (answer ≡ answers.Memory) → IsDecision (status_of answer)
   by (inl same) =
-      subst (λ (a : Answer). IsDecision (status_of a)) (sym (same ∙ answers_verdict named.main inputs names.program names.links names.judged))
-      (verdict_decides names.program (verdict names.program (built names.policy) names.certificate))
+      subst (λ (a : Answer). IsDecision (status_of a)) (sym (same ∙ answers_verdict named.main inputs names.program names.links))
+      (verdict_decides names.policy names.program (judged names.program (built names.policy) names.certificate))
   by (inr memory) = subst (λ (a : Answer). IsDecision (status_of a)) (sym memory) (inr (inr refl))

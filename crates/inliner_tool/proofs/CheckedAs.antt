@@ -1,9 +1,9 @@
 -- What is answered where a program was checked.
-use Rattle.std.proofs.Common.{◌≡◌, ◌∙◌, ℕ, Bool, true, cond, List, Result, Ok, Err, ap, subst, sym}
+use Rattle.std.proofs.Common.{◌≡◌, ◌∙◌, ℕ, List, Result, Ok, Err, ap, subst, sym}
 use Rattle.std.specs.Prelude.{IfOk}
 use Rattle.bytecode_model.specs.declared.program.Program.{Program}
 use Rattle.cert_checker.specs.declared.checking.Accepted.{Accepted}
-use Rattle.cert_checker.specs.Acceptance.{verdict}
+use Rattle.cert_checker.specs.Judging.{judged}
 use Rattle.cert_format.specs.declared.certificate.Certificate.{Certificate}
 use Rattle.conspec_automaton.specs.Building.{built}
 use Rattle.conspec_tree.specs.declared.types.PolicyTree.{PolicyTree}
@@ -11,15 +11,13 @@ use Rattle.input_files.specs.declared.check_inputs.CheckInputs.{CheckInputs}
 use Rattle.inliner_tool.specs.declared.answer.Answer.{Answer}
 use Rattle.inliner_tool.specs.declared.answer.Answer.TheVariants as answers
 use Rattle.inliner_tool.specs.declared.check.Checked.{Checked}
-use Rattle.inliner_tool.specs.declared.refusal.Refusal.TheVariants as refusals
-use Rattle.inliner_tool.specs.Check.{IsCheckedAs, ProgramIsCheckedAs, check_answer, is_judged, link_inputs, linked_answer, program_answer, verdict_answer}
+use Rattle.inliner_tool.specs.Check.{IsCheckedAs, ProgramIsCheckedAs, check_answer, link_inputs, linked_answer, program_answer, verdict_answer}
 use Rattle.inliner_tool.specs.Programs.{Equals, Step, UnlessMemory}
 
--- The answer is the verdict, where the certificate is judged.
-pub judged_answer : (tree : PolicyTree) (certificate : Certificate) (program : Program) (accepted : Accepted) → is_judged certificate.mode tree ≡ true
-    → verdict program (built tree) certificate ≡ Ok accepted → program_answer tree certificate program ≡ answers.Accepted accepted
-judged_answer tree certificate program accepted judged is =
-    ap (λ (b : Bool). cond b (verdict_answer program (verdict program (built tree) certificate)) (answers.Refused refusals.NotBuilt)) judged ∙ ap (verdict_answer program) is
+-- The answer is the verdict.
+pub judged_answer : (tree : PolicyTree) (certificate : Certificate) (program : Program) (accepted : Accepted) → judged program (built tree) certificate ≡ Ok accepted
+    → program_answer tree certificate program ≡ answers.Accepted accepted
+judged_answer tree certificate program accepted is = ap (verdict_answer tree program) is
 
 -- The inputs link to the program that was checked.
 pub checked_so : (main : List ℕ) (inputs : CheckInputs) (linked : Step Program) (result : Result Checked Answer) → UnlessMemory (Equals (link_inputs main inputs)) linked

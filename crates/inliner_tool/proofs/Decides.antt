@@ -72,8 +72,6 @@ module _ (told : ToldAreRead) (contents : Contents) (count : Count) (quiet : Ros
   inlines_so named new (answers.Shown text) other says = refuses_so named new (answers.Shown text) other says.0
   inlines_so named new (answers.Judged verdict) other says = refuses_so named new (answers.Judged verdict) other says.0
   inlines_so named new answers.RaceFree other says = refuses_so named new answers.RaceFree other says.0
-  inlines_so named new (answers.Racy condition example) other says = refuses_so named new (answers.Racy condition example) other says.0
-  inlines_so named new (answers.CellLimit first second n) other says = refuses_so named new (answers.CellLimit first second n) other says.0
   inlines_so named new (answers.Replayed text) other says = refuses_so named new (answers.Replayed text) other says.0
   inlines_so named new (answers.Input name fault) other says = refuses_so named new (answers.Input name fault) other says.0
   inlines_so named new (answers.Refused refusal) other says = refuses_so named new (answers.Refused refusal) other says.0
@@ -105,8 +103,6 @@ module _ (told : ToldAreRead) (contents : Contents) (count : Count) (quiet : Ros
   meant words new (answers.Shown text) other (named, is, so) = command_so words new (answers.Shown text) other named is so
   meant words new (answers.Judged verdict) other (named, is, so) = command_so words new (answers.Judged verdict) other named is so
   meant words new answers.RaceFree other (named, is, so) = command_so words new answers.RaceFree other named is so
-  meant words new (answers.Racy condition example) other (named, is, so) = command_so words new (answers.Racy condition example) other named is so
-  meant words new (answers.CellLimit first second n) other (named, is, so) = command_so words new (answers.CellLimit first second n) other named is so
   meant words new (answers.Inlined accepted classes) other (named, is, so) = command_so words new (answers.Inlined accepted classes) other named is so
   meant words new (answers.Replayed text) other (named, is, so) = command_so words new (answers.Replayed text) other named is so
   meant words new (answers.Input name fault) other (named, is, so) = command_so words new (answers.Input name fault) other named is so

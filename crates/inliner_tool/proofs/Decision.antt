@@ -2,6 +2,7 @@
 use Rattle.std.proofs.Common.{◌≡◌, ◌⊎◌, inl, inr, Result, Ok, Err, refl, sym, ap, subst, ◌∙◌}
 use Rattle.api_listing.specs.declared.types.Listing.{Listing}
 use Rattle.conspec_automaton.specs.Building.{built}
+use Rattle.conspec_tree.specs.declared.types.PolicyTree.{PolicyTree}
 use Rattle.mon_store.specs.Store.{Files, Rose}
 use Rattle.command_words.specs.Words.{NamedRace, Race}
 use Rattle.input_files.specs.declared.files.Stop.{Stop}
@@ -20,16 +21,16 @@ use Rattle.inliner_tool.specs.declared.answer.Answer.TheVariants as answers
 use Rattle.inliner_tool.specs.Answers.{stopped}
 use Rattle.inliner_tool.proofs.Told.{may_read, says_of, stops_once, tree_once}
 use Rattle.inliner_tool.specs.Decision.{IsDecision, NamesPolicy, RaceDecides}
-use Rattle.inliner_tool.specs.Race.{decided_answer, race_answer}
+use Rattle.inliner_tool.specs.Race.{free_answer, race_answer, race_step}
 use Rattle.inliner_tool.specs.Tool.{CarriesOut, Ends, status_of}
 
 -- ---- what is answered
 
-verdict_decides : (inputs : RaceInputs) (decision : Result RaceVerdict RaceFault) → IsDecision (status_of (decided_answer inputs decision))
-verdict_decides inputs (Ok verdicts.Free) = inl refl
-verdict_decides inputs (Ok (verdicts.Racy condition state first second)) = inr (inl refl)
-verdict_decides inputs (Err (faults.CellLimit first second count)) = inr (inl refl)
-verdict_decides inputs (Err faults.Memory) = inr (inr refl)
+step_decides : (policy : PolicyTree) (listing : Listing) (decision : Result RaceVerdict RaceFault) → IsDecision (status_of (free_answer (race_step policy listing decision)))
+step_decides policy listing (Ok verdicts.Free) = inl refl
+step_decides policy listing (Ok (verdicts.Racy condition state first second)) = inr (inl refl)
+step_decides policy listing (Err (faults.CellLimit first second count)) = inr (inl refl)
+step_decides policy listing (Err faults.Memory) = inr (inr refl)
 
 module _ (files : Files) (count : Count) (named : NamedRace) (quiet : Rose count.before count.now → ⊥) (names : NamesPolicy files named) where
   listing_stops : (stop : Stop) → ReadsForm files count named.listing listing_form (Err stop) → stop ≡ stops.Memory
@@ -47,7 +48,7 @@ module _ (files : Files) (count : Count) (named : NamedRace) (quiet : Rose count
   race_stops stop (inr (listing, first, inr (policy, second, none))) = absurd none
 
   ends_decide : (answer : Answer) → Ends (ReadsRace files count named) race_answer answer → IsDecision (status_of answer)
-  ends_decide answer (inl (inputs, read, is)) = subst (λ (a : Answer). IsDecision (status_of a)) (sym is) (verdict_decides inputs (decided (built inputs.policy)))
+  ends_decide answer (inl (inputs, read, is)) = subst (λ (a : Answer). IsDecision (status_of a)) (sym is) (step_decides inputs.policy inputs.listing (decided (built inputs.policy)))
   ends_decide answer (inr (stop, read, is)) =
       let memory : answer ≡ answers.Memory = is ∙ ap stopped (race_stops stop read) in
       subst (λ (a : Answer). IsDecision (status_of a)) (sym memory) (inr (inr refl))

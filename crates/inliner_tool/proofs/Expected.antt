@@ -5,6 +5,7 @@ use Rattle.std.proofs.lemmas.Option.{slice_get_within}
 use Rattle.api_listing.specs.declared.types.Listing.{Listing}
 use Rattle.api_listing.specs.Listing.{SpellsListing}
 use Rattle.block_logic.specs.Accepted.{IsAccepted}
+use Rattle.block_logic.specs.Formed.{RunsAreFormed}
 use Rattle.block_template.specs.Blocks.{plan_of}
 use Rattle.block_template.specs.Good.{PlansAreGood}
 use Rattle.bytecode_model.specs.declared.program.Program.{Program}
@@ -12,6 +13,7 @@ use Rattle.bytecode_model.specs.declared.program.Side.TheVariants.{Inlined, Orig
 use Rattle.bytecode_model.specs.declared.program.Target.TheVariants as target
 use Rattle.bytecode_model.specs.Named.{AreRightOperands}
 use Rattle.bytecode_model.specs.Layout.{IsLaidOut}
+use Rattle.bytecode_model.specs.Order.{IsInOrder}
 use Rattle.bytecode_model.specs.Sound.{IsSound, IsSoundClass, IsSoundMethod}
 use Rattle.bytecode_model.specs.Standing.{IsLinkedOf}
 use Rattle.bytecode_model.specs.Typed.{IsTyped}
@@ -19,7 +21,7 @@ use Rattle.bytecode_model.proofs.Lists.{all_get}
 use Rattle.cert_format.specs.declared.certificate.Mode.{Mode}
 use Rattle.cert_format.specs.declared.typing.Typing.{Typing}
 use Rattle.cert_maker.specs.Accepting.{IsStopped, WovenIsAccepted}
-use Rattle.class_linking.specs.Laws.{LinkedIsInOrder, LinkedOperandsAreRight}
+use Rattle.class_linking.specs.Laws.{LinkedAreNamed, LinkedIsInOrder, LinkedOperandsAreRight}
 use Rattle.class_linking.specs.Linking.{linked}
 use Rattle.class_weaving.specs.declared.woven.Woven.{Woven}
 use Rattle.class_weaving.specs.Outcome.{IsWoven}
@@ -29,6 +31,7 @@ use Rattle.conspec_automaton.specs.Building.{built}
 use Rattle.conspec_parse.specs.Telling.{KindsAreTold, ResultsAreTold}
 use Rattle.input_files.specs.declared.inline_inputs.InlineInputs.{InlineInputs}
 use Rattle.input_files.specs.InlineInputs.{InlineSound}
+use Rattle.input_files.specs.Named.{IsListed, IsPolicyOf}
 use Rattle.cert_maker.specs.ToldIsTyped.{IsTypedStill, ToldIsTyped}
 use Rattle.woven_linking.specs.Links.{OriginalIsFree, WovenLinks}
 use Rattle.woven_linking.specs.Program.{IsWovenOf, WovenFilesComeBack, WovenFilesHaveRoom, WovenProgramIsLinked, WovenProgramIsSound}
@@ -43,11 +46,13 @@ use Rattle.woven_typing.specs.WovenTyping.{BlocksAreReachedSo, IsGiven, IsTypedS
 use Rattle.inliner_tool.specs.declared.inline.Given.{Given}
 use Rattle.inliner_tool.specs.Expected.{IsExpected, woven_program}
 use Rattle.inliner_tool.specs.Policy.{IsSoundFor}
+use Rattle.inliner_tool.specs.Running.{IsLinkedProgram, LinkedRunTyped}
 use Rattle.inliner_tool.specs.Programs.{woven_links}
 use Rattle.inliner_tool.specs.Weaving.{certificate_for}
 use Rattle.inliner_tool.proofs.Blocks.{numbers, of_inputs, remade, same_program}
 use Rattle.inliner_tool.proofs.Counting.{assembled_of}
 use Rattle.inliner_tool.proofs.Spelled.{can_spell}
+use Rattle.inliner_tool.proofs.TypedRuns.{runs_formed}
 
 and_false : (b : Bool) → (b && false) ≡ false
 and_false true = refl
@@ -77,6 +82,7 @@ module _ (old new : Program) (policy : Policy) (mode : Mode) (typing : Typing) (
 module _ (links : WovenLinks) (good : PlansAreGood) (free : OriginalIsFree) (order : LinkedIsInOrder) (right : LinkedOperandsAreRight)
     (kinds : KindsAreTold) (results : ResultsAreTold) (tells : PoliciesTell) (knows : ListingsKnowThrowable) (types : WovenIsTyped) (reaches : BlocksAreReachedSo)
     (stays : ToldIsTyped) (accepts : WovenIsAccepted) (linked_so : WovenProgramIsLinked) (back : WovenFilesComeBack) (room : WovenFilesHaveRoom) (sound_so : WovenProgramIsSound)
+    (named : LinkedAreNamed) (run : LinkedRunTyped)
     (inputs : InlineInputs) (known : InlineSound inputs) (main : List ℕ) (given : Given) (made : Woven)
     (client_links : linked inputs.classes.files inputs.listing main Original ≡ Ok given.client) (sound : IsSound given.client) (of : IsLinkedOf Original inputs.listing main given.client)
     (is : given.policy ≡ built inputs.policy) (sound_for : IsSoundFor given.client.listing given.policy) (weaves : woven given.client (plan_of given.policy given.mode) given.policy.vars ≡ Ok made)
@@ -138,6 +144,31 @@ module _ (links : WovenLinks) (good : PlansAreGood) (free : OriginalIsFree) (ord
       (numbers links good inputs known main given made client_links sound is sound_for.read weaves) sound of.standing sound_new
       (accepted sound_new).frames (accepted sound_new).notes fits written
 
+  accepted_again : IsAccepted (woven_program given made) given.policy (certificate_for given (woven_program given made))
+  accepted_again = subst (λ (p : Program). IsSound p → IsAccepted p given.policy (certificate_for given p)) same accepted new_sound
+
+  order_again : IsInOrder (woven_program given made)
+  order_again = order known.listed.text inputs.listing made.files main Inlined (woven_program given made) known.listed.spells linked_again
+
+  linked_of_new : IsLinkedOf Inlined inputs.listing main (woven_program given made)
+  linked_of_new = named made.files inputs.listing main Inlined (woven_program given made) linked_again new_sound
+
+  linked_program : IsLinkedProgram (woven_program given made)
+  linked_program = record {
+    side = Inlined;
+    main = main;
+    listed = subst IsListed (sym linked_of_new.listing_is) known.listed;
+    linked = subst (λ (l : Listing). IsLinkedOf Inlined l main (woven_program given made)) (sym linked_of_new.listing_is) linked_of_new;
+    sound = new_sound;
+    order = order_again;
+  }
+
+  formed : RunsAreFormed (woven_program given made) given.policy
+  formed =
+      let runs = run (woven_program given made) (certificate_for given (woven_program given made)).typing linked_program accepted_again.typed in
+      subst (RunsAreFormed (woven_program given made)) (sym is)
+      (runs_formed (woven_program given made) (certificate_for given (woven_program given made)).typing inputs.policy runs (subst (λ (l : Listing). IsPolicyOf l inputs.policy) (sym linked_of_new.listing_is) known.policy))
+
   pub expected : IsExpected main given made
   expected = record {
     client = sound;
@@ -145,7 +176,8 @@ module _ (links : WovenLinks) (good : PlansAreGood) (free : OriginalIsFree) (ord
     links = ap (λ (l : Listing). woven_links made.files l main) of.listing_is ∙ linked_again;
     back = back inputs.listing inputs.classes.files main given.client (plan_of given.policy given.mode) given.policy.vars made woven_of;
     sound = new_sound;
-    order = order known.listed.text inputs.listing made.files main Inlined (woven_program given made) known.listed.spells linked_again;
-    accepted = subst (λ (p : Program). IsSound p → IsAccepted p given.policy (certificate_for given p)) same accepted new_sound;
+    order = order_again;
+    accepted = accepted_again;
+    formed = formed;
     spells = subst (λ (p : Program). IsSound p → FitsTyping (certificate_for given p).typing → is_written (certificate_for given p) ≡ true → spell.CanSpell (length given.policy.vars) (certificate_for given p)) same spelled new_sound;
   }

@@ -34,7 +34,7 @@ use Rattle.inliner_tool.specs.Inline.{Inlines, Refuses}
 use Rattle.inliner_tool.specs.InlineDecision.{InlineDecides, IsWeaving, NamesWoven}
 use Rattle.inliner_tool.specs.Programs.{Equals, Step}
 use Rattle.inliner_tool.specs.Tool.{CarriesOut}
-use Rattle.inliner_tool.specs.Weaving.{Chosen, Fits, Plans, Told, Typed, certificate_for, outputs_step, weave_step}
+use Rattle.inliner_tool.specs.Weaving.{Chosen, Fits, Plans, Told, Typed, certificate_for, mode_for, outputs_step, weave_step}
 use Rattle.inliner_tool.proofs.RunDecision.{types_are_found}
 use Rattle.inliner_tool.proofs.Told.{may_read, says_of, stops_once, tree_once}
 use Rattle.inliner_tool.proofs.ToldClasses.{classes_stop, may_classes, same_classes}
@@ -69,10 +69,10 @@ module _ (files : Files) (named : NamedInline) (names : NamesWoven files named) 
 
   mode_fails : (client : Program) (typing : Typing) → client ≡ names.client → (e : Refusal) → Chosen named names.policy client typing (Err e) → IsWeaving (refused e)
   mode_fails client typing same e (inl none) =
-      let wrong : ◌≡◌ {A = Step Mode} (Err e) (Ok names.mode) = none ∙ names.chosen in
+      let wrong : ◌≡◌ {A = Step Mode} (Err e) (Ok names.mode) = none ∙ ap (λ (p : Program). mode_for named.weaving names.policy p.listing) same ∙ names.chosen in
       absurd cc
   mode_fails client typing same e (inr (mode, first, fits)) =
-      let right : ◌≡◌ {A = Step Mode} (Ok mode) (Ok names.mode) = first ∙ names.chosen in
+      let right : ◌≡◌ {A = Step Mode} (Ok mode) (Ok names.mode) = first ∙ ap (λ (p : Program). mode_for named.weaving names.policy p.listing) same ∙ names.chosen in
       let is : mode ≡ names.mode = cc in
       sizes_fail (record { client = client; typing = typing; policy = built names.policy; mode = mode }) same refl is e fits
 
@@ -139,8 +139,6 @@ module _ (files : Files) (named : NamedInline) (names : NamesWoven files named) 
     inlines_decide new (answers.Shown text) says = refuses_decide new (answers.Shown text) says.0
     inlines_decide new (answers.Judged verdict) says = refuses_decide new (answers.Judged verdict) says.0
     inlines_decide new answers.RaceFree says = refuses_decide new answers.RaceFree says.0
-    inlines_decide new (answers.Racy condition example) says = refuses_decide new (answers.Racy condition example) says.0
-    inlines_decide new (answers.CellLimit first second n) says = refuses_decide new (answers.CellLimit first second n) says.0
     inlines_decide new (answers.Replayed text) says = refuses_decide new (answers.Replayed text) says.0
     inlines_decide new (answers.Input name fault) says = refuses_decide new (answers.Input name fault) says.0
     inlines_decide new (answers.Refused refusal) says = refuses_decide new (answers.Refused refusal) says.0

@@ -16,7 +16,7 @@ use Rattle.input_files.specs.InlineInputs.{InlineSound}
 use Rattle.inliner_tool.specs.declared.inline.Given.{Given}
 use Rattle.inliner_tool.specs.Expected.{IsMadeOf}
 use Rattle.inliner_tool.specs.Programs.{AreTypes}
-use Rattle.inliner_tool.specs.Weaving.{IsGathered, original}
+use Rattle.inliner_tool.specs.Weaving.{IsGathered, mode_for, original}
 use Rattle.inliner_tool.proofs.Blocks.{few_woven, inputs_link}
 use Rattle.inliner_tool.proofs.Planned.{sound_for}
 
@@ -29,6 +29,9 @@ module _ (inputs : InlineInputs) (client : Program) (given : Given) (gathered : 
 
   pub client_typed : AreTypes client given.typing → AreTypes given.client given.typing
   client_typed typed = subst (λ (p : Program). AreTypes p given.typing) (sym gathered.client) typed
+
+  pub client_chosen : (named : NamedInline) → mode_for named.weaving inputs.policy client.listing ≡ Ok given.mode → mode_for named.weaving inputs.policy given.client.listing ≡ Ok given.mode
+  client_chosen named chosen = ap (λ (p : Program). mode_for named.weaving inputs.policy p.listing) gathered.client ∙ chosen
 
   pub client_laid_out : IsLaidOut given.client given.typing.frames
   client_laid_out = subst (λ (p : Program). IsLaidOut p given.typing.frames) (sym gathered.client) gathered.laid_out

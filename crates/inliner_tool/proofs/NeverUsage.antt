@@ -1,9 +1,10 @@
 -- What is answered to inputs is never that the words are no command's.
-use Rattle.std.proofs.Common.{◌≡◌, ℕ, Bool, true, false, cond, List, Ok, Err, sym}
+use Rattle.std.proofs.Common.{◌≡◌, ℕ, List, Ok, Err, sym}
 use Rattle.bytecode_model.specs.declared.program.Program.{Program}
 use Rattle.cert_checker.specs.declared.checking.Accepted.{Accepted}
-use Rattle.cert_checker.specs.declared.fault.CheckFault.{CheckFault}
-use Rattle.cert_checker.specs.Acceptance.{verdict}
+use Rattle.cert_checker.specs.declared.judging.Denial.{Denial}
+use Rattle.cert_checker.specs.declared.judging.Denial.TheVariants as denials
+use Rattle.cert_checker.specs.Judging.{judged}
 use Rattle.std.specs.Prelude.{Result}
 use Rattle.cert_format.specs.declared.certificate.Certificate.{Certificate}
 use Rattle.conspec_automaton.specs.Building.{built}
@@ -14,38 +15,33 @@ use Rattle.inliner_tool.specs.declared.refusal.Refusal.{Refusal}
 use Rattle.inliner_tool.specs.declared.refusal.Refusal.TheVariants as refusals
 use Rattle.input_files.specs.declared.check_inputs.CheckInputs.{CheckInputs}
 use Rattle.inliner_tool.specs.Answers.{Is, refused}
-use Rattle.inliner_tool.specs.Check.{check_answer, is_judged, linked_answer, link_inputs, verdict_answer}
+use Rattle.inliner_tool.specs.Check.{check_answer, linked_answer, link_inputs, verdict_answer}
 use Rattle.inliner_tool.specs.Programs.{Step}
-use Rattle.inliner_tool.specs.Race.{decided_answer, fault_answer, race_answer, verdict_answer as race_verdict_answer}
+use Rattle.inliner_tool.specs.Race.{free_answer, race_answer, race_step}
 use Rattle.inliner_tool.specs.Tool.{IsAnswer}
 use Rattle.input_files.specs.declared.race_inputs.RaceInputs.{RaceInputs}
-use Rattle.race_free_check.specs.declared.fault.RaceFault.{RaceFault}
-use Rattle.race_free_check.specs.declared.fault.RaceFault.TheVariants as faults
-use Rattle.race_free_check.specs.declared.verdict.RaceVerdict.{RaceVerdict}
-use Rattle.race_free_check.specs.declared.verdict.RaceVerdict.TheVariants as verdicts
 use Rattle.race_free_check.specs.Deciding.{decided}
 
-no_verdict : (program : Program) (verdict : Result Accepted CheckFault) → verdict_answer program verdict ≡ answers.Usage → ⊥
-no_verdict program (Ok accepted) e = absurd cc
-no_verdict program (Err fault) e = absurd cc
-
-no_choice : (b : Bool) (judged : Answer) → (judged ≡ answers.Usage → ⊥) → cond b judged (answers.Refused refusals.NotBuilt) ≡ answers.Usage → ⊥
-no_choice true judged none e = none e
-no_choice false judged none e = absurd cc
+no_verdict : (policy : PolicyTree) (program : Program) (verdict : Result Accepted Denial) → verdict_answer policy program verdict ≡ answers.Usage → ⊥
+no_verdict policy program (Ok accepted) e = absurd cc
+no_verdict policy program (Err (denials.Fault fault)) e = absurd cc
+no_verdict policy program (Err (denials.CellLimit first second count)) e = absurd cc
+no_verdict policy program (Err (denials.Racy condition state first second)) e = absurd cc
+no_verdict policy program (Err denials.Memory) e = absurd cc
 
 no_refusal : (refusal : Refusal) → refused refusal ≡ answers.Usage → ⊥
 no_refusal (refusals.TotalLong len) e = absurd cc
 no_refusal (refusals.Link fault) e = absurd cc
 no_refusal (refusals.Untyped class method at) e = absurd cc
-no_refusal refusals.NotBuilt e = absurd cc
+no_refusal (refusals.Racy condition example) e = absurd cc
+no_refusal (refusals.CellLimit first second count) e = absurd cc
 no_refusal (refusals.Overflow class method what value) e = absurd cc
 no_refusal (refusals.LongCertificate value) e = absurd cc
 no_refusal (refusals.NotEnabled index) e = absurd cc
 no_refusal refusals.Memory e = absurd cc
 
 no_linked : (policy : PolicyTree) (certificate : Certificate) (linked : Step Program) → linked_answer policy certificate linked ≡ answers.Usage → ⊥
-no_linked policy certificate (Ok program) e =
-    no_choice (is_judged certificate.mode policy) (verdict_answer program (verdict program (built policy) certificate)) (no_verdict program (verdict program (built policy) certificate)) e
+no_linked policy certificate (Ok program) e = no_verdict policy program (judged program (built policy) certificate) e
 no_linked policy certificate (Err refusal) e = no_refusal refusal e
 
 no_usage : (main : List ℕ) (inputs : CheckInputs) → check_answer main inputs ≡ answers.Usage → ⊥
@@ -53,20 +49,12 @@ no_usage main inputs e = no_linked inputs.policy inputs.certificate (link_inputs
 
 -- ---- policies by themselves
 
-no_race_verdict : (inputs : RaceInputs) (verdict : RaceVerdict) → race_verdict_answer inputs verdict ≡ answers.Usage → ⊥
-no_race_verdict inputs verdicts.Free e = absurd cc
-no_race_verdict inputs (verdicts.Racy condition state first second) e = absurd cc
-
-no_race_fault : (fault : RaceFault) → fault_answer fault ≡ answers.Usage → ⊥
-no_race_fault (faults.CellLimit first second count) e = absurd cc
-no_race_fault faults.Memory e = absurd cc
-
-no_decision : (inputs : RaceInputs) (decision : Result RaceVerdict RaceFault) → decided_answer inputs decision ≡ answers.Usage → ⊥
-no_decision inputs (Ok verdict) e = no_race_verdict inputs verdict e
-no_decision inputs (Err fault) e = no_race_fault fault e
+no_race_step : (step : Step (Unit {0})) → free_answer step ≡ answers.Usage → ⊥
+no_race_step (Ok free) e = absurd cc
+no_race_step (Err refusal) e = no_refusal refusal e
 
 no_race_usage : (inputs : RaceInputs) → race_answer inputs ≡ answers.Usage → ⊥
-no_race_usage inputs e = no_decision inputs (decided (built inputs.policy)) e
+no_race_usage inputs e = no_race_step (race_step inputs.policy inputs.listing (decided (built inputs.policy))) e
 
 -- ---- answers
 
@@ -77,8 +65,6 @@ says wanted (answers.Denied fault label) P none is so = so is
 says wanted (answers.Shown text) P none is so = so is
 says wanted (answers.Judged verdict) P none is so = so is
 says wanted answers.RaceFree P none is so = so is
-says wanted (answers.Racy condition example) P none is so = so is
-says wanted (answers.CellLimit first second count) P none is so = so is
 says wanted (answers.Inlined accepted classes) P none is so = so is
 says wanted (answers.Replayed text) P none is so = so is
 says wanted (answers.Input name fault) P none is so = so is

@@ -81,14 +81,16 @@ untyped_same program (refusals.Untyped label method at) (refusals.Untyped other 
     rw (name, same.1.0, same.1.1) refl
 untyped_same program (refusals.TotalLong len) b one two = absurd one
 untyped_same program (refusals.Link fault) b one two = absurd one
-untyped_same program refusals.NotBuilt b one two = absurd one
+untyped_same program (refusals.Racy condition example) b one two = absurd one
+untyped_same program (refusals.CellLimit first second count) b one two = absurd one
 untyped_same program (refusals.Overflow class method what value) b one two = absurd one
 untyped_same program (refusals.LongCertificate value) b one two = absurd one
 untyped_same program (refusals.NotEnabled index) b one two = absurd one
 untyped_same program refusals.Memory b one two = absurd one
 untyped_same program (refusals.Untyped label method at) (refusals.TotalLong len) one two = absurd two
 untyped_same program (refusals.Untyped label method at) (refusals.Link fault) one two = absurd two
-untyped_same program (refusals.Untyped label method at) refusals.NotBuilt one two = absurd two
+untyped_same program (refusals.Untyped label method at) (refusals.Racy condition example) one two = absurd two
+untyped_same program (refusals.Untyped label method at) (refusals.CellLimit first second count) one two = absurd two
 untyped_same program (refusals.Untyped label method at) (refusals.Overflow class index what value) one two = absurd two
 untyped_same program (refusals.Untyped label method at) (refusals.LongCertificate value) one two = absurd two
 untyped_same program (refusals.Untyped label method at) (refusals.NotEnabled index) one two = absurd two

@@ -53,7 +53,7 @@ module _ (named : NamedInline) (inputs : InlineInputs) (client : Program) (links
             let is : given ≡ record { client = client; typing = typing; policy = built inputs.policy; mode = mode } = ok_is Refusal given _ same in
             later (Equals (original inputs.listing inputs.classes named.main)) (Typed named inputs.policy) client links result
             (later (Types client) (Chosen named inputs.policy client) typing typed result
-            (later (Equals (mode_for named.weaving inputs.policy)) (λ m. Fits named.main named.folder (record { client = client; typing = typing; policy = built inputs.policy; mode = m })) mode chosen result
+            (later (Equals (mode_for named.weaving inputs.policy client.listing)) (λ m. Fits named.main named.folder (record { client = client; typing = typing; policy = built inputs.policy; mode = m })) mode chosen result
             (subst (λ (g : Given). UnlessMemory (Fits named.main named.folder g) result) is told)))
 
     pub plan_fails : (e : Refusal) → UnlessMemory (Equals (weave_step (woven given.client (plan_of given.policy given.mode) given.policy.vars))) (Err e) → UnlessMemory (Plans named inputs) (Err e)
@@ -66,10 +66,10 @@ module _ (named : NamedInline) (inputs : InlineInputs) (client : Program) (links
         fits_so result (later (Equals (weave_step (woven given.client (plan_of given.policy given.mode) given.policy.vars))) (Remakes named.main named.folder given) made weaves result told)
 
     -- the types that were found, and the mode that was chosen
-    pub typed_so : AreTypes client given.typing × (mode_for named.weaving inputs.policy ≡ Ok given.mode)
+    pub typed_so : AreTypes client given.typing × (mode_for named.weaving inputs.policy client.listing ≡ Ok given.mode)
     typed_so = by gathers
       where
-        by : Gathers named.weaving inputs.policy client (Ok given) → AreTypes client given.typing × (mode_for named.weaving inputs.policy ≡ Ok given.mode)
+        by : Gathers named.weaving inputs.policy client (Ok given) → AreTypes client given.typing × (mode_for named.weaving inputs.policy client.listing ≡ Ok given.mode)
         by (typing, typed, (mode, chosen, same)) =
             let is : given ≡ record { client = client; typing = typing; policy = built inputs.policy; mode = mode } = ok_is Refusal given _ same in
-            (subst (λ (g : Given). AreTypes client g.typing) (sym is) typed, subst (λ (g : Given). mode_for named.weaving inputs.policy ≡ Ok g.mode) (sym is) (sym chosen))
+            (subst (λ (g : Given). AreTypes client g.typing) (sym is) typed, subst (λ (g : Given). mode_for named.weaving inputs.policy client.listing ≡ Ok g.mode) (sym is) (sym chosen))

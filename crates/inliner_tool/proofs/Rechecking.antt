@@ -11,10 +11,8 @@ use Rattle.bytecode_model.specs.Files.{max_files, unlinked}
 use Rattle.bytecode_model.specs.Sound.{IsSoundClass}
 use Rattle.bytecode_model.specs.Standing.{IsLinkedOf}
 use Rattle.bytecode_model.proofs.Lists.{all_get}
-use Rattle.cert_checker.specs.Acceptance.{verdict}
+use Rattle.cert_checker.specs.Judging.{judged}
 use Rattle.cert_format.specs.declared.certificate.Certificate.{Certificate}
-use Rattle.cert_format.specs.declared.certificate.Mode.{Mode}
-use Rattle.cert_format.specs.declared.certificate.Mode.TheVariants as modes
 use Rattle.cert_format.specs.declared.fault.CertForm.{CertForm}
 use Rattle.cert_format.specs.declared.fault.CertForm.TheVariants as certificates
 use Rattle.cert_format.specs.Fits.{CanSpell}
@@ -30,11 +28,8 @@ use Rattle.class_codec.specs.Spelling.{spelling}
 use Rattle.class_codec.proofs.FileLaws.{is_only as class_only}
 use Rattle.class_linking.specs.Laws.{LinkedAreNamed}
 use Rattle.class_linking.specs.Linking.{linked}
-use Rattle.command_words.specs.declared.inline_words.Weaving.{Weaving}
-use Rattle.command_words.specs.declared.inline_words.Weaving.TheVariants as weavings
 use Rattle.command_words.specs.InlineWords.{NamedInline}
 use Rattle.command_words.specs.Words.{Check, NamedCheck}
-use Rattle.conspec_automaton.specs.Denying.{denies_only}
 use Rattle.conspec_tree.specs.declared.types.PolicyTree.{PolicyTree}
 use Rattle.mon_base.specs.Answer.{Answers}
 use Rattle.mon_store.specs.Outputs.{all_written}
@@ -48,13 +43,12 @@ use Rattle.inliner_tool.specs.declared.answer.Answer.{Answer}
 use Rattle.inliner_tool.specs.declared.answer.Answer.TheVariants as answers
 use Rattle.inliner_tool.specs.declared.refusal.Refusal.TheVariants as refusals
 use Rattle.inliner_tool.specs.declared.tool.Status.TheVariants as statuses
-use Rattle.inliner_tool.specs.Check.{check_answer, is_judged, verdict_answer}
+use Rattle.inliner_tool.specs.Check.{check_answer, verdict_answer}
 use Rattle.inliner_tool.specs.Inline.{IsInlined}
 use Rattle.inliner_tool.specs.Programs.{link_step, program_of}
 use Rattle.inliner_tool.specs.Rechecking.{NamesWritten, WrittenIsAccepted, size_of, sizes_of}
 use Rattle.inliner_tool.specs.Seen.{Seen}
 use Rattle.inliner_tool.specs.Tool.{CarriesOut, IsAnswer, status_of}
-use Rattle.inliner_tool.specs.Weaving.{mode_for}
 use Rattle.inliner_tool.proofs.CheckDecision.{answers_verdict, check_says}
 use Rattle.inliner_tool.proofs.Counting.{linked_of}
 use Rattle.inliner_tool.proofs.Told.{MayRead, may_read}
@@ -133,27 +127,6 @@ all_by : {A : Type 0} (P : A → Type 0) (list : List A) → ((i : ℕ) (x : A) 
 all_by P [] each = tt
 all_by P (x ∷ list) each = (each zero x refl, all_by P list (λ i y e. each (suc i) y e))
 
--- ---- modes
-
--- What is woven in a mode is judged in it.
-chosen_judged : (weaving : Weaving) (policy : PolicyTree) (mode : Mode) → mode_for weaving policy ≡ Ok mode → is_judged mode policy ≡ true
-chosen_judged weaving policy mode e = by weaving e where
-  hold : (m : Mode) → modes.Hold ≡ m → is_judged m policy ≡ true
-  hold m same = subst (λ (x : Mode). is_judged x policy ≡ true) same refl
-
-  release : (b : Bool) → denies_only policy ≡ b → cond b (Ok modes.Release) (Err refusals.NotBuilt) ≡ Ok mode → is_judged mode policy ≡ true
-  release true denies e =
-      let same : modes.Release ≡ mode = cc in
-      subst (λ (x : Mode). is_judged x policy ≡ true) same denies
-  release false denies e = absurd cc
-
-  by : (w : Weaving) → mode_for w policy ≡ Ok mode → is_judged mode policy ≡ true
-  by weavings.Hold e =
-      let same : modes.Hold ≡ mode = cc in
-      hold mode same
-  by weavings.Release e = release (denies_only policy) refl e
-  by weavings.Auto e = release (denies_only policy) refl e
-
 -- ---- the whole
 
 module _ (law : LinkedAreNamed) (seen : Seen) (named : NamedInline) (told : IsSome seen.old) (inlined : IsInlined seen named) (check : NamedCheck) (names : NamesWritten inlined check) where
@@ -231,13 +204,10 @@ module _ (law : LinkedAreNamed) (seen : Seen) (named : NamedInline) (told : IsSo
       many_files [] = refl
       many_files (c ∷ list) = ap suc (many_files list)
 
-  judged : is_judged certificate.mode tree ≡ true
-  judged = ap (λ (m : Mode). is_judged m tree) inlined.planned.rewoven.mode_is ∙ chosen_judged named.weaving tree inlined.planned.given.mode inlined.planned.chosen
-
   accepts : check_answer check.main inputs ≡ answers.Accepted inlined.ready.accepted
   accepts =
-      answers_verdict check.main inputs program links judged
-      ∙ ap (verdict_answer program) (subst (λ p. verdict program p certificate ≡ Ok inlined.ready.accepted) inlined.planned.policy inlined.planned.rewoven.verdict)
+      answers_verdict check.main inputs program links
+      ∙ ap (verdict_answer tree program) (subst (λ p. judged program p certificate ≡ Ok inlined.ready.accepted) inlined.planned.policy inlined.planned.rewoven.verdict)
 
   pub accepted_again : (later : Files) (again : Count) (answer : Answer) → IsAnswer (λ (a : Answer). CarriesOut (record { old = new; new = later; count = again }) (Check check) a) answer → (Rose again.before again.now → ⊥)
       → (status_of answer ≡ statuses.Done) ⊎ (status_of answer ≡ statuses.Memory)

@@ -47,7 +47,8 @@ pub types_are_found : (program : Program) → IsTypable program → (e : Refusal
 types_are_found program typable (refusals.Untyped label method at) told = typed_nowhere program told.0 method at typable told.2
 types_are_found program typable (refusals.TotalLong len) told = told
 types_are_found program typable (refusals.Link fault) told = told
-types_are_found program typable refusals.NotBuilt told = told
+types_are_found program typable (refusals.Racy condition example) told = told
+types_are_found program typable (refusals.CellLimit first second count) told = told
 types_are_found program typable (refusals.Overflow class method what value) told = told
 types_are_found program typable (refusals.LongCertificate value) told = told
 types_are_found program typable (refusals.NotEnabled index) told = told

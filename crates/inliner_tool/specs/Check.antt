@@ -1,23 +1,22 @@
--- What is answered to a check. (docs/FORMS.md)
-use Rattle.std.specs.Prelude.{◌≡◌, ℕ, ◌||◌, Bool, true, false, codes, List, if◌then◌else◌, Option, Some, None, Result, Ok, Err}
+-- What is answered to a check. (docs/COMMANDS.md)
+use Rattle.std.specs.Prelude.{◌≡◌, ℕ, codes, List, Option, Some, None, Result, Ok, Err}
 use Rattle.std.specs.Option.{option_map_or}
 use Rattle.bytecode_model.specs.declared.program.Program.{Program}
 use Rattle.bytecode_model.specs.declared.program.Side.TheVariants.{Inlined}
 use Rattle.cert_checker.specs.declared.checking.Accepted.{Accepted}
 use Rattle.cert_checker.specs.declared.fault.CheckFault.{CheckFault}
 use Rattle.cert_checker.specs.declared.fault.CheckFault.TheVariants.{Shape, StateClass, Typing, Local}
-use Rattle.block_logic.specs.Accepted.{IsAccepted}
 use Rattle.block_logic.specs.Annotations.{annotations_of}
 use Rattle.block_logic.specs.Obeying.{EventsAreLocked}
 use Rattle.block_logic.specs.Outside.{LeavesBlocks}
-use Rattle.cert_checker.specs.Acceptance.{verdict}
+use Rattle.cert_checker.specs.declared.judging.Denial.{Denial}
+use Rattle.cert_checker.specs.declared.judging.Denial.TheVariants as denials
+use Rattle.cert_checker.specs.Judging.{IsAllowed, judged}
 use Rattle.cert_checker.specs.Secure.{Secure}
 use Rattle.cert_format.specs.declared.certificate.Certificate.{Certificate}
-use Rattle.cert_format.specs.declared.certificate.Mode.{Mode}
-use Rattle.cert_format.specs.declared.certificate.Mode.TheVariants.{Hold, Release}
+use Rattle.cert_format.specs.declared.certificate.Mode.TheVariants.{Hold}
 use Rattle.conspec_automaton.specs.declared.policy.Policy.{Policy}
 use Rattle.conspec_automaton.specs.Building.{built}
-use Rattle.conspec_automaton.specs.Denying.{denies_only}
 use Rattle.conspec_tree.specs.declared.types.PolicyTree.{PolicyTree}
 use Rattle.inliner_tool.specs.declared.answer.Answer.{Answer}
 use Rattle.inliner_tool.specs.declared.answer.Answer.TheVariants as answers
@@ -28,6 +27,7 @@ use Rattle.inliner_tool.specs.declared.refusal.Refusal.TheVariants as refusals
 use Rattle.inliner_tool.specs.Answers.{refused}
 use Rattle.inliner_tool.specs.Classes.{label_of}
 use Rattle.inliner_tool.specs.Programs.{Step, program_of}
+use Rattle.inliner_tool.specs.Race.{racy}
 use Rattle.inliner_tool.specs.Running.{RunsTyped}
 
 -- the number of the class that a fault is told of, if it is of one
@@ -40,25 +40,19 @@ faulty_class (Local class method at rule) = Some class
 abbrev pub label_for : Program → CheckFault → List ℕ
 label_for program fault = option_map_or (λ (class : ℕ). label_of program class) (faulty_class fault) (codes "-")
 
-abbrev pub denied_answer : Program → CheckFault → Answer
-denied_answer program fault = answers.Denied fault (label_for program fault)
+-- with the name of the class that a fault is told of; of races, with what shows them
+abbrev pub denied_answer : PolicyTree → Program → Denial → Answer
+denied_answer policy program (denials.Fault fault) = answers.Denied fault (label_for program fault)
+denied_answer policy program (denials.CellLimit first second count) = answers.Refused (refusals.CellLimit first second count)
+denied_answer policy program (denials.Racy condition state first second) = answers.Refused (racy policy program.listing condition state first second)
+denied_answer policy program denials.Memory = answers.Memory
 
-abbrev pub verdict_answer : Program → Result Accepted CheckFault → Answer
-verdict_answer program (Ok accepted) = answers.Accepted accepted
-verdict_answer program (Err fault) = denied_answer program fault
-
-abbrev pub is_hold : Mode → Bool
-is_hold Hold = true
-is_hold Release = false
-
--- whether certificates of this mode are judged: those of mode hold, and those of policies that deny calls outright
-abbrev pub is_judged : Mode → PolicyTree → Bool
-is_judged mode policy = is_hold mode || denies_only policy
+abbrev pub verdict_answer : PolicyTree → Program → Result Accepted Denial → Answer
+verdict_answer policy program (Ok accepted) = answers.Accepted accepted
+verdict_answer policy program (Err denial) = denied_answer policy program denial
 
 abbrev pub program_answer : PolicyTree → Certificate → Program → Answer
-program_answer policy certificate program =
-    if is_judged certificate.mode policy then verdict_answer program (verdict program (built policy) certificate)
-    else answers.Refused refusals.NotBuilt
+program_answer policy certificate program = verdict_answer policy program (judged program (built policy) certificate)
 
 abbrev pub linked_answer : PolicyTree → Certificate → Step Program → Answer
 linked_answer policy certificate (Ok program) = program_answer policy certificate program
@@ -74,7 +68,7 @@ check_answer main inputs = linked_answer inputs.policy inputs.certificate (link_
 -- hold each event with a clause is of the thread that holds the lock; an error that a Java machine throws in a block leads out of
 -- it; and the program runs as the certificate types it.
 pub record ProgramIsChecked (policy : PolicyTree) (certificate : Certificate) (program : Program) : Type 0 where
-  pub accepted : IsAccepted program (built policy) certificate
+  pub accepted : IsAllowed program (built policy) certificate
   pub secure : Secure certificate.mode program (built policy)
   pub locked : certificate.mode ≡ Hold → EventsAreLocked program (built policy)
   pub errors : LeavesBlocks program (built policy) (annotations_of certificate)

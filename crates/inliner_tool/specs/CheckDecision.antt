@@ -1,6 +1,5 @@
--- That `check` decides: of files in their grammars and limits that link, with a certificate that is judged, it answers yes or no, or
--- memory runs out. (docs/COMMANDS.md)
-use Rattle.std.specs.Prelude.{◌≡◌, true, length, Ok, IsSome}
+-- That `check` decides: of files in their grammars and limits that link it answers yes or no, or memory runs out. (docs/COMMANDS.md)
+use Rattle.std.specs.Prelude.{◌≡◌, length, Ok, IsSome}
 use Rattle.api_listing.specs.declared.types.Listing.{Listing}
 use Rattle.bytecode_model.specs.declared.program.Program.{Program}
 use Rattle.bytecode_model.specs.declared.program.Side.TheVariants.{Inlined}
@@ -13,14 +12,13 @@ use Rattle.input_files.specs.Forms.{IsRead}
 use Rattle.input_files.specs.Kinds.{certificate_form, listing_form, policy_form}
 use Rattle.input_files.specs.Named.{AreClasses}
 use Rattle.inliner_tool.specs.declared.answer.Answer.{Answer}
-use Rattle.inliner_tool.specs.Check.{is_judged}
 use Rattle.inliner_tool.specs.Decision.{IsDecision}
 use Rattle.inliner_tool.specs.Programs.{program_of}
 use Rattle.inliner_tool.specs.Seen.{Seen}
 use Rattle.inliner_tool.specs.Tool.{CarriesOut, IsAnswer, status_of}
 
 -- The files are told, and those of these names are a listing, a policy over it, a certificate for its variables and class files, in
--- their grammars and limits; the class files link; and the certificate is of mode hold, or the policy denies calls outright.
+-- their grammars and limits; and the class files link.
 pub record NamesChecked (files : Files) (named : NamedCheck) : Type 0 where
   pub told : IsSome files
   pub listing : Listing
@@ -33,7 +31,6 @@ pub record NamesChecked (files : Files) (named : NamedCheck) : Type 0 where
   pub classes_read : AreClasses files named.classes classes.files classes.total
   pub program : Program
   pub links : program_of listing classes named.main Inlined ≡ Ok program
-  pub judged : is_judged certificate.mode policy ≡ true
 
 -- What `check` answers to such files, without a fault of the store, is a decision.
 abbrev pub CheckDecides : Type 0

@@ -10,6 +10,7 @@ use Rattle.bytecode_model.specs.Sound.{IsSound}
 use Rattle.bytecode_model.specs.Standing.{IsLinkedOf}
 use Rattle.bytecode_model.specs.Typed.{IsTyped}
 use Rattle.block_logic.specs.Accepted.{IsAccepted}
+use Rattle.block_logic.specs.Formed.{RunsAreFormed}
 use Rattle.block_template.specs.Blocks.{plan_of}
 use Rattle.cert_format.specs.Fits.{CanSpell}
 use Rattle.class_codec.specs.Fits as classes
@@ -33,7 +34,7 @@ abbrev pub woven_program : Given → Woven → Program
 woven_program given made = program_with given.client made.files made.methods
 
 -- They have room for the blocks, and link to the program that is made of them. Its classes are in order, and it is accepted with
--- the certificate that is made of the client's types; this can be spelled where it is written.
+-- the certificate that is made of the client's types; this can be spelled where it is written. Its runs are formed.
 pub record IsExpected (main : List ℕ) (given : Given) (made : Woven) : Type 0 where
   pub client : IsSound given.client
   pub room : HaveRoom (plan_of given.policy given.mode) given.client.classes made.files
@@ -42,6 +43,7 @@ pub record IsExpected (main : List ℕ) (given : Given) (made : Woven) : Type 0 
   pub sound : IsSound (woven_program given made)
   pub order : IsInOrder (woven_program given made)
   pub accepted : IsAccepted (woven_program given made) given.policy (certificate_for given (woven_program given made))
+  pub formed : RunsAreFormed (woven_program given made) given.policy
   pub spells : FitsTyping (certificate_for given (woven_program given made)).typing → is_written (certificate_for given (woven_program given made)) ≡ true
       → CanSpell (length given.policy.vars) (certificate_for given (woven_program given made))
 

@@ -38,7 +38,7 @@ pub record NamesWoven (files : Files) (named : NamedInline) : Type 0 where
   pub links : original listing classes named.main ≡ Ok client
   pub typable : IsTypable client
   pub mode : Mode
-  pub chosen : mode_for named.weaving policy ≡ Ok mode
+  pub chosen : mode_for named.weaving policy client.listing ≡ Ok mode
   pub made : Woven
   pub fits : woven client (plan_of (built policy) mode) (built policy).vars ≡ Ok made
 

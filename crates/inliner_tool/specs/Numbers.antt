@@ -66,10 +66,6 @@ abbrev pub record_report : RecordFault → Report
 record_report (records.Line line) = report 261 (Count line ∷ [])
 record_report records.Memory = no_report
 
--- a policy or a mode that is not built yet
-abbrev pub unbuilt_report : Report
-unbuilt_report = report 199 []
-
 abbrev pub input_report : InputFault → Report
 input_report (inputs.TooLong len) = report 107 (Count len ∷ [])
 input_report (inputs.Class fault) = class_report fault

@@ -1,9 +1,17 @@
 -- Whether the events of a policy race, and a state and events that show it. (docs/COMMANDS.md)
-use Rattle.std.specs.Prelude.{Result, Ok, Err}
+use Rattle.std.specs.Prelude.{ℕ, Option, Result, Ok, Err}
+use Rattle.api_listing.specs.declared.events.Event.{Event}
+use Rattle.api_listing.specs.declared.types.Listing.{Listing}
+use Rattle.conspec_automaton.specs.declared.state.State.{State}
 use Rattle.conspec_automaton.specs.Building.{built}
+use Rattle.conspec_tree.specs.declared.types.PolicyTree.{PolicyTree}
 use Rattle.input_files.specs.declared.race_inputs.RaceInputs.{RaceInputs}
 use Rattle.inliner_tool.specs.declared.answer.Answer.{Answer}
 use Rattle.inliner_tool.specs.declared.answer.Answer.TheVariants as answers
+use Rattle.inliner_tool.specs.declared.refusal.Refusal.{Refusal}
+use Rattle.inliner_tool.specs.declared.refusal.Refusal.TheVariants as refusals
+use Rattle.inliner_tool.specs.Answers.{refused}
+use Rattle.inliner_tool.specs.Programs.{Step}
 use Rattle.race_example.specs.Example.{example_text}
 use Rattle.race_free_check.specs.declared.fault.RaceFault.{RaceFault}
 use Rattle.race_free_check.specs.declared.fault.RaceFault.TheVariants as faults
@@ -11,18 +19,25 @@ use Rattle.race_free_check.specs.declared.verdict.RaceVerdict.{RaceVerdict}
 use Rattle.race_free_check.specs.declared.verdict.RaceVerdict.TheVariants as verdicts
 use Rattle.race_free_check.specs.Deciding.{decided}
 
-abbrev pub verdict_answer : RaceInputs → RaceVerdict → Answer
-verdict_answer inputs verdicts.Free = answers.RaceFree
-verdict_answer inputs (verdicts.Racy condition state first second) = answers.Racy condition (example_text inputs.policy inputs.listing state first second)
+-- that the condition of this number is broken, as the state and the events show
+abbrev pub racy : PolicyTree → Listing → ℕ → State → Event → Option Event → Refusal
+racy policy listing condition state first second = refusals.Racy condition (example_text policy listing state first second)
 
-abbrev pub fault_answer : RaceFault → Answer
-fault_answer (faults.CellLimit first second count) = answers.CellLimit first second count
-fault_answer faults.Memory = answers.Memory
+-- why it is not decided
+abbrev pub undecided : RaceFault → Refusal
+undecided (faults.CellLimit first second count) = refusals.CellLimit first second count
+undecided faults.Memory = refusals.Memory
 
-abbrev pub decided_answer : RaceInputs → Result RaceVerdict RaceFault → Answer
-decided_answer inputs (Ok verdict) = verdict_answer inputs verdict
-decided_answer inputs (Err fault) = fault_answer fault
+-- that the policy is race-free, or why it is denied
+abbrev pub race_step : PolicyTree → Listing → Result RaceVerdict RaceFault → Step (Unit {0})
+race_step policy listing (Ok verdicts.Free) = Ok tt
+race_step policy listing (Ok (verdicts.Racy condition state first second)) = Err (racy policy listing condition state first second)
+race_step policy listing (Err fault) = Err (undecided fault)
+
+abbrev pub free_answer : Step (Unit {0}) → Answer
+free_answer (Ok free) = answers.RaceFree
+free_answer (Err refusal) = refused refusal
 
 -- what is decided of the policy
 abbrev pub race_answer : RaceInputs → Answer
-race_answer inputs = decided_answer inputs (decided (built inputs.policy))
+race_answer inputs = free_answer (race_step inputs.policy inputs.listing (decided (built inputs.policy)))

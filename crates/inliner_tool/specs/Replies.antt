@@ -13,7 +13,7 @@ use Rattle.inliner_tool.specs.declared.answer.Answer.{Answer}
 use Rattle.inliner_tool.specs.declared.answer.Answer.TheVariants as answers
 use Rattle.inliner_tool.specs.declared.refusal.Refusal.{Refusal}
 use Rattle.inliner_tool.specs.declared.refusal.Refusal.TheVariants as refusals
-use Rattle.inliner_tool.specs.Numbers.{cells_report, check_report, event_report, input_report, length_report, link_report, race_report, size_report, step_report, total_report, unbuilt_report, untyped_report}
+use Rattle.inliner_tool.specs.Numbers.{cells_report, check_report, event_report, input_report, length_report, link_report, race_report, size_report, step_report, total_report, untyped_report}
 
 abbrev pub mode_name : Mode → List ℕ
 mode_name modes.Hold = codes "hold"
@@ -32,7 +32,8 @@ abbrev pub refusal_reply : Refusal → Reply
 refusal_reply (refusals.TotalLong len) = input None (total_report len)
 refusal_reply (refusals.Link fault) = input None (link_report fault)
 refusal_reply (refusals.Untyped class method at) = input None (untyped_report class method at)
-refusal_reply refusals.NotBuilt = input None unbuilt_report
+refusal_reply (refusals.Racy condition example) = replies.Line (lines.Denied (race_report condition example))
+refusal_reply (refusals.CellLimit first second count) = replies.Line (lines.Denied (cells_report first second count))
 refusal_reply (refusals.Overflow class method what value) = replies.Line (lines.Overflow (size_report class method what value).fields)
 refusal_reply (refusals.LongCertificate value) = replies.Line (lines.Overflow (length_report value).fields)
 refusal_reply (refusals.NotEnabled index) = replies.Line (lines.Denied (step_report index))
@@ -44,8 +45,6 @@ reply_of (answers.Denied fault label) = replies.Line (lines.Denied (check_report
 reply_of (answers.Shown text) = replies.Text text
 reply_of (answers.Judged verdict) = verdict_reply verdict
 reply_of answers.RaceFree = replies.Line lines.Free
-reply_of (answers.Racy condition example) = replies.Line (lines.Denied (race_report condition example))
-reply_of (answers.CellLimit first second count) = replies.Line (lines.Denied (cells_report first second count))
 reply_of (answers.Inlined accepted classes) = replies.Line (lines.Inlined (mode_name accepted.mode) accepted.sites classes)
 reply_of (answers.Replayed text) = replies.Text text
 reply_of (answers.Input name fault) = input (Some name) (input_report fault)

@@ -13,6 +13,7 @@ use Rattle.conspec_automaton.specs.Events.{IsWellFormed}
 use Rattle.conspec_tree.specs.declared.types.PolicyTree.{PolicyTree}
 use Rattle.guest_model.specs.declared.machine.Step.{Step}
 use Rattle.guest_model.specs.Enabled.{IsEnabled}
+use Rattle.guest_model.specs.Numbers.{KeepsWords}
 use Rattle.guest_model.specs.Runs.{exec, trace}
 use Rattle.guest_model.specs.Stepping.{stepped}
 use Rattle.input_files.specs.Named.{IsListed, IsPolicyOf}
@@ -27,13 +28,14 @@ pub record IsLinkedProgram (program : Program) : Type 0 where
   pub sound : IsSound program
   pub order : IsInOrder program
 
--- After every list of steps the machine is as the types say, and a step is made exactly where the rules enable it; and the events
--- are well formed for each policy that was read over the listing.
+-- After every list of steps the machine is as the types say, and a step is made exactly where the rules enable it; the events
+-- are well formed for each policy that was read over the listing; and numbers in locals are of 32 bits.
 pub record RunsTyped (program : Program) (typing : Typing) : Type 0 where
   pub typed : IsTyped program typing
   pub fits : (steps : List Step) → MachineFits program typing (exec program steps)
   pub moves : (steps : List Step) (step : Step) → IsEnabled program (exec program steps) step ↔ IsSome (stepped program (exec program steps) step)
   pub formed : (tree : PolicyTree) → IsPolicyOf program.listing tree → (steps : List Step) → AllByRecursion (IsWellFormed (built tree)) (trace program steps)
+  pub words : KeepsWords program
 
 -- Each linked program with types runs so.
 abbrev pub LinkedRunTyped : Type 0

@@ -8,11 +8,9 @@ use Rattle.bytecode_model.specs.Files.{unlinked}
 use Rattle.bytecode_model.specs.Layout.{IsLaidOut}
 use Rattle.bytecode_model.specs.Sound.{IsSound}
 use Rattle.bytecode_model.specs.Typed.{IsTyped}
-use Rattle.block_logic.specs.Accepted.{IsAccepted}
-use Rattle.block_logic.specs.Meaning.{Promised}
 use Rattle.block_template.specs.Blocks.{plan_of}
 use Rattle.cert_checker.specs.declared.checking.Accepted.{Accepted}
-use Rattle.cert_checker.specs.Acceptance.{verdict}
+use Rattle.cert_checker.specs.Judging.{IsAllowed, judged}
 use Rattle.cert_checker.specs.Secure.{Secure}
 use Rattle.cert_format.specs.declared.certificate.Certificate.{Certificate}
 use Rattle.cert_format.specs.declared.certificate.Mode.{Mode}
@@ -30,7 +28,7 @@ use Rattle.command_words.specs.declared.inline_words.Weaving.TheVariants as weav
 use Rattle.command_words.specs.InlineWords.{NamedInline}
 use Rattle.conspec_automaton.specs.declared.policy.Policy.{Policy}
 use Rattle.conspec_automaton.specs.Building.{built}
-use Rattle.conspec_automaton.specs.Denying.{denies_only}
+use Rattle.conspec_automaton.specs.Racing.{IsRaceFree, all_pairs}
 use Rattle.conspec_tree.specs.declared.types.PolicyTree.{PolicyTree}
 use Rattle.input_files.specs.declared.inline_inputs.InlineInputs.{InlineInputs}
 use Rattle.input_files.specs.declared.named.ReadClasses.{ReadClasses as Classes}
@@ -38,6 +36,11 @@ use Rattle.input_files.specs.Forms.{Yields, Then}
 use Rattle.offset_patch.specs.declared.fault.SpliceFault.{SpliceFault}
 use Rattle.offset_patch.specs.declared.fault.SpliceFault.TheVariants as splices
 use Rattle.output_files.specs.Outputs.{is_written, outputs_of}
+use Rattle.race_free_check.specs.declared.fault.RaceFault.{RaceFault}
+use Rattle.race_free_check.specs.declared.verdict.RaceVerdict.{RaceVerdict}
+use Rattle.race_free_check.specs.declared.verdict.RaceVerdict.TheVariants as races
+use Rattle.race_free_check.specs.Deciding.{decided}
+use Rattle.race_free_check.specs.Limit.{AllHaveFewPoints}
 use Rattle.cert_maker.specs.Told.{told}
 use Rattle.woven_typing.specs.Framing.{typing_of}
 use Rattle.inliner_tool.specs.declared.refusal.Refusal.{Refusal}
@@ -45,6 +48,7 @@ use Rattle.inliner_tool.specs.declared.refusal.Refusal.TheVariants as refusals
 use Rattle.inliner_tool.specs.declared.inline.Given.{Given}
 use Rattle.inliner_tool.specs.declared.inline.Ready.{Ready}
 use Rattle.inliner_tool.specs.Programs.{AreTypes, Equals, Step, Types, UnlessMemory, program_of, woven_links}
+use Rattle.inliner_tool.specs.Race.{race_step}
 
 -- ---- the steps
 
@@ -52,20 +56,27 @@ use Rattle.inliner_tool.specs.Programs.{AreTypes, Equals, Step, Types, UnlessMem
 abbrev pub original : Listing → Classes → List ℕ → Step Program
 original listing classes main = program_of listing classes main Original
 
--- the lock is let go where calls are denied outright
-abbrev pub releasing : PolicyTree → Step Mode
-releasing policy = if denies_only policy then Ok modes.Release else Err refusals.NotBuilt
+-- The lock is let go where it is decided that the policy is race-free, and held elsewhere.
+abbrev pub auto_mode : Result RaceVerdict RaceFault → Mode
+auto_mode (Ok races.Free) = modes.Release
+auto_mode (Ok (races.Racy condition state first second)) = modes.Hold
+auto_mode (Err fault) = modes.Hold
 
--- the mode in which a policy is woven, where that is built
-abbrev pub mode_for : Weaving → PolicyTree → Step Mode
-mode_for weavings.Hold policy = Ok modes.Hold
-mode_for weavings.Release policy = releasing policy
-mode_for weavings.Auto policy = releasing policy
+-- The lock is let go, where the policy is race-free.
+abbrev pub releasing : Step (Unit {0}) → Step Mode
+releasing (Ok free) = Ok modes.Release
+releasing (Err refusal) = Err refusal
+
+-- the mode in which a policy is woven, or why it is not woven
+abbrev pub mode_for : Weaving → PolicyTree → Listing → Step Mode
+mode_for weavings.Hold policy listing = Ok modes.Hold
+mode_for weavings.Release policy listing = releasing (race_step policy listing (decided (built policy)))
+mode_for weavings.Auto policy listing = Ok (auto_mode (decided (built policy)))
 
 -- The types of the program, which is typed, and the policy in its mode, put together so.
 abbrev pub GathersAs : {A : Type 0} → (Typing → Policy → Mode → A) → Weaving → PolicyTree → Program → Step A → Type 0
 GathersAs together weaving policy client =
-    Then (Types client) (λ typing. Then (Equals (mode_for weaving policy)) (λ mode. Equals (Ok (together typing (built policy) mode))))
+    Then (Types client) (λ typing. Then (Equals (mode_for weaving policy client.listing)) (λ mode. Equals (Ok (together typing (built policy) mode))))
 
 -- What is to be woven: the program with its types, and the policy in its mode.
 abbrev pub Gathers : Weaving → PolicyTree → Program → Step Given → Type 0
@@ -76,12 +87,17 @@ Gathers weaving tree client =
 abbrev pub GathersBoth : Weaving → PolicyTree → Program → Step (Typing × (Policy × Mode)) → Type 0
 GathersBoth = GathersAs (λ typing policy mode. (typing, (policy, mode)))
 
--- It is this program, with types of its layout, and this policy, in a mode in which that is promised.
+-- The policy is race-free, and each two clauses have so few points that this is decided.
+pub record IsFreeOfRaces (policy : Policy) : Type 0 where
+  pub race : IsRaceFree policy
+  pub few : AllHaveFewPoints all_pairs policy
+
+-- It is this program, with types of its layout, and this policy, which is race-free where the lock is let go.
 pub record IsGathered (tree : PolicyTree) (program : Program) (given : Given) : Type 0 where
   pub client : given.client ≡ program
   pub laid_out : IsLaidOut program given.typing.frames
   pub policy : given.policy ≡ built tree
-  pub promised : Promised given.mode given.policy
+  pub free : given.mode ≡ modes.Release → IsFreeOfRaces given.policy
 
 abbrev pub splice_refusal : SpliceFault → Refusal
 splice_refusal (splices.Overflow class method what value) = refusals.Overflow class method what value
@@ -109,7 +125,7 @@ certificate_for given program =
 pub record IsRemade (main : List ℕ) (given : Given) (made : Woven) (program : Program) (accepted : Accepted) : Type 0 where
   pub links : woven_links made.files given.client.listing main ≡ Ok program
   pub typed : IsTyped program (certificate_for given program).typing
-  pub verdict : verdict program given.policy (certificate_for given program) ≡ Ok accepted
+  pub verdict : judged program given.policy (certificate_for given program) ≡ Ok accepted
 
 -- what is made of outputs
 abbrev pub Told : Program → Accepted → List Output → Step Ready → Type 0
@@ -126,10 +142,10 @@ pub record Remakes (main folder : List ℕ) (given : Given) (made : Woven) (resu
 abbrev pub Fits : List ℕ → List ℕ → Given → Step Ready → Type 0
 Fits main folder given = Then (Equals (weave_step (woven given.client (plan_of given.policy given.mode) given.policy.vars))) (Remakes main folder given)
 
--- The policy is woven in a mode that is built.
+-- There is a mode in which the policy is woven.
 abbrev pub Chosen : NamedInline → PolicyTree → Program → Typing → Step Ready → Type 0
 Chosen named policy client typing =
-    Then (Equals (mode_for named.weaving policy)) (λ mode.
+    Then (Equals (mode_for named.weaving policy client.listing)) (λ mode.
     Fits named.main named.folder (record { client = client; typing = typing; policy = built policy; mode = mode }))
 
 -- The program is typed.
@@ -140,11 +156,11 @@ Typed named policy client = Then (Types client) (Chosen named policy client)
 abbrev pub Plans : NamedInline → InlineInputs → Step Ready → Type 0
 Plans named inputs = Then (Equals (original inputs.listing inputs.classes named.main)) (Typed named inputs.policy)
 
--- The outputs of an accepted program, or that its certificate is too long; or memory ran out.
+-- The program is accepted, and these are its outputs, or its certificate is too long.
 abbrev pub Accepts : List ℕ → Policy → Program → Certificate → Step Ready → Type 0
 Accepts folder policy program certificate result =
-    (accepted : Accepted) × (verdict program policy certificate ≡ Ok accepted)
-    × UnlessMemory (Then (Equals (outputs_step folder program certificate)) (Told program accepted)) result
+    (accepted : Accepted) × (judged program policy certificate ≡ Ok accepted)
+    × Then (Equals (outputs_step folder program certificate)) (Told program accepted) result
 
 -- ---- what is known of what is ready
 
@@ -157,8 +173,8 @@ pub record IsRewoven (named : NamedInline) (given : Given) (files : List ClassFi
   pub sound : IsSound program
   pub certificate : Certificate
   pub mode_is : certificate.mode ≡ given.mode
-  pub accepted : IsAccepted program given.policy certificate
-  pub verdict : verdict program given.policy certificate ≡ Ok ready.accepted
+  pub accepted : IsAllowed program given.policy certificate
+  pub verdict : judged program given.policy certificate ≡ Ok ready.accepted
   pub secure : Secure given.mode program given.policy
   pub spells : CanSpell (length given.policy.vars) certificate
   pub written : is_written certificate ≡ true
@@ -173,7 +189,7 @@ pub record IsPlanned (named : NamedInline) (inputs : InlineInputs) (ready : Read
   pub listing : given.client.listing ≡ inputs.listing
   pub typed : AreTypes given.client given.typing
   pub policy : given.policy ≡ built inputs.policy
-  pub chosen : mode_for named.weaving inputs.policy ≡ Ok given.mode
+  pub chosen : mode_for named.weaving inputs.policy given.client.listing ≡ Ok given.mode
   pub made : Woven
   pub woven : woven given.client (plan_of given.policy given.mode) given.policy.vars ≡ Ok made
   pub rewoven : IsRewoven named given made.files ready

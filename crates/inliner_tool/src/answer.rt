@@ -22,11 +22,6 @@ pub enum Answer {
     Judged(Verdict),
     /// The events of a policy do not race.
     RaceFree,
-    /// They do: the first condition that is broken, by its number, and a state and events that break it, as they are printed.
-    Racy { condition: u8, example: Bytes },
-    /// So many points would have to be tried for two clauses, by their places in the policy, or for one, which is told
-    /// twice. That is too many.
-    CellLimit { first: u32, second: u32, count: u64 },
     /// The program was woven, checked and written, in so many class files.
     Inlined { accepted: Accepted, classes: u64 },
     /// The events of a run and its end, as they are printed.

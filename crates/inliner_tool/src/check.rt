@@ -1,8 +1,6 @@
 //! The command `check`: its inputs, what they link to, and what is answered.
 
-ghost use Rattle.std.specs.Prelude.{◌≡◌, ◌≤◌, IfErr, IfOk, IsTrue, Ok};
-ghost use Rattle.block_logic.specs.Meaning.{Promised};
-ghost use Rattle.conspec_automaton.specs.Building.{built};
+ghost use Rattle.std.specs.Prelude.{◌≡◌, ◌≤◌, IfErr, IfOk, Ok};
 ghost use Rattle.bytecode_model.specs.declared.program.Program.{Program};
 ghost use Rattle.command_words.specs.Words.{Check, check_named};
 ghost use Rattle.inliner_tool.specs.Seen.{seen};
@@ -14,13 +12,12 @@ ghost use Rattle.inliner_tool.specs.Check.{
   check_answer,
   faulty_class,
   denied_answer,
-  is_hold,
-  is_judged,
   label_for,
   linked_answer,
   program_answer,
 };
 ghost use Rattle.inliner_tool.specs.CheckDecision.{CheckDecides};
+ghost use Rattle.inliner_tool.specs.declared.answer.Answer.TheVariants.{Denied};
 ghost use Rattle.inliner_tool.specs.Programs.{Equals, Step, UnlessMemory};
 ghost use Rattle.inliner_tool.specs.Running.{IsLinkedProgram};
 ghost use Rattle.inliner_tool.specs.Tool.{CarriesOut, Holds, IsAnswer};
@@ -30,13 +27,14 @@ ghost use Rattle.input_files.specs.Named.{IsPolicyOf};
 use crate::answer::{Answer, refused, stopped};
 use crate::classes::label_of;
 use crate::programs::program_of;
+use crate::race::racy;
 use crate::refusal::Refusal;
 use crate::running::linked_programs_run_typed;
 use bytecode_model::{Program, Side};
-use cert_checker::{Accepted, CheckFault, check};
-use cert_format::{Certificate, Mode};
+use cert_checker::{Accepted, CheckFault, Denial, check};
+use cert_format::Certificate;
 use command_words::CheckWords;
-use conspec_automaton::{Policy, build, denies_only};
+use conspec_automaton::{Policy, build};
 use conspec_parse::kinds_are_told;
 use conspec_tree::PolicyTree;
 use input_files::{CheckInputs, read_check};
@@ -155,37 +153,49 @@ fn program_checked(
     ensures answer { IfErr result (λ answer. Is answer (program_answer policy.now certificate.now program.now)) }
     ensures no { IfErr result (λ answer. EndsWell answer → ⊥) }
 {
-    if !is_judged(certificate.mode, policy) {
-        return Err(Answer::Refused(Refusal::NotBuilt));
-    }
-    let Ok(policy) = build(alloc, policy) else {
+    let Ok(automaton) = build(alloc, policy) else {
         return Err(Answer::Memory);
     };
     kinds_are_told();
     linked_programs_run_typed();
-    match check(program, &policy, certificate) {
-        Ok(accepted) => Ok((policy, accepted)),
-        Err(fault) => Err(denied(alloc, program.program(), fault)),
+    match check(alloc, program, &automaton, certificate) {
+        Ok(accepted) => Ok((automaton, accepted)),
+        Err(denial) => Err(denied(alloc, policy, program.program(), denial)),
     }
 }
 
-fn is_hold(mode: Mode) -> bool
-    ensures { result ≡ is_hold mode }
+/// The answer no, with the name of the class that it is told of, or with what shows a race.
+fn denied(alloc: Global, policy: &PolicyTree, program: &Program, denial: Denial) -> Answer
+    ensures is { Is result (denied_answer policy.now program.now denial) }
+    ensures no { EndsWell result → ⊥ }
 {
-    matches!(mode, Mode::Hold)
+    match denial {
+        Denial::Fault(fault) => at_fault(alloc, program, fault),
+        Denial::CellLimit {
+            first,
+            second,
+            count,
+        } => Answer::Refused(Refusal::CellLimit {
+            first,
+            second,
+            count,
+        }),
+        Denial::Racy {
+            condition,
+            state,
+            first,
+            second,
+        } => {
+            let listing = &program.listing;
+            refused(racy(alloc, policy, listing, condition, &state, &first, &second))
+        }
+        Denial::Memory => Answer::Memory,
+    }
 }
 
-/// Whether certificates of this mode are judged.
-fn is_judged(mode: Mode, policy: &PolicyTree) -> bool
-    ensures is { result ≡ is_judged mode policy.now }
-    ensures promised { IsTrue result → Promised mode (built policy.now) }
-{
-    is_hold(mode) || denies_only(policy)
-}
-
-/// The answer no, with the name of the class that it is told of.
-fn denied(alloc: Global, program: &Program, fault: CheckFault) -> Answer
-    ensures is { Is result (denied_answer program.now fault) }
+/// The answer no, with the name of the class that the fault is told of.
+fn at_fault(alloc: Global, program: &Program, fault: CheckFault) -> Answer
+    ensures is { Is result (Denied fault (label_for program.now fault)) }
     ensures no { EndsWell result → ⊥ }
 {
     match label_for(alloc, program, &fault) {
@@ -215,8 +225,8 @@ fn faulty_class(fault: &CheckFault) -> Option<u32>
     }
 }
 
-/// To files in their grammars and limits that link, with a certificate that is judged, where the store tells them and counts no
-/// fault, `check` answers yes or no, or that memory ran out: its status is 0, 1 or 7.
+/// To files in their grammars and limits that link, where the store tells them and counts no fault, `check` answers yes or no, or
+/// that memory ran out: its status is 0, 1 or 7.
 pub fn check_decides()
     ensures { CheckDecides }
 {}

@@ -4,14 +4,14 @@ ghost use Rattle.std.specs.Prelude.{◌≡◌, ◌≤◌, IfOk, Ok, length, true
 ghost use Rattle.std.specs.List.{AllByRecursion};
 ghost use Rattle.api_listing.specs.declared.types.Listing.{Listing};
 ghost use Rattle.api_listing.specs.Listing.{IsFew};
-ghost use Rattle.block_logic.specs.Accepted.{IsAccepted};
-ghost use Rattle.block_logic.specs.Meaning.{Promised};
+ghost use Rattle.block_logic.specs.Formed.{RunsAreFormed};
 ghost use Rattle.block_template.specs.Blocks.{plan_of};
 ghost use Rattle.bytecode_model.specs.Layout.{IsLaidOut};
 ghost use Rattle.bytecode_model.specs.Order.{IsInOrder};
 ghost use Rattle.bytecode_model.specs.Sound.{IsSound};
-ghost use Rattle.cert_checker.specs.Acceptance.{verdict};
+ghost use Rattle.cert_checker.specs.Judging.{IsAllowed, judged};
 ghost use Rattle.cert_checker.specs.Secure.{Secure};
+ghost use Rattle.cert_format.specs.declared.certificate.Mode.TheVariants as modes;
 ghost use Rattle.cert_maker.specs.Noting.{certificate_of};
 ghost use Rattle.class_codec.specs.Fits.{CanSpell};
 ghost use Rattle.class_weaving.specs.Woven.{woven};
@@ -34,6 +34,7 @@ ghost use Rattle.inliner_tool.specs.Weaving.{
   Accepts,
   Gathers,
   GathersBoth,
+  IsFreeOfRaces,
   IsGathered,
   IsPlanned,
   IsRewoven,
@@ -41,7 +42,6 @@ ghost use Rattle.inliner_tool.specs.Weaving.{
   Remakes,
   mode_for,
   outputs_step,
-  releasing,
   splice_refusal,
   weave_step,
 };
@@ -55,17 +55,20 @@ ghost use Rattle.command_words.specs.Words.{Inline};
 
 use crate::answer::{Answer, refused, stopped};
 use crate::programs::{program_of, types_of};
+use crate::race::{auto_mode, race_step};
 use crate::refusal::Refusal;
+use crate::running::linked_programs_run_typed;
+use api_listing::Listing;
 use block_template::plans_are_good;
 use bytecode_model::{LinkedClass, Method, Program, Side};
-use cert_checker::{Accepted, check};
+use cert_checker::{Accepted, Denial, check};
 use cert_format::{CertLong, Certificate, Mode, Typing};
 use cert_maker::{make, told, told_is_typed, woven_is_accepted};
 use class_codec::ClassFile;
 use class_linking::{linked_is_in_order, linked_operands_are_right, linked_programs_are_named};
 use class_weaving::Woven;
 use command_words::{InlineWords, Weaving};
-use conspec_automaton::{Policy, build, denies_only};
+use conspec_automaton::{Policy, build};
 use conspec_parse::kinds_are_told;
 use conspec_tree::PolicyTree;
 use input_files::{InlineInputs, read_inline};
@@ -177,6 +180,8 @@ fn woven_is_expected()
     items_are_reached();
     told_is_typed();
     woven_is_accepted();
+    linked_programs_are_named();
+    linked_programs_run_typed();
 }
 
 /// What is to be woven: the program with its types, and the policy in its mode.
@@ -188,6 +193,7 @@ fn given_of(
 ) -> Result<Given, Refusal>
     requires sound { IsSound client }
     requires order { IsInOrder client }
+    requires policy { IsPolicyTree client.listing tree }
     ensures gathers { UnlessMemory (Gathers weaving tree client) result }
     ensures gathered { IfOk result (IsGathered tree client) }
     ensures sound { IfOk result (λ given. (listing : Listing) → IsPolicyTree listing tree
@@ -226,51 +232,65 @@ fn gathered(
 ) -> Result<(Typing, (Policy, Mode)), Refusal>
     requires sound { IsSound client.now }
     requires order { IsInOrder client.now }
+    requires policy { IsPolicyTree client.now.listing tree.now }
     ensures gathers { UnlessMemory (GathersBoth weaving tree.now client.now) result }
     ensures laid_out { IfOk result (λ r. IsLaidOut client.now r.0.frames) }
     ensures policy { IfOk result (λ r. r.1.0 ≡ built tree.now) }
-    ensures promised { IfOk result (λ r. Promised r.1.1 r.1.0) }
+    ensures free { IfOk result (λ r. r.1.1 ≡ modes.Release → IsFreeOfRaces r.1.0) }
     ensures sound { IfOk result (λ r. (listing : Listing) → IsPolicyTree listing tree.now
         → IsPolicy r.1.0 × NamesMethods (length listing.methods) r.1.0) }
 {
     let typing = types_of(alloc, client)?;
-    let chosen = chosen(alloc, weaving, tree)?;
+    let chosen = chosen(alloc, weaving, tree, &client.program().listing)?;
     Ok((typing, chosen))
 }
 
-/// The policy, and the mode in which it is woven, where that is built.
-fn chosen(alloc: Global, weaving: Weaving, tree: &PolicyTree) -> Result<(Policy, Mode), Refusal>
-    ensures mode { UnlessMemory (Then (Equals (mode_for weaving tree.now)) (λ mode. Equals (Ok (built tree.now, mode)))) result }
-    ensures promised { IfOk result (λ r. Promised r.1 r.0) }
+/// The policy, and the mode in which it is woven.
+fn chosen(
+    alloc: Global,
+    weaving: Weaving,
+    tree: &PolicyTree,
+    listing: &Listing,
+) -> Result<(Policy, Mode), Refusal>
+    requires { IsPolicyTree listing.now tree.now }
+    ensures mode { UnlessMemory (Then (Equals (mode_for weaving tree.now listing.now)) (λ mode. Equals (Ok (built tree.now, mode)))) result }
+    ensures free { IfOk result (λ r. r.1 ≡ modes.Release → IsFreeOfRaces r.0) }
     ensures sound { IfOk result (λ r. (listing : Listing) → IsPolicyTree listing tree.now
         → IsPolicy r.0 × NamesMethods (length listing.methods) r.0) }
 {
-    let mode = mode_for(weaving, tree)?;
     let policy = build(alloc, tree)?;
-    Ok((policy, mode))
-}
-
-/// The mode in which a policy is woven, where that is built.
-fn mode_for(weaving: Weaving, policy: &PolicyTree) -> Result<Mode, Refusal>
-    ensures is { result ≡ mode_for weaving policy.now }
-    ensures promised { IfOk result (λ mode. Promised mode (built policy.now)) }
-{
-    match weaving {
-        Weaving::Hold => Ok(Mode::Hold),
-        Weaving::Release => releasing(policy),
-        Weaving::Auto => releasing(policy),
+    match mode_for(alloc, weaving, tree, listing, &policy) {
+        Ok(mode) => Ok((policy, mode)),
+        Err(refusal) => {
+            drop(policy);
+            Err(refusal)
+        }
     }
 }
 
-/// The lock is let go where calls are denied outright.
-fn releasing(policy: &PolicyTree) -> Result<Mode, Refusal>
-    ensures is { result ≡ releasing policy.now }
-    ensures promised { IfOk result (λ mode. Promised mode (built policy.now)) }
+/// The mode in which the policy of a tree is woven.
+fn mode_for(
+    alloc: Global,
+    weaving: Weaving,
+    tree: &PolicyTree,
+    listing: &Listing,
+    policy: &Policy,
+) -> Result<Mode, Refusal>
+    requires is { policy.now ≡ built tree.now }
+    requires sound { IsPolicy policy.now }
+    ensures is { UnlessMemory (Equals (mode_for weaving tree.now listing.now)) result }
+    ensures free { IfOk result (λ mode. mode ≡ modes.Release → IsFreeOfRaces policy.now) }
 {
-    if denies_only(policy) {
-        Ok(Mode::Release)
-    } else {
-        Err(Refusal::NotBuilt)
+    match weaving {
+        Weaving::Hold => Ok(Mode::Hold),
+        Weaving::Release => match race_step(alloc, tree, listing, policy) {
+            Ok(()) => Ok(Mode::Release),
+            Err(refusal) => Err(refusal),
+        },
+        Weaving::Auto => match auto_mode(alloc, policy) {
+            Ok(mode) => Ok(mode),
+            Err(NoMemory) => Err(Refusal::Memory),
+        },
     }
 }
 
@@ -313,7 +333,7 @@ fn rewoven(alloc: Global, words: &InlineWords, given: Given, made: Woven) -> Res
     requires few { IsFew given.client.listing }
     requires listed { IsListed given.client.listing }
     requires policy { IsSoundFor given.client.listing given.policy }
-    requires promised { Promised given.mode given.policy }
+    requires free { given.mode ≡ modes.Release → IsFreeOfRaces given.policy }
     requires count { length made.files ≤ 1001 }
     requires fits { AllByRecursion CanSpell made.files }
     requires expected { IsExpected (inline_named words.now).main given made }
@@ -347,7 +367,7 @@ fn retyped(
     requires few { IsFew given.client.listing }
     requires listed { IsListed given.client.listing }
     requires policy { IsSoundFor given.client.listing given.policy }
-    requires promised { Promised given.mode given.policy }
+    requires free { given.mode ≡ modes.Release → IsFreeOfRaces given.policy }
     requires count { length made.files ≤ 1001 }
     requires fits { AllByRecursion CanSpell made.files }
     requires expected { IsExpected (inline_named words.now).main given made }
@@ -443,16 +463,19 @@ fn judged(
 ) -> Result<Ready, Refusal>
     requires sound { IsSound program.now }
     requires policy { IsSoundFor program.now.listing policy.now }
-    requires promised { Promised certificate.now.mode policy.now }
-    requires accepted { IsAccepted program.now policy.now certificate.now }
-    ensures accepts { Accepts folder.now policy.now program.now certificate.now result }
-    ensures accepted { IsAccepted program.now policy.now certificate.now }
-    ensures secure { Secure certificate.now.mode program.now policy.now }
-    ensures verdict { IfOk result (λ ready. verdict program.now policy.now certificate.now ≡ Ok ready.accepted) }
+    requires allowed { IsAllowed program.now policy.now certificate.now }
+    requires formed { RunsAreFormed program.now policy.now }
+    ensures accepts { UnlessMemory (Accepts folder.now policy.now program.now certificate.now) result }
+    ensures secure { IfOk result (λ ready. Secure certificate.now.mode program.now policy.now) }
+    ensures verdict { IfOk result (λ ready. judged program.now policy.now certificate.now ≡ Ok ready.accepted) }
     ensures written { IfOk result (λ ready. is_written certificate.now ≡ true) }
     ensures outputs { IfOk result (λ ready. ready.outputs ≡ outputs_of folder.now program.now certificate.now) }
 {
-    let accepted = check(program, policy, certificate).unwrap();
+    let accepted = match check(alloc, program, policy, certificate) {
+        Ok(accepted) => accepted,
+        Err(Denial::Memory) => return Err(Refusal::Memory),
+        Err(_) => unreachable!(),
+    };
     let program = program.program();
     let outputs = outputs_of(alloc, folder, program, certificate)?;
     Ok(Ready {

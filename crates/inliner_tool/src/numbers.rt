@@ -22,7 +22,6 @@ ghost use Rattle.inliner_tool.specs.Numbers.{
   size_report,
   step_report,
   total_report,
-  unbuilt_report,
   untyped_report,
 };
 
@@ -108,13 +107,6 @@ pub fn record_report(alloc: Global, fault: RecordFault) -> Result<Report, NoMemo
         RecordFault::Line { line } => Report::new(alloc, 261, [Field::Count(line)]),
         RecordFault::Memory => Report::new(alloc, 0, []),
     }
-}
-
-/// A policy or a mode that is not built yet.
-pub fn unbuilt_report(alloc: Global) -> Result<Report, NoMemory>
-    ensures { IfOk result (λ r. r ≡ unbuilt_report) }
-{
-    Report::new(alloc, 199, [])
 }
 
 /// Why a file is not read as what it is named for.

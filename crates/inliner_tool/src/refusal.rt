@@ -24,8 +24,19 @@ pub enum Refusal {
         method: u32,
         at: u32,
     },
-    /// The policy, in this mode, is not built yet.
-    NotBuilt,
+    /// The events of the policy race: the first condition that is broken, by its number, and a state and events that break it, as
+    /// they are printed.
+    Racy {
+        condition: u8,
+        example: Bytes,
+    },
+    /// So many points would have to be tried for two clauses, by their places in the policy, or for one, which is told
+    /// twice, to decide whether they race. That is too many.
+    CellLimit {
+        first: u32,
+        second: u32,
+        count: u64,
+    },
     /// A method, by its class and its index there, would have this size, which does not fit.
     Overflow {
         class: Bytes,

@@ -9,7 +9,7 @@ ghost use Rattle.inliner_tool.specs.Replies.{input, mode_name, refusal_reply, re
 use crate::answer::Answer;
 use crate::numbers::{
     cells_report, check_report, event_report, input_report, length_report, link_report,
-    race_report, size_report, step_report, total_report, unbuilt_report, untyped_report,
+    race_report, size_report, step_report, total_report, untyped_report,
 };
 use crate::refusal::Refusal;
 use answer_text::{Line, Reply, Report};
@@ -40,18 +40,6 @@ fn reply_of(alloc: Global, answer: Answer) -> Result<Reply, NoMemory>
         Answer::Shown(text) => Ok(Reply::Text(text)),
         Answer::Judged(verdict) => verdict_reply(alloc, verdict),
         Answer::RaceFree => Ok(Reply::Line(Line::Free)),
-        Answer::Racy { condition, example } => {
-            let report = race_report(alloc, condition, example)?;
-            Ok(denied(report))
-        }
-        Answer::CellLimit {
-            first,
-            second,
-            count,
-        } => {
-            let report = cells_report(alloc, first, second, count)?;
-            Ok(denied(report))
-        }
         Answer::Inlined { accepted, classes } => inlined_reply(alloc, accepted, classes),
         Answer::Replayed(text) => Ok(Reply::Text(text)),
         Answer::Input(name, fault) => {
@@ -126,9 +114,17 @@ fn refusal_reply(alloc: Global, refusal: Refusal) -> Result<Reply, NoMemory>
             let report = untyped_report(alloc, class, method, at)?;
             Ok(input(None, report))
         }
-        Refusal::NotBuilt => {
-            let report = unbuilt_report(alloc)?;
-            Ok(input(None, report))
+        Refusal::Racy { condition, example } => {
+            let report = race_report(alloc, condition, example)?;
+            Ok(denied(report))
+        }
+        Refusal::CellLimit {
+            first,
+            second,
+            count,
+        } => {
+            let report = cells_report(alloc, first, second, count)?;
+            Ok(denied(report))
         }
         Refusal::Overflow {
             class,

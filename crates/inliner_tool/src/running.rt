@@ -3,11 +3,11 @@
 ghost use Rattle.inliner_tool.specs.Running.{LinkedRunTyped};
 
 use conspec_parse::kinds_are_told;
-use guest_model::steps_are_enabled;
+use guest_model::{sees_numbers_in_range, steps_are_enabled};
 use typed_runs::{events_are_well_formed, policies_tell_types, typed_programs_run};
 
 /// Whatever the steps of a linked program with types are, the machine is as the types say, a step is made exactly where it is
-/// enabled, and the events are well formed for each policy that was read over the listing.
+/// enabled, the events are well formed for each policy that was read over the listing, and numbers in locals are of 32 bits.
 pub fn linked_programs_run_typed()
     ensures { LinkedRunTyped }
 {
@@ -16,4 +16,5 @@ pub fn linked_programs_run_typed()
     events_are_well_formed();
     policies_tell_types();
     kinds_are_told();
+    sees_numbers_in_range();
 }

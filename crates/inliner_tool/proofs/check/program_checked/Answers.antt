@@ -1,18 +1,20 @@
 use Rattle.std.proofs.Common.{◌≡◌, ◌∙◌, true, ap, sym, subst}
 use Rattle.std.specs.Prelude.{is_ok}
 use Rattle.std.specs.List.{AllByRecursion}
-use Rattle.block_logic.specs.Accepted.{IsAccepted}
-use Rattle.block_logic.specs.Meaning.{Promised}
+use Rattle.block_logic.specs.Formed.{RunsAreFormed}
 use Rattle.block_logic.specs.Annotations.{annotations_of}
 use Rattle.block_logic.specs.Obeying.{EventsAreLocked, FitsListing}
 use Rattle.block_logic.specs.Outside.{LeavesBlocks}
+use Rattle.cert_checker.specs.Judging.{IsAllowed, judged}
 use Rattle.cert_checker.specs.Secure.{Secure}
 use Rattle.cert_format.specs.declared.certificate.Mode.TheVariants as modes
 use Rattle.conspec_automaton.specs.Building.{built}
 use Rattle.conspec_automaton.specs.declared.policy.Policy.{Policy}
-use Rattle.cert_checker.specs.Acceptance.{verdict}
 use Rattle.inliner_tool.proofs.CheckedAs.{judged_answer}
 use Rattle.inliner_tool.proofs.Listed.{fits_listing}
+use Rattle.inliner_tool.proofs.TypedRuns.{runs_formed}
+use Rattle.cert_checker.specs.declared.judging.Denial.TheVariants as denials
+use Rattle.mon_base.specs.Answer.{Answers}
 use Rattle.inliner_tool.proofs.check.program_checked.Goals as goal
 
 pub check-requires-clause-policy : goal.check-requires-clause-policy
@@ -30,18 +32,20 @@ pub returns-in-Ok-check-clause-checked : goal.returns-in-Ok-check-clause-checked
 returns-in-Ok-check-clause-checked c =
     let program = c.args.program.now in
     let certificate = c.args.certificate.now in
-    let is : c.in-Ok.policy ≡ built c.args.policy.now = c.in-Ok.ensures.is in
+    let is : c.in-Ok.automaton ≡ built c.args.policy.now = c.in-Ok.ensures.is in
     let ok : is_ok c.check.result ≡ true = ap is_ok c.in-Ok-check.is in
-    let promised = subst (Promised certificate.mode) (sym is) (c.is_judged.ensures.promised c.if-not-is_judged.false) in
+    let allowed = c.check.ensures.allowed ok in
+    let runs = c.linked_programs_run_typed.ensures program certificate.typing c.requires.linked allowed.accepted.typed in
+    let formed : RunsAreFormed program (built c.args.policy.now) = runs_formed program certificate.typing c.args.policy.now runs c.requires.policy in
     record {
       policy_is = is;
-      answer = judged_answer c.args.policy.now certificate program c.in-Ok-check.accepted (sym c.is_judged.ensures.is ∙ c.if-not-is_judged.false)
-          (ap (λ (p : Policy). verdict program p certificate) (sym is) ∙ sym c.check.ensures.exact ∙ c.in-Ok-check.is);
+      answer = judged_answer c.args.policy.now certificate program c.in-Ok-check.accepted
+          (ap (λ (p : Policy). judged program p certificate) (sym is) ∙ subst (λ r. Answers denials.Memory r (judged program c.in-Ok.automaton certificate)) c.in-Ok-check.is c.check.ensures.exact);
       checked = record {
-        accepted = subst (λ (p : Policy). IsAccepted program p certificate) is (c.check.ensures.ok.0 ok);
-        secure = subst (Secure certificate.mode program) is (c.check.ensures.secure ok promised);
+        accepted = subst (λ (p : Policy). IsAllowed program p certificate) is allowed;
+        secure = subst (Secure certificate.mode program) is (c.check.ensures.secure ok (λ mode. subst (RunsAreFormed program) (sym is) formed));
         read = c.requires.policy;
-        runs = c.linked_programs_run_typed.ensures program certificate.typing c.requires.linked (c.check.ensures.ok.0 ok).typed;
+        runs = runs;
         locked = subst (λ (p : Policy). certificate.mode ≡ modes.Hold → EventsAreLocked program p) is (c.check.ensures.locked ok);
         errors = subst (λ (p : Policy). LeavesBlocks program p (annotations_of certificate)) is (c.check.ensures.leaves_blocks ok);
       };

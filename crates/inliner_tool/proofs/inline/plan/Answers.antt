@@ -2,7 +2,7 @@ use Rattle.std.proofs.Common.{sym}
 use Rattle.std.proofs.lemmas.Result.{err_from_is_err_and}
 use Rattle.command_words.specs.InlineWords.{NamedInline, inline_named}
 use Rattle.inliner_tool.proofs.Blocks.{planned}
-use Rattle.inliner_tool.proofs.MadeOf.{client_laid_out, client_links, client_typed, few_made, listing_same, made_of}
+use Rattle.inliner_tool.proofs.MadeOf.{client_chosen, client_laid_out, client_links, client_typed, few_made, listing_same, made_of}
 use Rattle.inliner_tool.proofs.Planned.{given_fails, plan_fails, plan_goes, typed_so}
 use Rattle.inliner_tool.proofs.inline.plan.Goals as goal
 
@@ -56,6 +56,6 @@ returns-clause-planned c =
     (sym c.in_ok-client.ensures.is) c.in_ok-client.ensures.sound c.in_ok-client.ensures.links c.in_ok-client.ensures.listing (c.in_ok-given.ensures.sound c.args.inputs.listing c.requires.policy.sound)
     c.in-Ok.made c.in-Ok.ensures.exact in
     let so = typed_so (inline_named c.args.words.now) c.args.inputs c.in_ok-client.client c.in_ok-client.ensures.is c.in_ok-given.given c.in_ok-given.ensures.gathers in
-    planned named inputs given c.in-Ok.made (client_links inputs client given gathered named (sym c.in_ok-client.ensures.is)) (client_typed inputs client given gathered so.0) gathered.policy so.1
+    planned named inputs given c.in-Ok.made (client_links inputs client given gathered named (sym c.in_ok-client.ensures.is)) (client_typed inputs client given gathered so.0) gathered.policy (client_chosen inputs client given gathered named so.1)
     (listing_same inputs client given gathered c.in_ok-client.ensures.listing) c.in-Ok.ensures.exact
     (c.woven_is_expected.ensures.links inputs named.main given c.in-Ok.made of) c.rewoven.result c.rewoven.ensures.rewoven
