@@ -1,21 +1,14 @@
 -- A step keeps the agreement of what happened with what is recorded, and the events obeying.
-use Rattle.std.proofs.Common.{◌≡◌, ◌≢◌, ◌⊎◌, ℕ, zero, suc, Bool, true, false, cond, List, [], ◌∷◌, ◌++◌, Option, Some, None, refl, sym, ap, subst, ◌∙◌, append-nil, arith, inl, inr}
-use Rattle.std.proofs.lemmas.Bool.{and_parts}
-use Rattle.std.specs.Prelude.{◌==◌, IfSome, filter, is_some, option_and_then, slice_get}
+use Rattle.std.proofs.Common.{◌≡◌, ◌≢◌, ℕ, zero, suc, Bool, true, false, cond, List, [], ◌∷◌, ◌++◌, Option, Some, None, refl, sym, ap, subst, ◌∙◌, append-nil, arith, inl, inr}
+use Rattle.std.specs.Prelude.{IfSome, filter, is_some, option_and_then, slice_get}
 use Rattle.std.specs.Option.{option_to_list}
 use Rattle.std.proofs.lemmas.List.Elements.{filter-append}
 use Rattle.api_listing.specs.declared.events.Event.{Event}
-use Rattle.api_listing.specs.declared.events.Event.TheVariants as events
 use Rattle.conspec_automaton.specs.declared.policy.Policy.{Policy}
-use Rattle.conspec_automaton.specs.Denying.{Denies, DeniesOnly}
-use Rattle.conspec_automaton.specs.Next.{Values, clause_of, has_clause, initial, is_phase_of, method_of, next, speaks_of}
+use Rattle.conspec_automaton.specs.Next.{Values, has_clause, initial, next}
 use Rattle.conspec_automaton.specs.Obeys.{Follows, IsFollowed, after, is_return, spoken}
 use Rattle.conspec_automaton.specs.Sight.{sight_of}
-use Rattle.conspec_automaton.proofs.Ranges.{found_is}
 use Rattle.conspec_automaton.proofs.Turned.{runs_join}
-use Rattle.conspec_tree.specs.declared.types.Phase.TheVariants.{Before}
-use Rattle.guest_model.proofs.Options.{some_is}
-use Rattle.block_logic.proofs.Tests.{it_is_there}
 use Rattle.block_logic.specs.Agreement.{Agree, Clear, Granted, Owed, Part, Settles, Tells, Turns, all_granted, all_owed, clause_event, granted_by, owed_by}
 
 -- Of an event a policy reads what it sees alone.
@@ -44,28 +37,6 @@ spoken_with policy seen (Some e) = filter-append (has_clause policy) seen (e ∷
   by : (b : Bool) → has_clause policy e ≡ b → spoken policy seen ++ filter (has_clause policy) (e ∷ []) ≡ spoken policy seen ++ option_to_list (clause_event policy (Some e))
   by true has = rw has refl
   by false none = rw none refl
-
-pub clause_is : (policy : Policy) (event : Option Event) (e : Event) → clause_event policy event ≡ Some e → has_clause policy e ≡ true
-clause_is policy None e is = absurd cc
-clause_is policy (Some seen) e is = by (has_clause policy seen) refl is where
-  by : (b : Bool) → has_clause policy seen ≡ b → cond b (Some seen) None ≡ Some e → has_clause policy e ≡ true
-  by true has is' = let same : seen ≡ e = some_is seen e is' in subst (λ (x : Event). has_clause policy x ≡ true) same has
-  by false none is' = absurd cc
-
--- ---- policies that deny calls outright
-
-before_call : (event : Event) → is_phase_of event Before ≡ true → is_return event ≡ false
-before_call (events.Call thread method arguments) e = refl
-before_call (events.Return thread method value) e = absurd cc
-before_call (events.Except thread method) e = absurd cc
-
--- Each event with a clause is a call.
-pub no_return : (policy : Policy) (event : Event) → DeniesOnly policy → has_clause policy event ≡ true → is_return event ≡ false
-no_return policy event denies has =
-    let c = it_is_there (clause_of policy event) has in
-    let d = found_is Denies (speaks_of event) policy.clauses c.0 denies.clauses c.1 in
-    let of_phase = (and_parts (c.0.method == method_of event) (is_phase_of event c.0.phase) d.passes).1 in
-    before_call event (rw d.so.calls at of_phase)
 
 -- ---- parts of which one alone is not clear
 

@@ -17,7 +17,6 @@ use Rattle.cert_format.specs.declared.note.Phase8.TheVariants.{Before}
 use Rattle.cert_format.specs.declared.note.Site.{Site}
 use Rattle.conspec_automaton.specs.declared.policy.Clause.{Clause}
 use Rattle.conspec_automaton.specs.declared.policy.Policy.{Policy}
-use Rattle.conspec_automaton.specs.Denying.{DeniesOnly}
 use Rattle.conspec_automaton.specs.Events.{IsWellFormed}
 use Rattle.conspec_automaton.specs.Next.{Values, has_clauses, initial, method_of, next}
 use Rattle.conspec_automaton.specs.Obeys.{Follows, IsFollowed, after, is_return, spoken}
@@ -40,15 +39,15 @@ use Rattle.block_logic.specs.Agreement.{Agree, Part, Turns, all_granted, all_owe
 use Rattle.block_logic.specs.Agreement as parts
 use Rattle.block_logic.specs.Clauses.{clause_at}
 use Rattle.block_logic.specs.Fitting.{AreBelow, AreBlockFrames, AreClientFrames, AreOthers, Fits, IsBlockDoing, IsClient, IsClientDoing, IsClientFrame, IsCleanWorld, IsInBlock, IsKept, IsLocked, IsOther, IsUnlocked, ObeysIn, held_locks, locked_by, state_of}
-use Rattle.block_logic.specs.Meaning.{AreClean, IsFrame, IsFree, IsGranted, IsJudged, IsLocking, IsReleasing, MeansGranted, note_of}
+use Rattle.block_logic.specs.Meaning.{AreClean, IsFrame, IsFree, IsGranted, IsJudged, IsReleasing, MeansGranted, note_of}
 use Rattle.block_logic.specs.Obeying.{IsObeying}
 use Rattle.block_logic.specs.Standing.{is_open, needs_no_grant}
-use Rattle.block_logic.proofs.Agreement.{SeenIsEnough, alone, clause_is, no_return, one_clear, same_spoken, spoken_with, still_agrees, still_followed}
+use Rattle.block_logic.proofs.Agreement.{SeenIsEnough, alone, one_clear, same_spoken, spoken_with, still_agrees, still_followed}
 use Rattle.block_logic.proofs.Owner.Fair.{block_anywhere, block_fair, block_loose, clear_fair}
 use Rattle.block_logic.proofs.Owner.Standing.{none_there, slice_get_there}
 use Rattle.block_logic.proofs.Owner.Variables.{set_elsewhere, set_there}
 use Rattle.block_logic.proofs.Racing.{IsLoose, IsLooseEvent, Turning, keeps_agreement}
-use Rattle.block_logic.proofs.Steps.{Acts, AreLoose, BlockAnswers, ChangesBlock, ChangesClient, ClientAnswers, ClientSteps, GivesUp, HasIntsIn, IsFair, IsFit, OtherSteps, OwnerSteps, StaysOther, StaysOwner, Takes, TakingSteps}
+use Rattle.block_logic.proofs.Steps.{AreLoose, BlockAnswers, ChangesBlock, ChangesClient, ClientAnswers, ClientSteps, GivesUp, HasIntsIn, IsFair, IsFit, OtherSteps, OwnerSteps, StaysOther, StaysOwner, Takes, TakingSteps}
 use Rattle.block_logic.proofs.Threads.{own_thread, was_thread}
 
 -- ---- lists
@@ -232,13 +231,6 @@ module _ (program : Program) (policy : Policy) (annotations : Annotations) (laws
   other_loose thread part (inl client) = subst (IsLoose policy annotations.held (IsFit program policy annotations)) (sym client.1) tt
   other_loose thread part (inr block) = block_loose program policy annotations [] [] thread.frames thread.doing part block
 
-  -- Where the lock is held round each call, or each is denied, it has begun nothing.
-  loose_clear : (part : Part) → IsLocking annotations.held policy → IsFair program policy annotations part → IsLoose policy annotations.held (IsFit program policy annotations) part → part ≡ parts.Clear
-  loose_clear part (inr denies) fair loose = fair.accepts denies
-  loose_clear parts.Clear (inl always) fair loose = refl
-  loose_clear (parts.Granted call) (inl always) fair loose = let not_so : true ≡ false = sym (always_round annotations.held (method_of call) always) ∙ loose in absurd cc
-  loose_clear (parts.Owed end) (inl always) fair loose = let not_so : true ≡ false = sym (always_round annotations.held (method_of end) always) ∙ loose in absurd cc
-
   -- ---- the events so far, and what is recorded
 
   abbrev Loose : Part → Type 0
@@ -263,67 +255,47 @@ module _ (program : Program) (policy : Policy) (annotations : Annotations) (laws
     abbrev after_parts : List Part
     after_parts = slice_set among own due
 
-    abbrev Now : Type 0
-    Now = Agree (next policy) (initial policy) (spoken policy more) now (all_granted after_parts) (all_owed after_parts) × ObeysIn (is_always annotations.held) policy more
+    abbrev Now : Bool → Type 0
+    Now always = Agree (next policy) (initial policy) (spoken policy more) now (all_granted after_parts) (all_owed after_parts) × ObeysIn always policy more
 
-    same_obeys : ObeysIn (is_always annotations.held) policy seen → spoken policy more ≡ spoken policy seen → ObeysIn (is_always annotations.held) policy more
-    same_obeys obeys same = by (is_always annotations.held) obeys where
-      by : (b : Bool) → ObeysIn b policy seen → ObeysIn b policy more
-      by true followed = subst (Follows (next policy) is_return (initial policy)) (sym same) followed
-      by false accepted = subst (λ (es : List Event). IsSome (after (next policy) (initial policy) es)) (sym same) accepted
+    -- Where the lock is held round each call: one thread alone has begun anything.
+    module _ (always : is_always annotations.held ≡ true) (followed : IsFollowed policy seen) where
+      -- no event is of a method round whose calls it is not held
+      none_loose : (e : Event) → IsLooseEvent policy annotations.held Fit e → ⊥
+      none_loose e loose = let not_so : true ≡ false = sym (always_round annotations.held (method_of e) always) ∙ loose in absurd cc
 
-    -- Where the lock is held round each call, or each is denied: one thread alone has begun anything.
-    module _ (locking : IsLocking annotations.held policy) (obeys : ObeysIn (is_always annotations.held) policy seen) where
-      denies_if : is_always annotations.held ≡ false → IsLocking annotations.held policy → DeniesOnly policy
-      denies_if none (inl always) = let not_so : true ≡ false = sym always ∙ none in absurd cc
-      denies_if none (inr denies) = denies
+      loose_clear : (part : Part) → Loose part → part ≡ parts.Clear
+      loose_clear parts.Clear loose = refl
+      loose_clear (parts.Granted call) loose = absurd (none_loose call loose)
+      loose_clear (parts.Owed end) loose = absurd (none_loose end loose)
 
-      -- an end with a clause, of a method round whose calls the lock is not held
-      no_such_event : (e : Event) → clause_event policy event ≡ Some e → is_return e ≡ true → IsLooseEvent policy annotations.held Fit e → IsLocking annotations.held policy → ⊥
-      no_such_event e some ends loose_e (inl always) = let not_so : true ≡ false = sym (always_round annotations.held (method_of e) always) ∙ loose_e in absurd cc
-      no_such_event e some ends loose_e (inr denies) =
-          let call : is_return e ≡ false = no_return policy e denies (clause_is policy event e some) in
-          let not_so : true ≡ false = sym ends ∙ call in
-          absurd cc
-
-      obeys_alone : Agree (next policy) (initial policy) (spoken policy seen) recorded (granted_by part) (owed_by part) → ObeysIn (is_always annotations.held) policy more
-      obeys_alone alone = by (is_always annotations.held) refl obeys where
-        by : (b : Bool) → is_always annotations.held ≡ b → ObeysIn b policy seen → ObeysIn b policy more
-        by true is followed = still_followed laws.seen_is_enough policy seen event recorded now part due turns alone followed
-        by false is accepted =
-            let denies : DeniesOnly policy = denies_if is locking in
-            let clear : due ≡ parts.Clear = fair_due.accepts denies in
-            let agreed = still_agrees laws.seen_is_enough policy seen event recorded now part due turns alone in
-            let cleared : Agree (next policy) (initial policy) (spoken policy more) now [] [] = subst (λ (p : Part). Agree (next policy) (initial policy) (spoken policy more) now (granted_by p) (owed_by p)) clear agreed in
-            ap is_some (ap (after (next policy) (initial policy)) (sym (append-nil (spoken policy more))) ∙ cleared)
-
-      owner_alone : ((n : ℕ) (q : Part) → n ≢ own → slice_get among n ≡ Some q → Loose q) → Now
+      owner_alone : ((n : ℕ) (q : Part) → n ≢ own → slice_get among n ≡ Some q → Loose q) → Now true
       owner_alone others =
-          let clear = λ (n : ℕ) (q : Part) (differ : n ≢ own) (is : slice_get among n ≡ Some q). loose_clear q locking (fairs n q differ is) (others n q differ is) in
+          let clear = λ (n : ℕ) (q : Part) (differ : n ≢ own) (is : slice_get among n ≡ Some q). loose_clear q (others n q differ is) in
           let one = alone among own part there clear in
           let before : Agree (next policy) (initial policy) (spoken policy seen) recorded (granted_by part) (owed_by part) = rw (sym one.0, sym one.1) agree in
           let within = slice_get_within among own part there in
           let two = alone after_parts own due (set_there among own due within) (λ n q differ is. clear n q differ (sym (set_elsewhere among n own due (λ same. differ (sym same))) ∙ is)) in
-          (rw (two.0, two.1) (still_agrees laws.seen_is_enough policy seen event recorded now part due turns before), obeys_alone before)
+          (rw (two.0, two.1) (still_agrees laws.seen_is_enough policy seen event recorded now part due turns before), still_followed laws.seen_is_enough policy seen event recorded now part due turns before followed)
 
       -- a thread that does not hold the lock turns nothing
-      nothing_turns : Loose part → Loose due → IfSome (clause_event policy event) (IsLooseEvent policy annotations.held Fit) → Now
+      nothing_turns : Loose part → Loose due → IfSome (clause_event policy event) (IsLooseEvent policy annotations.held Fit) → Now true
       nothing_turns loose_part loose_due loose_event =
-          let clear : part ≡ parts.Clear = loose_clear part locking fair loose_part in
-          let clear_due : due ≡ parts.Clear = loose_clear due locking fair_due loose_due in
+          let clear : part ≡ parts.Clear = loose_clear part loose_part in
+          let clear_due : due ≡ parts.Clear = loose_clear due loose_due in
           let turned : Turns policy recorded parts.Clear (clause_event policy event) now parts.Clear =
           subst (λ (p : Part). Turns policy recorded p (clause_event policy event) now parts.Clear) clear (subst (Turns policy recorded part (clause_event policy event) now) clear_due turns) in
           let kept : after_parts ≡ among = set_same among own due (there ∙ ap Some (clear ∙ sym clear_due)) in
           by kept (clause_event policy event) refl turned loose_event where
-            by : after_parts ≡ among → (e : Option Event) → clause_event policy event ≡ e → Turns policy recorded parts.Clear e now parts.Clear → IfSome e (IsLooseEvent policy annotations.held Fit) → Now
+            by : after_parts ≡ among → (e : Option Event) → clause_event policy event ≡ e → Turns policy recorded parts.Clear e now parts.Clear → IfSome e (IsLooseEvent policy annotations.held Fit) → Now true
             by kept None none turned loose' =
                 let same : spoken policy more ≡ spoken policy seen = spoken_with policy seen event ∙ ap (λ (x : Option Event). spoken policy seen ++ option_to_list x) none ∙ append-nil (spoken policy seen) in
-                (rw (same, kept, turned) agree, same_obeys obeys same)
-            by kept (Some e) some turned loose' = absurd (no_such_event e some turned.0 loose' locking)
+                (rw (same, kept, turned) agree, subst (Follows (next policy) is_return (initial policy)) (sym same) followed)
+            by kept (Some e) some turned loose' = absurd (none_loose e loose')
 
-      locking_turns : Now
-      locking_turns = by loose where
-        by : (Loose part × Loose due × IfSome (clause_event policy event) (IsLooseEvent policy annotations.held Fit)) ⊎ ((n : ℕ) (q : Part) → n ≢ own → slice_get among n ≡ Some q → Loose q) → Now
+      holding_turns : Now true
+      holding_turns = by loose where
+        by : (Loose part × Loose due × IfSome (clause_event policy event) (IsLooseEvent policy annotations.held Fit)) ⊎ ((n : ℕ) (q : Part) → n ≢ own → slice_get among n ≡ Some q → Loose q) → Now true
         by (inl mine) = nothing_turns mine.0 mine.1 mine.2
         by (inr others) = owner_alone others
 
@@ -348,23 +320,20 @@ module _ (program : Program) (policy : Policy) (annotations : Annotations) (laws
         across = λ c d one fc fd cc dd. releasing.race.ends_come_first c d (tested c d one) (record { formed = formed c fc; calls = cc }) (record { formed = formed d fd; ends = dd });
       }
 
-      releasing_turns : Now
+      releasing_turns : Now false
       releasing_turns =
           let k = keeps_agreement policy annotations.held Fit turning laws.seen_is_enough (next_keeps policy laws.obeys.good) (firsts_in_range policy.maxint policy.vars laws.obeys.good.vars)
-          (spoken policy seen) recorded now ranged in_range_now among own part due (clause_event policy event) there fair.good fair_due.good fit (λ n q differ is. (fairs n q differ is).good) loose turns agree in
+          (spoken policy seen) recorded now ranged in_range_now among own part due (clause_event policy event) there fair fair_due fit fairs loose turns agree in
           let same : spoken policy more ≡ spoken policy seen ++ option_to_list (clause_event policy event) = spoken_with policy seen event in
-          (rw same k.0, accepted (is_always annotations.held) loosely (rw same k.1)) where
-            accepted : (b : Bool) → b ≡ false → IsSome (after (next policy) (initial policy) (spoken policy more)) → ObeysIn b policy more
-            accepted true not_so is = absurd cc
-            accepted false loosely is = is
+          (rw same k.0, rw same k.1)
 
     -- The step keeps the agreement, and the events obeying.
-    pub turn_keeps : ObeysIn (is_always annotations.held) policy seen → Now
-    turn_keeps obeys = by (is_always annotations.held) refl laws.obeys.judged where
-      by : (b : Bool) → is_always annotations.held ≡ b → IsJudged program policy annotations.held → Now
-      by b is (inl locking) = locking_turns locking obeys
-      by true is (inr releasing) = locking_turns (inl is) obeys
-      by false is (inr releasing) = releasing_turns is releasing
+    pub turn_keeps : ObeysIn (is_always annotations.held) policy seen → Now (is_always annotations.held)
+    turn_keeps obeys = by (is_always annotations.held) refl laws.obeys.judged obeys where
+      by : (b : Bool) → is_always annotations.held ≡ b → IsJudged program policy annotations.held → ObeysIn b policy seen → Now b
+      by true always judged followed = holding_turns always followed
+      by false loosely (inl always) accepted = let not_so : true ≡ false = sym always ∙ loosely in absurd cc
+      by false loosely (inr releasing) accepted = releasing_turns loosely releasing
 
   -- ---- the machine afterwards
 

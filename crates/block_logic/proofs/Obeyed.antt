@@ -6,14 +6,13 @@ use Rattle.std.specs.Option.{option_map_or, option_to_list}
 use Rattle.std.proofs.lemmas.Bool.{cases_eq}
 use Rattle.api_listing.specs.declared.events.Event.{Event}
 use Rattle.bytecode_model.specs.declared.program.Program.{Program}
-use Rattle.block_logic.specs.Agreement.{Part, Tells, Turns, clause_event}
-use Rattle.block_logic.specs.Agreement as parts
+use Rattle.block_logic.specs.Agreement.{Part, clause_event}
 use Rattle.block_logic.specs.Annotations.{Annotations, annotations_of, held_in, holds_round, is_always}
 use Rattle.cert_format.specs.declared.certificate.Mode.{Mode}
 use Rattle.cert_format.specs.declared.certificate.Mode.TheVariants as modes
 use Rattle.conspec_automaton.specs.declared.policy.Policy.{Policy}
 use Rattle.conspec_automaton.specs.Next.{has_clause, method_of}
-use Rattle.conspec_automaton.specs.Obeys.{Obeys, is_return}
+use Rattle.conspec_automaton.specs.Obeys.{Obeys}
 use Rattle.guest_heap.specs.declared.object.Monitor.{Monitor}
 use Rattle.guest_model.specs.declared.machine.Machine.{Machine}
 use Rattle.guest_model.specs.declared.machine.Step.{Step}
@@ -22,10 +21,9 @@ use Rattle.guest_model.specs.Runs.{exec, trace}
 use Rattle.guest_model.specs.Stepping.{changed}
 use Rattle.guest_model.proofs.Options.{map_of}
 use Rattle.block_logic.specs.Fitting.{Fits, IsLocked, IsOther, IsUnlocked, ObeysIn, held_locks, locked_by}
-use Rattle.block_logic.specs.Meaning.{IsLocking}
 use Rattle.block_logic.specs.Obeying.{AcceptedObeys, IsObeying, LockIsHeld, LockOrders}
-use Rattle.block_logic.proofs.Agreement.{clause_is, its_clause, no_clause, no_return}
-use Rattle.block_logic.proofs.Composing.{Moves, StepLaws, always_round, other_fair}
+use Rattle.block_logic.proofs.Agreement.{its_clause, no_clause}
+use Rattle.block_logic.proofs.Composing.{Moves, StepLaws, always_round}
 use Rattle.block_logic.proofs.Keeping.{IsKeptThere, IsMade, IsReached, always_kept, fit_of, is_made, moves, part}
 use Rattle.block_logic.proofs.Steps.{ChangesBlock, IsFit, StartsWell, Takes}
 
@@ -60,40 +58,25 @@ module _ (program : Program) (policy : Policy) (annotations : Annotations) (laws
     other_of (inl u) = u.threads step.thread m.thread own.0 tt m.there own.1
     other_of (inr (l, differ)) = l.others step.thread m.thread own.0 differ m.there own.1
 
-    -- Where the lock is held round each call, or each is denied, it has no event with a clause, unless it takes the lock.
-    seen_unclaused : IsLocking annotations.held policy → IsOther program policy annotations m.thread own.0
-        → ChangesBlock program policy annotations false (world_of machine) step.thread fits.recorded own.0 change → (event : Event) → clause_event policy change.event ≡ Some event → ⊥
-    seen_unclaused (inl always) other c event is =
+    -- Where the lock is held round each call, it has no event with a clause, unless it takes the lock.
+    seen_unclaused : is_always annotations.held ≡ true → ChangesBlock program policy annotations false (world_of machine) step.thread fits.recorded own.0 change
+        → (event : Event) → clause_event policy change.event ≡ Some event → ⊥
+    seen_unclaused always c event is =
         let loose : holds_round annotations.held (method_of event) ≡ false = subst (λ (o : Option Event). IfSome o (λ (x : Event). holds_round annotations.held (method_of x) ≡ false)) is c.loose.2 in
         let not_so : true ≡ false = sym (always_round annotations.held (method_of event) always) ∙ loose in
         absurd cc
-    seen_unclaused (inr denies) other c event is =
-        let clear : own.0 ≡ parts.Clear = (other_fair program policy annotations laws m.thread own.0 other).accepts denies in
-        let turns : Tells policy fits.recorded parts.Clear event c.now c.due =
-        subst (λ (p : Part). Turns policy fits.recorded p (Some event) c.now c.due) clear (subst (λ (o : Option Event). Turns policy fits.recorded own.0 o c.now c.due) is c.turns) in
-        by c.due turns where
-          ends_not : is_return event ≡ true → ⊥
-          ends_not ends =
-              let call : is_return event ≡ false = no_return policy event denies (clause_is policy change.event event is) in
-              let not_so : true ≡ false = sym ends ∙ call in
-              absurd cc
-
-          by : (due : Part) → Tells policy fits.recorded parts.Clear event c.now due → ⊥
-          by parts.Clear turns = ends_not turns.0
-          by (parts.Granted call) turns = turns
-          by (parts.Owed end) turns = ends_not turns.0
 
     -- it has none, or takes the lock
-    pub unclaused_or_takes : IsLocking annotations.held policy → IsOther program policy annotations m.thread own.0
+    pub unclaused_or_takes : is_always annotations.held ≡ true → IsOther program policy annotations m.thread own.0
         → (clause_event policy change.event ≡ None) ⊎ Takes program policy annotations (world_of machine) step.thread own.0 change
-    unclaused_or_takes locking other = by (moves program policy annotations laws machine events reached fits step m.thread change m.there m.made fit own.0 other) where
+    unclaused_or_takes always other = by (moves program policy annotations laws machine events reached fits step m.thread change m.there m.made fit own.0 other) where
       none : (o : Option Event) → ((event : Event) → o ≡ Some event → ⊥) → o ≡ None
       none None refuted = refl
       none (Some event) refuted = absurd (refuted event refl)
 
       by : Moves program policy annotations laws machine step.thread fits.recorded own.0 change → (clause_event policy change.event ≡ None) ⊎ Takes program policy annotations (world_of machine) step.thread own.0 change
       by (inl c) = inl (no_clause policy change.event c.1.event)
-      by (inr (inl c)) = inl (none (clause_event policy change.event) (λ event is. seen_unclaused locking other c event is))
+      by (inr (inl c)) = inl (none (clause_event policy change.event) (λ event is. seen_unclaused always c event is))
       by (inr (inr t)) = inr t
 
   -- ---- the lock's order
@@ -105,7 +88,7 @@ module _ (program : Program) (policy : Policy) (annotations : Annotations) (laws
     by true has empty = absurd cc
     by false has empty = has
 
-  module _ (locking : IsLocking annotations.held policy) (machine : Machine) (events : List Event) (step : Step) (owner : ℕ)
+  module _ (always : is_always annotations.held ≡ true) (machine : Machine) (events : List Event) (step : Step) (owner : ℕ)
       (locked : held_locks program machine.monitors ≡ locked_by program owner) (differ : step.thread ≢ owner) where
     -- another thread holds it
     is_other : (fits : Fits program policy annotations machine events)
@@ -122,7 +105,7 @@ module _ (program : Program) (policy : Policy) (annotations : Annotations) (laws
         let m = is_made program policy annotations laws machine step change e in
         let fits = was.kept.fits m.goes in
         clauseless change.event
-        (by change (unclaused_or_takes machine events was.reached fits step change m e locking (other_of machine events was.reached fits step change m e (is_other fits fits.lock)))) where
+        (by change (unclaused_or_takes machine events was.reached fits step change m e always (other_of machine events was.reached fits step change m e (is_other fits fits.lock)))) where
           by : {p : Part} (c : Change) → (clause_event policy c.event ≡ None) ⊎ Takes program policy annotations (world_of machine) step.thread p c → clause_event policy c.event ≡ None
           by c (inl none) = none
           by c (inr t) = absurd (t.waits owner locked differ)
@@ -142,7 +125,7 @@ module _ (program : Program) (policy : Policy) (annotations : Annotations) (laws
     takes_it : (o : IsUnlocked program policy annotations machine fits.recorded fits.fields fits.among
         ⊎ ((l : IsLocked program policy annotations machine fits.recorded fits.fields fits.among) × (step.thread ≢ l.owner)))
         → ((p : Part) → Takes program policy annotations (world_of machine) step.thread p change → ⊥) → ⊥
-    takes_it o refuted = by (unclaused_or_takes machine events was.reached fits step change m e (inl always) (other_of machine events was.reached fits step change m e o)) where
+    takes_it o refuted = by (unclaused_or_takes machine events was.reached fits step change m e always (other_of machine events was.reached fits step change m e o)) where
       by : {p : Part} → (clause_event policy change.event ≡ None) ⊎ Takes program policy annotations (world_of machine) step.thread p change → ⊥
       by (inl none) = let not_so : None ≡ Some event = sym none ∙ seen_is in absurd cc
       by {p = p} (inr t) = refuted p t
@@ -171,9 +154,9 @@ accepted_obeys proved program policy certificate o steps =
     (always_kept program policy annotations (proved.steps program policy annotations o) (proved.starts program policy annotations o) steps).kept.obeys
 
 pub lock_orders : Proved → LockOrders
-lock_orders proved program policy annotations o locking steps owner step locked differ =
+lock_orders proved program policy annotations o always steps owner step locked differ =
     let laws = proved.steps program policy annotations o in
-    unseen program policy annotations laws locking (exec program steps) (trace program steps) step owner locked differ
+    unseen program policy annotations laws always (exec program steps) (trace program steps) step owner locked differ
     (always_kept program policy annotations laws (proved.starts program policy annotations o) steps) (changed program (exec program steps) step) refl
 
 pub lock_is_held : Proved → LockIsHeld

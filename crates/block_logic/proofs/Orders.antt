@@ -1,5 +1,5 @@
 -- Events that are granted, made, returned and recorded in one order lead where they lead in another, where they may turn.
-use Rattle.std.proofs.Common.{◌≡◌, Bool, true, List, [], ◌∷◌, ◌++◌, Option, Some, None, refl, sym, ap, subst, ◌∙◌, append-nil, append_assoc}
+use Rattle.std.proofs.Common.{◌≡◌, Bool, List, [], ◌∷◌, ◌++◌, Option, Some, None, refl, sym, ap, subst, ◌∙◌, append-nil, append_assoc}
 use Rattle.std.specs.Prelude.{IsSome, IsTrue, option_and_then}
 use Rattle.std.specs.List.{AllByRecursion}
 use Rattle.conspec_automaton.specs.Obeys.{after}

@@ -1,6 +1,6 @@
 -- Where the lock is let go round some calls, the step of one thread keeps the agreement of what happened with what is recorded: what
 -- other threads are granted and owe may turn with its event.
-use Rattle.std.proofs.Common.{◌≡◌, ◌≢◌, ◌⊎◌, ℕ, zero, suc, Bool, true, false, List, [], ◌∷◌, ◌++◌, take, drop, Option, Some, None, refl, sym, ap, subst, ◌∙◌, append-nil, append_assoc, arith, inl, inr}
+use Rattle.std.proofs.Common.{◌≡◌, ◌≢◌, ◌⊎◌, ℕ, zero, suc, true, false, List, [], ◌∷◌, ◌++◌, take, drop, Option, Some, None, refl, sym, ap, subst, ◌∙◌, append-nil, append_assoc, arith, inl, inr}
 use Rattle.std.specs.Prelude.{IfSome, IsSome, IsTrue, is_some, option_and_then, slice_get, slice_set}
 use Rattle.std.specs.List.{AllByRecursion}
 use Rattle.std.specs.Option.{option_to_list}
@@ -13,7 +13,7 @@ use Rattle.conspec_automaton.specs.Turning.{IsTaken, Keeps, Turns as MayTurn}
 use Rattle.block_logic.specs.Agreement.{Agree, Clear, Granted, Owed, Part, Settles, Tells, Turns, all_granted, all_owed, granted_by, owed_by}
 use Rattle.block_logic.specs.Annotations.{holds_round}
 use Rattle.block_logic.specs.declared.held_calls.HeldCalls.{HeldCalls}
-use Rattle.block_logic.proofs.Agreement.{SeenIsEnough, alike}
+use Rattle.block_logic.proofs.Agreement.{SeenIsEnough}
 use Rattle.block_logic.proofs.Orders.{Agrees, calls as calls_turn, ends as ends_turn, grants as grants_turn, joins, parted, records as records_turn}
 
 -- ---- the thread of a step among the others

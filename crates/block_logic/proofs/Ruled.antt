@@ -14,7 +14,6 @@ use Rattle.bytecode_model.specs.declared.program.Target.TheVariants as target
 use Rattle.bytecode_model.specs.SearchOrder.{Name}
 use Rattle.block_logic.specs.Annotations.{Annotations}
 use Rattle.cert_format.specs.declared.note.Note.{Note}
-use Rattle.cert_format.specs.declared.note.Note.TheVariants as notes
 use Rattle.conspec_automaton.specs.declared.policy.Policy.{Policy}
 use Rattle.guest_heap.specs.declared.frame.Frame.{Frame}
 use Rattle.guest_model.specs.Places.{insn_at, method_at}

@@ -1,9 +1,9 @@
 -- The rules of the notes hold wherever a frame of an accepted program stands, and a method begins in no block.
-use Rattle.std.proofs.Common.{◌≡◌, ℕ, ◌+◌, ◌<◌, Bool, true, false, List, [], ◌∷◌, length, Option, Some, None, refl, sym, ap, ◌∙◌, arith, inl, inr}
+use Rattle.std.proofs.Common.{◌≡◌, ℕ, ◌+◌, ◌<◌, Bool, true, false, List, [], ◌∷◌, length, Option, Some, None, refl, sym, ap, ◌∙◌, arith}
 use Rattle.std.specs.Prelude.{◌&&◌, ◌||◌, ◌==◌, Contains, find, if◌then◌else◌, is_some, nat_le, not, slice_get}
-use Rattle.std.specs.List.{AllByRecursion, list_all, list_any}
+use Rattle.std.specs.List.{AllByRecursion, list_all}
 use Rattle.std.specs.Option.{option_map_or}
-use Rattle.std.proofs.lemmas.Bool.{and_from, and_parts, cases_Bool, leb-true, not-true}
+use Rattle.std.proofs.lemmas.Bool.{and_from, and_parts, leb-true, not-true}
 use Rattle.std.proofs.lemmas.List.Elements.{Contains-append_right}
 use Rattle.api_listing.specs.BuiltIn.{throwable}
 use Rattle.insn_codec.specs.declared.insn.Insn.{Insn}
@@ -23,30 +23,22 @@ use Rattle.bytecode_model.specs.Rules.{Caught, Depth, Entry, Frames, Local, Made
 use Rattle.bytecode_model.specs.SearchOrder.{Name}
 use Rattle.bytecode_model.specs.Sound.{IsSoundClass, IsSoundMethod}
 use Rattle.bytecode_model.specs.Typed.{frames_in, frames_told, place_at, reached, row_fault}
-use Rattle.block_logic.specs.declared.held_calls.HeldCalls.{HeldCalls}
-use Rattle.block_logic.specs.Annotations.{Annotations, holds_round}
+use Rattle.block_logic.specs.Annotations.{Annotations}
 use Rattle.cert_format.specs.declared.note.Note.{Note}
-use Rattle.cert_format.specs.declared.note.Note.TheVariants as notes
-use Rattle.cert_format.specs.declared.note.Phase8.TheVariants.{Before}
-use Rattle.cert_format.specs.declared.note.Site.{Site}
 use Rattle.cert_format.specs.declared.typing.FrameType.{FrameType}
-use Rattle.conspec_automaton.specs.declared.policy.Clause.{Clause}
 use Rattle.conspec_automaton.specs.declared.policy.Policy.{Policy}
-use Rattle.conspec_automaton.specs.Denying.{Denies}
-use Rattle.conspec_automaton.specs.Next.{has_clauses}
 use Rattle.guest_heap.specs.declared.frame.Frame.{Frame}
 use Rattle.guest_model.specs.Places.{insn_in, method_at}
 use Rattle.guest_model.specs.Standing.{IsAt}
 use Rattle.guest_model.specs.Throwing.{catches, handler_of}
 use Rattle.guest_model.proofs.Catching.{caught_at}
 use Rattle.guest_model.proofs.Options.{all_get, and_then_of, find_is}
-use Rattle.block_logic.specs.Clauses.{clause_at, is_of_phase}
-use Rattle.block_logic.specs.Meaning.{IsJudged, note_at}
+use Rattle.block_logic.specs.Meaning.{note_at}
 use Rattle.block_logic.specs.Notes.{Here, all_pass, catches_all, first_handler, handlers_of, handlers_pass, is_asked_taking, is_duty_of, is_free, is_granted, is_owed_for_throw, is_stop, jump_of, meets, next_pass, note_passes, past_of, rules_at, thrown_by, told_fault}
 use Rattle.block_logic.specs.Obeying.{IsObeying}
 use Rattle.block_logic.specs.Operands.{calls, has_clause, is_way_out, pushes_state, variable_named}
 use Rattle.block_logic.specs.Rows.{Asked, Row, Rules, is_duty, row}
-use Rattle.block_logic.specs.Standing.{is_open, needs_no_grant}
+use Rattle.block_logic.specs.Standing.{is_open}
 use Rattle.block_logic.proofs.Handling.{catching_covers, first_takes, taking_passes}
 use Rattle.block_logic.proofs.Ruled.{BeginsOpen, LeadsTo, RulesHold, rules}
 use Rattle.block_logic.proofs.Tests.{all_passed, chosen, get_within, if_so, it_is_there, not_chosen, not_there, passed_by}
@@ -81,18 +73,6 @@ caught_well : (frames : Frames) (place : InsnPlace) (frame : FrameType) → row_
 caught_well frames place frame e =
     handled_from (Depth place frame) (Operand place frame) (Local place frame) (Made place frame) (Successor frames place frame) (Caught frames place frame)
     (all_rules ((place.at == 0) && not (Entry place frame)) (rule_failing frames place frame) e)
-
--- ---- policies that deny
-
--- A method with a clause has one before the call.
-denied_before : (method : ℕ) (clauses : List Clause) → AllByRecursion Denies clauses → list_any (λ (c : Clause). c.method == method) clauses ≡ true
-    → is_some (find (λ (c : Clause). (c.method == method) && is_of_phase Before c.phase) clauses) ≡ true
-denied_before method [] all e = absurd cc
-denied_before method (c ∷ clauses) all e =
-    elim (cases_Bool (c.method == method)) [
-      | inl holds ↦ rw (holds, all.0.calls) refl
-      | inr fails ↦ rw fails (denied_before method clauses all.1 (rw fails at e))
-    ]
 
 module _ (program : Program) (policy : Policy) (annotations : Annotations) (o : IsObeying program policy annotations) where
   abbrev the_rules : Rules

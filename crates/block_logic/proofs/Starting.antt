@@ -31,7 +31,7 @@ use Rattle.guest_model.specs.Finding.{Given}
 use Rattle.guest_model.specs.Layout.{constant_bytes, first_value, is_of_references, starting_value, statics_of, two_bytes, value_of_constant, value_told}
 use Rattle.guest_model.specs.Runs.{first_heap, initialisers}
 use Rattle.guest_model.proofs.Options.{IfThere, all_append, all_map, if_either, if_mapped, if_none, if_some, if_then, is_there, map_of, some_is, there_or}
-use Rattle.block_logic.specs.Agreement.{Clear, Part}
+use Rattle.block_logic.specs.Agreement.{Clear}
 use Rattle.block_logic.specs.Fitting.{AreOthers, IsClient, IsCleanObject, state_of}
 use Rattle.block_logic.specs.Meaning.{AreClean, IsClean}
 use Rattle.block_logic.specs.Obeying.{IsObeying}

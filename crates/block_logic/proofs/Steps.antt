@@ -10,7 +10,6 @@ use Rattle.cert_format.specs.declared.note.Note.{Note}
 use Rattle.cert_format.specs.declared.note.Note.TheVariants as notes
 use Rattle.cert_format.specs.declared.note.Site.{Site}
 use Rattle.conspec_automaton.specs.declared.policy.Policy.{Policy}
-use Rattle.conspec_automaton.specs.Denying.{DeniesOnly}
 use Rattle.conspec_automaton.specs.Next.{Values, has_clause, has_clauses}
 use Rattle.conspec_automaton.specs.Range.{in_range}
 use Rattle.guest_heap.specs.declared.frame.Frame.{Frame}
@@ -84,9 +83,8 @@ module _ (program : Program) (policy : Policy) (annotations : Annotations) where
   IsFit e = FitsRuns program policy annotations.held e
 
   -- What is known of the part of a thread.
-  pub record IsFair (part : Part) : Type 0 where
-    pub good : IsGood policy annotations.held IsFit part
-    pub accepts : DeniesOnly policy → part ≡ parts.Clear
+  abbrev pub IsFair : Part → Type 0
+  IsFair part = IsGood policy annotations.held IsFit part
 
   -- what is loose where the thread does not hold the lock
   abbrev pub AreLoose : Bool → Part → Option Event → Part → Type 0

@@ -1,6 +1,6 @@
 -- How what happened and what a monitor has recorded agree, where calls are granted before they are made, and returns are recorded after
 -- they were made. (docs/CERTIFICATES.md)
-use Rattle.std.specs.Prelude.{◌≡◌, Bool, true, if◌then◌else◌, List, [], ◌∷◌, ◌++◌, Option, Some, None, option_and_then}
+use Rattle.std.specs.Prelude.{◌≡◌, true, if◌then◌else◌, List, [], ◌∷◌, ◌++◌, Option, Some, None, option_and_then}
 use Rattle.api_listing.specs.declared.events.Event.{Event}
 use Rattle.conspec_automaton.specs.declared.policy.Policy.{Policy}
 use Rattle.conspec_automaton.specs.Next.{Values, has_clause, next}

@@ -7,9 +7,10 @@ ghost use Rattle.block_logic.specs.Outside.{ErrorsLeaveBlocks};
 use conspec_automaton::seen_is_enough;
 use guest_model::steps_are_enabled;
 
-/// Whatever the steps of an accepted program are, its events obey the policy. While a thread holds the lock, no step of
-/// another has an event with a clause; and in mode hold a step with such an event is of the thread that holds the lock, which
-/// it holds once: the order in which the lock is taken is the order of the events.
+/// Whatever the steps of an accepted program are, its events obey the policy: where the lock is held round each call, or the
+/// policy is race-free. Where it is held round each call, no step has an event with a clause while another thread holds the
+/// lock; and in mode hold a step with such an event is of the thread that holds the lock, which it holds once: the order in
+/// which the lock is taken is the order of the events.
 pub fn accepted_obeys()
     ensures obeys { AcceptedObeys }
     ensures orders { LockOrders }

@@ -4,7 +4,6 @@
 ghost use Rattle.std.specs.Prelude.{◌≡◌, IfErr, IsOk, length};
 ghost use Rattle.std.specs.List.{AllByRecursion};
 ghost use Rattle.bytecode_model.specs.Sound.{IsSound};
-ghost use Rattle.block_logic.specs.Accepted.{IsAccepted};
 ghost use Rattle.block_logic.specs.Formed.{RunsAreFormed};
 ghost use Rattle.block_logic.specs.Annotations.{annotations_of};
 ghost use Rattle.block_logic.specs.Obeying.{EventsAreLocked, FitsListing};

@@ -3,7 +3,6 @@ use Rattle.std.proofs.Common.{◌≡◌, ◌+◌, ◌-◌, Bool, true, false, co
 use Rattle.std.specs.Prelude.{◌<◌, ◌==◌, IfSome, option_map}
 use Rattle.std.specs.Option.{option_map_or, option_to_list}
 use Rattle.block_logic.specs.Annotations.{Annotations}
-use Rattle.cert_format.specs.declared.note.Note.TheVariants as notes
 use Rattle.insn_codec.specs.declared.insn.Insn.{Insn}
 use Rattle.bytecode_model.specs.declared.program.Method.{Method}
 use Rattle.bytecode_model.specs.declared.program.Program.{Program}

@@ -1,7 +1,6 @@
 -- A thread that holds the lock acts in a frame: it goes on with the lock, or leaves it.
 use Rattle.std.proofs.Common.{◌≡◌, ℕ, ◌+◌, Bool, true, false, List, [], ◌∷◌, drop, None, Some, refl, sym, ap, subst}
 use Rattle.std.specs.Prelude.{IfSome, slice_get}
-use Rattle.api_listing.specs.declared.events.Event.{Event}
 use Rattle.insn_codec.specs.declared.insn.Insn.{Insn}
 use Rattle.insn_codec.specs.declared.shape.Heap.TheVariants as heap
 use Rattle.insn_codec.specs.declared.shape.Shape.TheVariants as shapes

@@ -1,7 +1,6 @@
 -- The events that a policy has clauses for: which clause is for the events of a site, and where an event leads.
-use Rattle.std.proofs.Common.{◌≡◌, ℕ, zero, suc, ◌<◌, Bool, true, false, List, [], ◌∷◌, ◌++◌, length, Some, refl, ap, subst, ◌∙◌, arith}
+use Rattle.std.proofs.Common.{◌≡◌, ℕ, zero, suc, ◌<◌, Bool, true, false, List, [], ◌∷◌, length, Some, refl, ap, subst, ◌∙◌, arith}
 use Rattle.std.specs.Prelude.{◌==◌, ◌&&◌, find, is_some, option_map, slice_get}
-use Rattle.std.proofs.lemmas.Bool.{and_parts}
 use Rattle.std.specs.List.{list_all}
 use Rattle.api_listing.specs.declared.events.Event.{Event}
 use Rattle.api_listing.specs.declared.events.Event.TheVariants as events
@@ -14,12 +13,11 @@ use Rattle.conspec_automaton.specs.declared.policy.Branch.{Branch}
 use Rattle.conspec_automaton.specs.declared.policy.Clause.{Clause}
 use Rattle.conspec_automaton.specs.declared.policy.Policy.{Policy}
 use Rattle.conspec_automaton.specs.Next.{Values, clause_of as clause_for, has_clause, holds, is_phase_of, is_taken, method_of, moment, next, next_by, speaks_of, updated}
-use Rattle.conspec_automaton.specs.Denying.{Denies, DeniesOnly}
 use Rattle.conspec_automaton.specs.Obeys.{is_return}
 use Rattle.conspec_automaton.specs.Range.{in_range}
 use Rattle.conspec_automaton.specs.Sight.{sight_of}
 use Rattle.conspec_automaton.specs.Sound.{IsPolicy}
-use Rattle.conspec_automaton.proofs.Ranges.{found_is, next_keeps}
+use Rattle.conspec_automaton.proofs.Ranges.{next_keeps}
 use Rattle.block_logic.specs.Clauses.{clause_of, is_of_phase}
 use Rattle.block_logic.specs.Meaning.{IsEventOf, IsTried}
 use Rattle.block_logic.specs.Standing.{is_before}
@@ -79,17 +77,6 @@ is_end site e of behind = by e site.phase of.phase behind where
 -- It is of the site's method.
 pub is_of_site : (site : Site) (e : Event) → IsEventOf site e → method_of e ≡ site.method
 is_of_site site e of = method_seen e ∙ of.method
-
--- A policy that denies calls outright has clauses for calls alone.
-pub denies_no_end : (policy : Policy) (site : Site) (clause : Clause) → clause_of policy site ≡ Some clause → is_before site.phase ≡ false → DeniesOnly policy → ⊥
-denies_no_end policy site clause there behind denies =
-    let d = found_is Denies _ policy.clauses clause denies.clauses there in
-    let p = and_parts (clause.method == site.method) (is_of_phase site.phase clause.phase) d.passes in
-    by site.phase behind (rw (d.so.calls) at p.1) where
-      by : (phase : Phase8) → is_before phase ≡ false → is_of_phase phase Before ≡ true → ⊥
-      by sites.Before behind is = absurd cc
-      by sites.After behind is = absurd cc
-      by sites.Exceptional behind is = absurd cc
 
 -- ---- the branch that is taken
 

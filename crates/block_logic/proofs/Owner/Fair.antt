@@ -10,20 +10,18 @@ use Rattle.cert_format.specs.declared.note.Phase8.TheVariants.{Before, After, Ex
 use Rattle.cert_format.specs.declared.note.Site.{Site}
 use Rattle.conspec_automaton.specs.declared.policy.Clause.{Clause}
 use Rattle.conspec_automaton.specs.declared.policy.Policy.{Policy}
-use Rattle.conspec_automaton.specs.Next.{Values, method_of}
-use Rattle.conspec_automaton.specs.Obeys.{is_return}
+use Rattle.conspec_automaton.specs.Next.{Values}
 use Rattle.guest_heap.specs.declared.frame.Frame.{Frame}
 use Rattle.guest_heap.specs.declared.thread.Doing.{Doing}
 use Rattle.guest_heap.specs.declared.thread.Doing.TheVariants as doings
-use Rattle.guest_heap.specs.declared.thread.Thread.{Thread}
 use Rattle.guest_heap.specs.declared.value.Value.{Value}
 use Rattle.block_logic.specs.Agreement.{Clear, Granted, Owed, Part}
 use Rattle.block_logic.specs.Annotations.{Annotations, holds_round}
 use Rattle.block_logic.specs.Clauses.{clause_at, clause_of}
-use Rattle.block_logic.specs.Fitting.{AreBlockCall, AreBlockFrames, IsBlockDoing, IsInBlock}
-use Rattle.block_logic.specs.Meaning.{IsDue, IsEventOf, IsGranted, IsOwed, IsPending, IsRefused, Means, MeansGranted, MeansHeld, MeansOwed}
+use Rattle.block_logic.specs.Fitting.{AreBlockCall, AreBlockFrames, IsBlockDoing}
+use Rattle.block_logic.specs.Meaning.{IsDue, IsEventOf, IsGranted, IsOwed, IsRefused, Means}
 use Rattle.block_logic.specs.Standing.{in_phase, is_before}
-use Rattle.block_logic.proofs.Owner.Events.{denies_no_end, is_call, is_end, is_of_site}
+use Rattle.block_logic.proofs.Owner.Events.{is_call, is_end, is_of_site}
 use Rattle.block_logic.proofs.Racing.{IsLoose, IsLooseEvent}
 use Rattle.block_logic.proofs.Steps.{IsFair, IsFit}
 
@@ -32,51 +30,49 @@ module _ (program : Program) (policy : Policy) (annotations : Annotations) where
   Fair = IsFair program policy annotations
 
   pub clear_fair : Fair Clear
-  clear_fair = record { good = tt; accepts = λ denies. refl }
+  clear_fair = tt
 
   fair_if : (part : Part) → part ≡ Clear → Fair part
   fair_if part clear = subst Fair (sym clear) clear_fair
 
   -- a return of a site
-  pub owed_fair : (site : Site) (clause : Clause) (e : Event) → clause_of policy site ≡ Some clause → is_before site.phase ≡ false → IsEventOf site e → IsFit program policy annotations e → Fair (Owed e)
-  owed_fair site clause e there behind of fit =
-      record { good = (fit, is_end site e of behind); accepts = λ denies. absurd (denies_no_end policy site clause there behind denies) }
+  pub owed_fair : (site : Site) (e : Event) → is_before site.phase ≡ false → IsEventOf site e → IsFit program policy annotations e → Fair (Owed e)
+  owed_fair site e behind of fit = (fit, is_end site e of behind)
 
-  held_fair : (phase : Phase8) (site : Site) (clause : Clause) (e : Event) (part : Part) → site.phase ≡ phase → clause_of policy site ≡ Some clause → IsEventOf site e
-      → IsFit program policy annotations e → IsDue phase e part → Fair part
-  held_fair Before site clause e part is there of fit due = fair_if part due
-  held_fair After site clause e part is there of fit due = subst Fair (sym due) (owed_fair site clause e there (ap is_before is) of fit)
-  held_fair Exceptional site clause e part is there of fit due = subst Fair (sym due) (owed_fair site clause e there (ap is_before is) of fit)
+  held_fair : (phase : Phase8) (site : Site) (e : Event) (part : Part) → site.phase ≡ phase → IsEventOf site e → IsFit program policy annotations e → IsDue phase e part → Fair part
+  held_fair Before site e part is of fit due = fair_if part due
+  held_fair After site e part is of fit due = subst Fair (sym due) (owed_fair site e (ap is_before is) of fit)
+  held_fair Exceptional site e part is of fit due = subst Fair (sym due) (owed_fair site e (ap is_before is) of fit)
 
   granted_fair : (site : Site) (clause : Option Clause) (part : Part) (locals : List Value) → IsGranted program policy annotations.held site clause part locals → Fair part
   granted_fair site None part locals clear = fair_if part clear
   granted_fair site (Some clause) part locals c =
-      subst Fair (sym c.is) (record { good = (c.formed, is_call (in_phase Before site) c.event c.of refl); accepts = λ denies. absurd (c.accepts denies) })
+      subst Fair (sym c.is) (c.formed, is_call (in_phase Before site) c.event c.of refl)
 
-  owes_fair : (mine : Bool) (site : Site) (stage : ℕ) (clause : Option Clause) (part : Part) (kept : Bool) (locals rest : List Value) → clause_of policy site ≡ clause
+  owes_fair : (mine : Bool) (site : Site) (stage : ℕ) (clause : Option Clause) (part : Part) (kept : Bool) (locals rest : List Value)
       → is_before site.phase ≡ false → IsOwed program policy annotations.held mine site stage clause part kept locals rest → Fair part
-  owes_fair false site zero None part kept locals rest there behind owed = absurd owed
-  owes_fair false site zero (Some clause) part kept locals rest there behind p = subst Fair (sym p.is) (owed_fair site clause p.event there behind p.of p.formed)
-  owes_fair false site (suc n) clause part kept locals rest there behind owed = absurd owed
-  owes_fair true site zero clause part kept locals rest there behind owed = absurd owed
-  owes_fair true site (suc zero) None part kept locals rest there behind clear = fair_if part clear
-  owes_fair true site (suc zero) (Some clause) part kept locals rest there behind p = subst Fair (sym p.is) (owed_fair site clause p.event there behind p.of p.formed)
-  owes_fair true site (suc (suc zero)) clause part kept locals rest there behind clear = fair_if part clear
-  owes_fair true site (suc (suc (suc n))) clause part kept locals rest there behind owed = absurd owed
+  owes_fair false site zero None part kept locals rest behind owed = absurd owed
+  owes_fair false site zero (Some clause) part kept locals rest behind p = subst Fair (sym p.is) (owed_fair site p.event behind p.of p.formed)
+  owes_fair false site (suc n) clause part kept locals rest behind owed = absurd owed
+  owes_fair true site zero clause part kept locals rest behind owed = absurd owed
+  owes_fair true site (suc zero) None part kept locals rest behind clear = fair_if part clear
+  owes_fair true site (suc zero) (Some clause) part kept locals rest behind p = subst Fair (sym p.is) (owed_fair site p.event behind p.of p.formed)
+  owes_fair true site (suc (suc zero)) clause part kept locals rest behind clear = fair_if part clear
+  owes_fair true site (suc (suc (suc n))) clause part kept locals rest behind owed = absurd owed
 
   refused_fair : (part : Part) → IsRefused program policy annotations.held part → Fair part
   refused_fair Clear r = clear_fair
   refused_fair (Granted call) r = absurd r
-  refused_fair (Owed end) r = record { good = (r.formed, r.ends); accepts = λ denies. absurd (r.accepts denies) }
+  refused_fair (Owed end) r = (r.formed, r.ends)
 
   pub means_fair : (mine : Bool) (recorded : Values) (fields : List Value) (frame : Frame) (note : Note) (part : Part)
       → Means program policy annotations.held mine recorded fields frame note part → Fair part
   means_fair mine recorded fields frame notes.Free part m = absurd m
   means_fair mine recorded fields frame (notes.Taking site) part m = absurd m
-  means_fair mine recorded fields frame (notes.Held site failed holding list map) part m = held_fair site.phase site m.1.clause m.1.event part refl m.1.there m.1.of m.1.formed m.1.due
+  means_fair mine recorded fields frame (notes.Held site failed holding list map) part m = held_fair site.phase site m.1.event part refl m.1.of m.1.formed m.1.due
   means_fair mine recorded fields frame (notes.Granted site locked count top) part m = granted_fair site (clause_at policy site.method Before) part frame.locals m.granted
   means_fair mine recorded fields frame (notes.Owed site stage kept top) part m =
-      owes_fair mine site stage (clause_of policy site) part kept frame.locals m.above.rest refl m.behind m.owed
+      owes_fair mine site stage (clause_of policy site) part kept frame.locals m.above.rest m.behind m.owed
   means_fair mine recorded fields frame (notes.Stop site place) part m = refused_fair part m.1.refused
 
   -- ---- what is loose

@@ -26,7 +26,6 @@ use Rattle.conspec_automaton.specs.declared.policy.Clause.{Clause}
 use Rattle.conspec_automaton.specs.declared.policy.Policy.{Policy}
 use Rattle.conspec_automaton.specs.Next.{Values, has_clause as event_has_clause, has_clauses}
 use Rattle.conspec_automaton.specs.Range.{in_range}
-use Rattle.conspec_automaton.specs.Denying.{DeniesOnly}
 use Rattle.conspec_automaton.specs.Events.{FitsClause}
 use Rattle.conspec_automaton.specs.Sight.{sight_of}
 use Rattle.guest_heap.specs.declared.thread.Doing.TheVariants as doings
@@ -44,7 +43,7 @@ use Rattle.block_logic.specs.Accepted.{rules_of}
 use Rattle.block_logic.specs.Agreement.{Clear, Granted, Owed, Part, Settles, Turns, clause_event}
 use Rattle.block_logic.specs.Clauses.{clause_at, needs}
 use Rattle.block_logic.specs.Fitting.{IsBlockCall}
-use Rattle.block_logic.specs.Meaning.{AreClean, IsAbove, IsChecked, IsClean, IsEventOf, IsGranted, IsJudged, MeansGranted, TellsArguments, loads, lock_of, lock_on}
+use Rattle.block_logic.specs.Meaning.{AreClean, IsAbove, IsChecked, IsClean, IsEventOf, IsGranted, IsJudged, MeansGranted, loads, lock_of, lock_on}
 use Rattle.block_logic.specs.Obeying.{FitsListing, IsObeying}
 use Rattle.block_logic.specs.Operands.{calls, has_clause}
 use Rattle.block_logic.specs.Rows.{Given, Row, Rules, calls_of}
@@ -230,15 +229,14 @@ module _ (program : Program) (policy : Policy) (annotations : Annotations) (o : 
             let all = needs_all site.method clause l.listed there l.there in
             let as_many : length clause.args ≡ count = all.0 ∙ sym all.1 ∙ sym c.all in
             let same = seen_same program machine.heap site a.frame.locals m.loaded a.number count m.are clause as_many checked.event checked.of (is_always annotations.held) checked.told
-            (known_exactly clause there checked.accepts fit) in
+            (known_exactly clause there fit) in
             ap (λ (vs : List Value). sight_of (events.Call a.number site.method (values_shown program machine.heap vs))) (arguments_are clause there) ∙ same
           where
-            known_exactly : (clause : Clause) → clause_at policy site.method Before ≡ Some clause → (DeniesOnly policy → ⊥) → IsFit program policy annotations event → Known clause
-            known_exactly clause there accepts fit = by (is_always annotations.held) refl o.judged where
+            known_exactly : (clause : Clause) → clause_at policy site.method Before ≡ Some clause → IsFit program policy annotations event → Known clause
+            known_exactly clause there fit = by (is_always annotations.held) refl o.judged where
               by : (b : Bool) → is_always annotations.held ≡ b → IsJudged program policy annotations.held → Known clause
               by true always judged = inl always
-              by false loose (inl (inl always)) = inl always
-              by false loose (inl (inr denies)) = absurd (accepts denies)
+              by false loose (inl always) = inl always
               by false loose (inr releasing) =
                   let fits = fit loose releasing.formed clause (clause_found policy (in_phase Before site) event of_event ∙ there) in
                   inr (subst (λ (vs : List Value). FitsClause clause (events.Call a.number site.method (values_shown program machine.heap vs))) (arguments_are clause there) fits)

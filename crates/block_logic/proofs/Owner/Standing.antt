@@ -17,7 +17,6 @@ use Rattle.conspec_tree.specs.declared.types.Kind.{Kind}
 use Rattle.conspec_automaton.specs.declared.policy.Branch.{Branch}
 use Rattle.conspec_automaton.specs.declared.policy.Clause.{Clause}
 use Rattle.conspec_automaton.specs.declared.policy.Policy.{Policy}
-use Rattle.conspec_automaton.specs.Denying.{Denies, DeniesOnly}
 use Rattle.conspec_automaton.specs.Next.{Values, moment, next, updated}
 use Rattle.conspec_automaton.specs.Range.{in_range}
 use Rattle.conspec_automaton.specs.Sight.{sight_of}
@@ -31,7 +30,7 @@ use Rattle.block_logic.specs.Meaning.{AreClean, AreState, AreTerms, HasResult, H
 use Rattle.block_logic.specs.Obeying.{FitsListing, IsObeying}
 use Rattle.block_logic.specs.Standing.{asks_kept, branches_of, done, fails, in_phase, is_after, is_before, is_done, is_empty, may_begin, may_stand, same_note, same_phase, same_site, stands_for_held}
 use Rattle.block_logic.specs.Terms.{after_updates, as_taken, same_terms}
-use Rattle.block_logic.proofs.Owner.Events.{denies_no_end, is_end, stays_ranged, taken_by}
+use Rattle.block_logic.proofs.Owner.Events.{is_end, stays_ranged, taken_by}
 use Rattle.block_logic.proofs.Owner.Terms.{same_terms_are}
 use Rattle.block_logic.proofs.Owner.Variables.{as_taken_are, branch_well, done_are, map_some_is}
 
@@ -154,14 +153,6 @@ done_by policy site clause failed holding map there e =
           record { branch = b; there = is; all = eqb-true holding (length b.atoms) p.0; written = same_terms_are map (after_updates policy b.updates) p.1 }
 
 module _ (program : Program) (policy : Policy) (annotations : Annotations) (o : IsObeying program policy annotations) where
-  -- Where a clause has a branch, calls are not denied outright.
-  some_accepts : (site : Site) (clause : Clause) (i : ℕ) (branch : Branch) → clause_of policy site ≡ Some clause → slice_get clause.branches i ≡ Some branch
-      → DeniesOnly policy → ⊥
-  some_accepts site clause i branch there is denies =
-      let none : clause.branches ≡ [] = (found_is Denies _ policy.clauses clause denies.clauses there).so.all in
-      let nowhere : slice_get [] i ≡ Some branch = rw none at is in
-      absurd cc
-
   -- What may stand for what was given: the state that is recorded then, and the part of the thread.
   pub record Stood (mine : Bool) (recorded : Values) (fields : List Value) (frame : Frame) (part : Part) (note : Note) : Type 0 where
     pub now : Values
@@ -182,7 +173,6 @@ module _ (program : Program) (policy : Policy) (annotations : Annotations) (o : 
 
     -- The event of a check is accepted, and the variables are the state that it leads to.
     pub record IsPassed (event : Event) : Type 0 where
-      pub accepts : DeniesOnly policy → ⊥
       pub end : Values
       pub taken : next policy recorded event ≡ Some end
       pub stays : in_range policy end ≡ true
@@ -198,7 +188,6 @@ module _ (program : Program) (policy : Policy) (annotations : Annotations) (o : 
         let written : AreTerms program recorded h.event (after_updates policy d.branch.updates) fields =
         subst (λ (m : List Term). AreTerms program recorded h.event m fields) d.written h.variables in
         record {
-          accepts = some_accepts site h.clause failed d.branch h.there d.there;
           end = end;
           taken = taken;
           stays = stays_ranged policy recorded end h.event o.good ranged taken;
@@ -224,7 +213,7 @@ module _ (program : Program) (policy : Policy) (annotations : Annotations) (o : 
         let of : IsEventOf (in_phase Before site) h.event =
         record { method = h.of.method; phase = subst (λ (x : Phase8). is_of_phase x (sight_of h.event).phase ≡ true) is h.of.phase } in
         let checked : IsChecked program policy annotations.held site h.clause (Granted h.event) frame.locals =
-        record { event = h.event; is = refl; of = of; formed = h.formed; accepts = p.accepts; told = told } in
+        record { event = h.event; is = refl; of = of; formed = h.formed; told = told } in
         let settles : Settles policy recorded part p.end (Granted h.event) = rw due p.taken in
         (settles, subst (λ (c : Option Clause). IsGranted program policy annotations.held site c (Granted h.event) frame.locals) (sym there) checked)
 
@@ -282,17 +271,15 @@ module _ (program : Program) (policy : Policy) (annotations : Annotations) (o : 
     ]
 
     -- the way out
-    due_refused : (site : Site) (clause : Clause) (phase : Phase8) (event : Event) → site.phase ≡ phase → clause_of policy site ≡ Some clause → IsEventOf site event
-        → FitsRuns program policy annotations.held event → IsDue phase event part → IsRefused program policy annotations.held part
-    due_refused site clause Before event is there of formed due = rw due tt
-    due_refused site clause After event is there of formed due =
-        rw due (record { ends = is_end site event of (ap is_before is); formed = formed; accepts = denies_no_end policy site clause there (ap is_before is) })
-    due_refused site clause Exceptional event is there of formed due =
-        rw due (record { ends = is_end site event of (ap is_before is); formed = formed; accepts = denies_no_end policy site clause there (ap is_before is) })
+    due_refused : (site : Site) (phase : Phase8) (event : Event) → site.phase ≡ phase → IsEventOf site event → FitsRuns program policy annotations.held event → IsDue phase event part
+        → IsRefused program policy annotations.held part
+    due_refused site Before event is of formed due = rw due tt
+    due_refused site After event is of formed due = rw due (record { ends = is_end site event of (ap is_before is); formed = formed })
+    due_refused site Exceptional event is of formed due = rw due (record { ends = is_end site event of (ap is_before is); formed = formed })
 
     stop_means : (site : Site) (failed holding : ℕ) (list map : List Term) → MeansHeld program policy annotations.held recorded fields frame site failed holding list map part
         → MeansStop program policy annotations.held frame 0 part
-    stop_means site failed holding list map h = record { refused = due_refused site h.clause site.phase h.event refl h.there h.of h.formed h.due; stopping = tt }
+    stop_means site failed holding list map h = record { refused = due_refused site site.phase h.event refl h.of h.formed h.due; stopping = tt }
 
     -- What may stand for the note of a check means what is so.
     pub held_stands : (site : Site) (failed holding : ℕ) (list map : List Term) (note : Note) → MeansHeld program policy annotations.held recorded fields frame site failed holding list map part

@@ -2,7 +2,7 @@
 use Rattle.std.proofs.Common.{◌≡◌, ℕ, zero, suc, ◌<◌, ◌+◌, ℤ, pos, Bool, true, false, List, [], ◌∷◌, ◌++◌, length, drop, Option, Some, None, refl, sym, ap, ◌∙◌, subst, arith, inl, inr}
 use Rattle.std.specs.Bool.{beq}
 use Rattle.std.specs.Int.{w32}
-use Rattle.std.specs.Prelude.{◌==◌, ◌-ℤ◌, ◌≢◌, FitsSigned, int_le, is_some, negsuc, option_and_then, slice_get}
+use Rattle.std.specs.Prelude.{◌-ℤ◌, ◌≢◌, FitsSigned, int_le, is_some, negsuc, option_and_then, slice_get}
 use Rattle.std.proofs.lemmas.Bool.{and_from, and_parts, cases_Bool, le-leb}
 use Rattle.std.proofs.lemmas.List.{length-map}
 use Rattle.api_listing.specs.declared.events.ApiValue.{ApiValue}
