@@ -51,7 +51,8 @@ pub fn examine(
     // is race-free and runs are well formed.
     ensures ok { IsOk result ↔ IsAccepted program.now policy.now certificate.now }
     ensures secure { IsOk result → (certificate.now.mode ≡ modes.Release → IsRaceFree policy.now)
-        → (certificate.now.mode ≡ modes.Release → RunsAreFormed program.now policy.now) → Secure certificate.now.mode program.now policy.now }
+        → (certificate.now.mode ≡ modes.Release → RunsAreFormed program.now policy.now)
+        → Secure certificate.now.mode program.now policy.now }
 
     // In mode hold each step whose event has a clause is of the thread that holds the lock: the lock's order is that of the events.
     ensures locked { IsOk result → certificate.now.mode ≡ modes.Hold → EventsAreLocked program.now policy.now }

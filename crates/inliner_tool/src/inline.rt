@@ -253,7 +253,8 @@ fn chosen(
     listing: &Listing,
 ) -> Result<(Policy, Mode), Refusal>
     requires { IsPolicyTree listing.now tree.now }
-    ensures mode { UnlessMemory (Then (Equals (mode_for weaving tree.now listing.now)) (λ mode. Equals (Ok (built tree.now, mode)))) result }
+    ensures mode { UnlessMemory (Then (Equals (mode_for weaving tree.now listing.now))
+        (λ mode. Equals (Ok (built tree.now, mode)))) result }
     ensures free { IfOk result (λ r. r.1 ≡ modes.Release → IsFreeOfRaces r.0) }
     ensures sound { IfOk result (λ r. (listing : Listing) → IsPolicyTree listing tree.now
         → IsPolicy r.0 × NamesMethods (length listing.methods) r.0) }
