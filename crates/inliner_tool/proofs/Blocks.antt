@@ -21,7 +21,6 @@ use Rattle.command_words.specs.InlineWords.{NamedInline}
 use Rattle.conspec_automaton.specs.Building.{built}
 use Rattle.conspec_automaton.specs.Sound.{IsPolicy}
 use Rattle.input_files.specs.declared.inline_inputs.InlineInputs.{InlineInputs}
-use Rattle.input_files.specs.Forms.{Then}
 use Rattle.input_files.specs.InlineInputs.{InlineSound}
 use Rattle.output_files.specs.Outputs.{is_written, outputs_of}
 use Rattle.woven_linking.specs.Links.{WovenLinks}
@@ -29,8 +28,8 @@ use Rattle.woven_linking.specs.Program.{IsWovenOf}
 use Rattle.inliner_tool.specs.declared.refusal.Refusal.TheVariants as refusals
 use Rattle.inliner_tool.specs.declared.inline.Given.{Given}
 use Rattle.inliner_tool.specs.declared.inline.Ready.{Ready}
-use Rattle.inliner_tool.specs.Programs.{AreTypes, Equals, Step, UnlessMemory, link_step, woven_links}
-use Rattle.inliner_tool.specs.Weaving.{Accepts, IsPlanned, IsRewoven, Remakes, Told, certificate_for, mode_for, original, outputs_step}
+use Rattle.inliner_tool.specs.Programs.{AreTypes, Step, UnlessMemory, link_step, woven_links}
+use Rattle.inliner_tool.specs.Weaving.{Accepts, IsPlanned, IsRewoven, Remakes, certificate_for, mode_for, original}
 use Rattle.inliner_tool.proofs.Constants.{has_numbers}
 use Rattle.inliner_tool.proofs.Counting.{assembled_of, files_counted}
 

@@ -7,7 +7,6 @@ use Rattle.mon_store.specs.Store.{Files, Rose}
 use Rattle.command_words.specs.Words.{NamedRace, Race}
 use Rattle.input_files.specs.declared.files.Stop.{Stop}
 use Rattle.input_files.specs.declared.files.Stop.TheVariants as stops
-use Rattle.input_files.specs.declared.race_inputs.RaceInputs.{RaceInputs}
 use Rattle.input_files.specs.Forms.{Count, ReadsForm}
 use Rattle.input_files.specs.Kinds.{listing_form, policy_form}
 use Rattle.input_files.specs.RaceInputs.{ReadsRace}

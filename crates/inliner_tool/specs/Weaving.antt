@@ -47,7 +47,7 @@ use Rattle.inliner_tool.specs.declared.refusal.Refusal.{Refusal}
 use Rattle.inliner_tool.specs.declared.refusal.Refusal.TheVariants as refusals
 use Rattle.inliner_tool.specs.declared.inline.Given.{Given}
 use Rattle.inliner_tool.specs.declared.inline.Ready.{Ready}
-use Rattle.inliner_tool.specs.Programs.{AreTypes, Equals, Step, Types, UnlessMemory, program_of, woven_links}
+use Rattle.inliner_tool.specs.Programs.{AreTypes, Equals, Step, Types, program_of, woven_links}
 use Rattle.inliner_tool.specs.Race.{race_step}
 
 -- ---- the steps

@@ -45,7 +45,7 @@ judged-ready-requires-clause-formed c =
 allowed_so : (given : Given) (program : Program) → IsAccepted program given.policy (certificate_for given program) → (given.mode ≡ modes.Release → IsFreeOfRaces given.policy) → IsAllowed program given.policy (certificate_for given program)
 allowed_so given program accepted free = record { accepted = accepted; race = λ release. (free release).race; few = λ release. (free release).few }
 
-allowed_here : (c : goal.After-judged-ready) → IsAllowed c.in_ok-program.program c.args.given.policy (certificate_for c.args.given c.in_ok-program.program)
+allowed_here : (c : goal.After-drop-given-2) → IsAllowed c.in_ok-program.program c.args.given.policy (certificate_for c.args.given c.in_ok-program.program)
 allowed_here c =
     let given = c.args.given in
     let program = c.in_ok-program.program in
