@@ -66,7 +66,7 @@ AFTER boolean b = api.In.yes() PERFORM b == true -> { low = true; } ELSE -> { }
 EXCEPTIONAL void api.In.fail(int) PERFORM true -> { failed = failed + 1; } ELSE -> { }
 AFTER void api.In.fail(int) PERFORM ELSE -> { done = true; }
 AFTER java.lang.Object api.In.same(java.lang.Object) PERFORM ELSE -> { done = true; }
-EXCEPTIONAL void api.Box.set(int) PERFORM failed <= 3 -> { failed = failed + 1; } ELSE -> { }
+EXCEPTIONAL void api.Box.set(int) PERFORM true -> { failed = failed + 1; } ELSE -> { }
 BEFORE void api.Out.show(java.lang.Object) PERFORM shown <= 1 -> { shown = shown + 1; } done == true -> { }
 """,
 }
