@@ -519,19 +519,6 @@ RUNS = {
 }
 
 CHECKS = {
-    199: Refusal(
-        "not built yet",
-        (),
-        (
-            "The mode release is not built for this policy, since it has a variable, a branch, or a clause for an "
-            "end of a call. It says nothing about whether the program is right."
-        ),
-        (
-            "MODE is `auto`, which is release so far.",
-            "A certificate of mode release is given with another policy than its own.",
-        ),
-        "Weave with MODE `hold`, which takes every policy (docs/FORMS.md).",
-    ),
     201: Refusal(
         "no types fit",
         ("class", "method", "instruction"),
@@ -561,12 +548,13 @@ CHECKS = {
         ("first clause", "second clause", "number of points"),
         (
             "Whether the policy is race-free is not decided: these two clauses, counted from 0, would have to be "
-            "tried at more than 1,000,000 states and events."
+            "tried at more than 1,000,000 states and events. `race` answers it, `inline` where MODE is `release`, and "
+            "`check` where the certificate is of mode release and nothing else is wrong."
         ),
         ("A clause asks about many arguments, or compares one with many constants.",),
         (
-            "Ask for fewer variables and arguments in one clause, or compare them with fewer constants; or hold the"
-            " lock during calls."
+            "Ask for fewer variables and arguments in one clause, or compare them with fewer constants; or weave with "
+            "MODE `auto` or `hold`, which take every policy: the lock is held during calls then."
         ),
     ),
     241: Refusal(
@@ -626,13 +614,19 @@ CHECKS = {
         ("condition", "state and events"),
         (
             "In this state these events break the condition: M0, an end of a call is refused; M1, two calls cannot "
-            "change places; M2, two ends cannot; M3, a call and then the end of another cannot."
+            "change places; M2, two ends cannot; M3, a call and then the end of another cannot. `race` answers it, "
+            "`inline` where MODE is `release`, and `check` where the certificate is of mode release and nothing else is "
+            "wrong."
         ),
         (
             "Something is counted at a return that should be counted at the call.",
             "What is allowed hangs on the order of calls, so that the lock has to be held.",
+            "A certificate of mode release is given with another policy than its own.",
         ),
-        "See docs/RACES.md for the condition, with what helps; or hold the lock during calls.",
+        (
+            "See docs/RACES.md for the condition, with what helps; or weave with MODE `auto` or `hold`, which take every "
+            "policy: the lock is held during calls then."
+        ),
     ),
 }
 

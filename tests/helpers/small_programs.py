@@ -65,6 +65,20 @@ ALL_THREE = policy(
     "BEFORE int api.Net.read() PERFORM n <= 1 -> { n = n + 1; } AFTER int r = api.Net.read() PERFORM r >= 0 -> { } "
     "EXCEPTIONAL int api.Net.read() PERFORM n >= 1 -> { n = n - 1; }",
 )
+# race-free: a send needs a permission, which stays once it was given
+KEPT = policy(
+    1,
+    "bool permitted = false;",
+    "AFTER boolean yes = api.Net.ask() PERFORM yes == true -> { permitted = true; } ELSE -> { } "
+    "BEFORE void api.Net.send() PERFORM permitted == true -> { }",
+)
+# race-free: at most two reads; where one failed or gave a negative number, sends are allowed
+ENDS_ALLOW = policy(
+    9,
+    "int n = 0; bool bad = false;",
+    "BEFORE int api.Net.read() PERFORM n <= 1 -> { n = n + 1; } AFTER int r = api.Net.read() PERFORM r >= 0 -> { } ELSE -> { bad = true; } "
+    "EXCEPTIONAL int api.Net.read() PERFORM ELSE -> { bad = true; } BEFORE void api.Net.send() PERFORM bad == true -> { }",
+)
 
 
 def two_threads():

@@ -27,22 +27,25 @@ def code_begins(content):
 
 
 class Woven:
-    """A program that was woven in mode hold. Its first class has no fields, and its first method is `main`."""
+    """A program that was woven. Its first class has no fields, and its first method is `main`."""
 
-    def __init__(self, runs, what, sources, classes, sites, variables=0):
+    def __init__(self, runs, what, sources, classes, sites, variables=0, mode="hold"):
         """`sources` are the texts of policy and listing, `classes` the class files by their names, the main class first."""
-        self.runs, self.what, self.variables = runs, what, variables
+        self.runs, self.what, self.variables, self.mode = runs, what, variables, mode
         self.main = next(iter(classes))
         files = {"POLICY": sources[0], "LISTING": sources[1], **{f"{name}.class": made.bytes() for name, made in classes.items()}}
-        words = ["inline", "POLICY", "LISTING", self.main, "new", "hold", *(f"{name}.class" for name in classes)]
+        words = ["inline", "POLICY", "LISTING", self.main, "new", mode, *(f"{name}.class" for name in classes)]
         self.sites, self.count = sites, len(classes) + 1
-        ended = runs.expect(what, words, DONE, f"inlined hold sites {sites} classes {self.count}\n", files)
+        ended = runs.expect(what, words, DONE, f"inlined {mode} sites {sites} classes {self.count}\n", files)
         self.files = ended.files
         self.outputs = [*(f"new/{name}.class" for name in classes), "new/conspec/State.class"]
         self.accept()
 
     def accept(self):
-        self.check(self.what, f"accepted hold sites {self.sites}", self.files)
+        self.check(self.what, self.accepted(), self.files)
+
+    def accepted(self):
+        return f"accepted {self.mode} sites {self.sites}"
 
     def check(self, what, printed, files):
         words = ["check", "POLICY", "LISTING", "new/certificate", self.main, *self.outputs]
@@ -63,18 +66,19 @@ class Woven:
                 of_main.append(line.split(" ", 2)[1:])
         return [(int(at), text) for at, text in of_main]
 
-    def denied(self, what, printed, code=(), notes=(), handler=None):
+    def denied(self, what, printed, code=(), notes=(), handler=None, mode=None):
         """The answer to the same files with changes in `main`.
 
         A change of code is the index of the first instruction that goes, the words of each that goes, as `show` has their
         fronts, and the bytes that come in their place: as many, with STATE and V0 for the constants that blocks name, and the
         name of a listed method that is called. Behind it may stand what the certificate tells of what comes: for each
-        instruction the index of one with its types, or None, and its note. A change of a note is an index and a note. `handler`
-        is an entry of the exception table that stands in the place of the first; an empty one takes the first away."""
+        instruction the index of one with its types, or these, or None, and its note. A change of a note is an index and a note.
+        `handler` is an entry of the exception table that stands in the place of the first; an empty one takes the first away.
+        `mode` is another one for the certificate to tell, by its number there."""
         files = {**self.files}
         content = bytearray(files[self.outputs[0]])
         told = Certificate(files["new/certificate"], self.variables)
-        entries = told.notes()
+        told.mode, entries = told.mode if mode is None else mode, told.notes()
         old, found, begin = copy.deepcopy(entries), self.instructions(), code_begins(content)
         for index, note in notes:
             entries[index][1] = note
@@ -86,7 +90,8 @@ class Woven:
             assert len(come) == at[1] - at[0], (what, len(come), at)
             content[begin + at[0] : begin + at[1]] = come
             if new:
-                entries[first : first + len(gone)] = [[None if like is None else copy.deepcopy(old[like][0]), note] for like, note in new[0]]
+                frames = [copy.deepcopy(old[like][0] if isinstance(like, int) else like) for like, _ in new[0]]
+                entries[first : first + len(gone)] = [[frame, note] for frame, (_, note) in zip(frames, new[0])]
         if handler is not None:
             change_handler(content, begin, handler)
         files[self.outputs[0]], files["new/certificate"] = bytes(content), told.bytes()
@@ -107,7 +112,7 @@ class Woven:
             entries[:] = told_again(parts)
             files["new/certificate"] = told.bytes()
             if files != self.files:
-                self.check(f"{self.what}, {what}", f"accepted hold sites {self.sites}", files)
+                self.check(f"{self.what}, {what}", self.accepted(), files)
 
     def coded(self, text, found):
         """The bytes of words, each of hexadecimal digits or the name of what a block names."""

@@ -7,7 +7,8 @@ import java.util.Map;
 
 /**
  * The events of this library, as the lines of a record, in the order in which they happen; threads are numbered as they are
- * met. They are printed as the Java machine ends, however it does.
+ * met. They are printed as the Java machine ends, however it does. With the property `most` a line behind them tells how many
+ * calls were under way at most.
  */
 final class Events {
     private static final long WAIT = 200;
@@ -38,6 +39,9 @@ final class Events {
         pause(WAIT);
         synchronized (Events.class) {
             System.out.println(String.join("\n", LINES));
+            if (Boolean.getBoolean("most")) {
+                System.out.println("most " + UnderWay.most());
+            }
         }
     }
 }

@@ -11,28 +11,38 @@ public final class Net {
     private Net() {}
 
     public static void send(int n) {
-        Events.add("call", "api/Net send (I)V " + n);
+        begun("api/Net send (I)V " + n);
         last(n);
-        Events.add("return", "api/Net send (I)V");
+        ended("return", "api/Net send (I)V");
     }
 
     public static int read() {
-        Events.add("call", "api/Net read ()I");
+        begun("api/Net read ()I");
         last(0);
-        Events.add("return", "api/Net read ()I 7");
+        ended("return", "api/Net read ()I 7");
         return 7;
     }
 
     /** Gives the number back; each tenth one is refused. */
     public static int ask(int n) throws Broken {
-        Events.add("call", "api/Net ask (I)I " + n);
+        begun("api/Net ask (I)I " + n);
         last(n);
         if (n % 10 == 9) {
-            Events.add("except", "api/Net ask (I)I");
+            ended("except", "api/Net ask (I)I");
             throw new Broken();
         }
-        Events.add("return", "api/Net ask (I)I " + n);
+        ended("return", "api/Net ask (I)I " + n);
         return n;
+    }
+
+    private static void begun(String call) {
+        UnderWay.begin();
+        Events.add("call", call);
+    }
+
+    private static void ended(String word, String rest) {
+        Events.add(word, rest);
+        UnderWay.end();
     }
 
     private static void last(int n) {
