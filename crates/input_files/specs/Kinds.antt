@@ -1,4 +1,4 @@
--- The kinds of files: how long they may be, and what they are read as. (docs/FORMS.md)
+-- The kinds of files: how long they may be, and what they are read as. (docs/COMMANDS.md)
 use Rattle.std.specs.Prelude.{ℕ, length, Result, Ok, Err}
 use Rattle.listing_text.specs.declared.fault.ListFault.{ListFault}
 use Rattle.api_listing.specs.declared.types.Listing.{Listing}
