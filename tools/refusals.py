@@ -469,7 +469,7 @@ POLICIES = {
         ("byte",),
         "The method is built in, and built-in methods have no clauses.",
         ("A clause for `java.lang.System.exit` or `java.lang.Thread.start`.",),
-        "Leave the clause out: these calls cannot be denied (docs/LIMITS.md).",
+        "Leave the clause out: these calls cannot be denied (docs/SECURITY.md).",
     ),
 }
 
@@ -720,7 +720,7 @@ ANSWERS = {
         "`check` accepts the program: it obeys the policy, if these very files run, with `conspec/State` on the "
         "class path. N is the number of calls of methods that the policy has clauses for. 0 where the policy denies"
         " something is suspicious: look whether the listing has each method at the class that declares it "
-        "(docs/LIMITS.md)."
+        "(docs/SECURITY.md)."
     ),
     "inlined MODE sites N classes K": (
         "`inline` wrote K class files and the certificate with which `check` accepts them; N calls have a block. "
