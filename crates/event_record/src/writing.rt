@@ -100,8 +100,8 @@ pub fn records_are_read_again()
     ensures { RecordsAreReadAgain }
 {}
 
-/// A record can tell each line of a run of a linked program that has fewer than some 4,000,000,000 steps, where the names of
-/// classes that the library sees are words, and texts are made of bytes.
+/// A record can tell each line of a run of a linked program that has fewer than some 4,000,000,000 steps, where the texts that
+/// the library answers are made of bytes.
 pub fn lines_of_runs_are_told()
     ensures told { LinesOfRunsAreTold }
 {
