@@ -25,6 +25,7 @@ use Rattle.api_listing.specs.Words.{is_class_name, is_name_byte, is_segment, pie
 use Rattle.bytecode_model.specs.Arrays.{array_of, described, is_array}
 use Rattle.bytecode_model.specs.Makes.{array_named}
 use Rattle.bytecode_model.specs.SearchOrder.{Name}
+use Rattle.guest_model.proofs.Options.{all_append}
 use Rattle.guest_model.specs.Calling.{second_start}
 use Rattle.guest_model.specs.Parts.{bad_monitor, null_pointer}
 use Rattle.guest_model.specs.Runs.{inner}
@@ -166,10 +167,6 @@ inner_named desc name s = subst IsNamed (sym (ap inner s.spelled ∙ inner_is na
 abbrev pub ClassesNamed : List ListedClass → Type 0
 ClassesNamed classes = AllByRecursion (λ (c : ListedClass). IsNamed c.name) classes
 
-pub all_both : {A : Type 0} (P : A → Type 0) (xs ys : List A) → AllByRecursion P xs → AllByRecursion P ys → AllByRecursion P (xs ++ ys)
-all_both P [] ys p q = q
-all_both P (x ∷ xs) ys p q = (p.0, all_both P xs ys p.1 q)
-
 proper : (classes : List ListedClass) → list_all (λ (c : ListedClass). is_class_name c.name) classes ≡ true → ClassesNamed classes
 proper [] e = tt
 proper (c ∷ classes) e =
@@ -203,7 +200,7 @@ module _ (text : List ℕ) (listing : Listing) (spells : SpellsListing text list
   pub listed_classes : ClassesNamed listing.classes
   listed_classes =
       subst (λ (l : Listing). ClassesNamed l.classes) (sym spells.listed)
-      (all_both (λ (c : ListedClass). IsNamed c.name) built_in_classes (filter_map class_declared spells.said)
+      (all_append (λ (c : ListedClass). IsNamed c.name) built_in_classes (filter_map class_declared spells.said)
       (proper built_in_classes built_in_proper) (classes_said (filter says_something spells.lines) spells.said spells.spelled))
 
   pub listed_fields : FieldsNamed listing.fields

@@ -22,7 +22,6 @@ use Rattle.guest_model.specs.Layout.{new_of}
 use Rattle.guest_model.specs.Parts.{constant_value, null_pointer}
 use Rattle.guest_model.specs.Working.{ArrayAt, Worked, array_in, array_made, bad_cast, bad_division, bad_item, bad_place, bad_size, casts, divides, has_items, is_cast, item_kind, item_read, item_written, kept, length_told, makes_array, may_hold, name_named, number_operand, on_array, on_items, on_object, operand_of, place_among, place_named, reads_field, reads_item, reads_static, static_written, worked, writes_field, writes_item, writes_static}
 use Rattle.guest_model.proofs.Options.{IfThere, all_append, if_either, if_made, if_mapped, if_none, if_some, if_then, there_or}
-
 use Rattle.event_record.proofs.ClassNames.{array_of_named, bad_cast_named, bad_division_named, bad_item_named, bad_place_named, bad_size_named, kind_named, null_pointer_named}
 use Rattle.event_record.proofs.Shown.{HeapNamed, ObjectNamed}
 use Rattle.event_record.proofs.WrittenLines.{IsNamed}

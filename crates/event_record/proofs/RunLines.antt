@@ -47,7 +47,7 @@ use Rattle.event_record.specs.Again.{IsPrinted}
 use Rattle.event_record.specs.Entry.{gives_nothing}
 use Rattle.event_record.specs.Library.{library_of}
 use Rattle.event_record.specs.Printing.{IsGiven, IsValue, method_listed}
-use Rattle.event_record.specs.RunLines.{AreLinesFrom, LinesOfRunsAreTold}
+use Rattle.event_record.specs.RunLines.{AreLinesFrom, LinesOfRunsAreTold, RecordsOfRunsAreReadAgain}
 use Rattle.event_record.specs.Spelling.{IsAnswer}
 use Rattle.event_record.specs.Writing.{IsChoice, IsTold, NamesWord}
 use Rattle.event_record.proofs.ClassNames.{holds_at}
@@ -55,6 +55,7 @@ use Rattle.event_record.proofs.Indices.{first_is_index}
 use Rattle.event_record.proofs.ListingWords.{known_word, method_first, method_types, method_words, tells_result}
 use Rattle.event_record.proofs.ShownAnswers.{listed_known}
 use Rattle.event_record.proofs.ShownStart.{run_written}
+use Rattle.event_record.proofs.WrittenAgain.{run_again}
 use Rattle.event_record.proofs.WrittenLines.{IsChoiceWritten, IsEventWritten, IsLineWritten, IsWritten, ShowsWords}
 
 -- the laws of the machine that this stands on
@@ -307,3 +308,9 @@ lines_of_runs_are_told laws program text lines spells sound standing named liter
     (subst (AllByRecursion (ShowsBelow n)) is (laws.shown program steps)) (written_events laws program text spells lines written) in
     let told = steps_told laws program text spells (2 ^ 32) lines (start_of program) are (omega (arith, few)) written in
     lines_told laws program text spells n lines le told (of_lines (IsKnown laws program text spells n) lines known)
+
+pub records_of_runs_again : Laws → RecordsOfRunsAreReadAgain
+records_of_runs_again laws program text lines end spells sound standing named literals are brings few value =
+    let fields : length program.listing.fields ≤ 20000 = sound.listed.fields in
+    run_again program.listing lines end
+    (lines_of_runs_are_told laws program text lines spells sound standing named literals are (omega (arith, fields, few)) brings) few value

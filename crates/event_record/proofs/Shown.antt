@@ -68,7 +68,6 @@ use Rattle.guest_model.proofs.Options.{
   all_reverse,
   all_of_one,
 }
-
 use Rattle.api_listing.specs.declared.types.ListedMethod.{ListedMethod}
 use Rattle.bytecode_model.specs.Classes.{classes_of, is_below}
 use Rattle.guest_model.specs.Calls.{name_at}

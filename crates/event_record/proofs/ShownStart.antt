@@ -42,7 +42,7 @@ use Rattle.guest_model.proofs.Insns.{has_insn}
 use Rattle.guest_model.proofs.Options.{and_then_of, some_is, IfThere, if_none, if_some, if_either, if_then, if_mapped, is_there, there_or, all_get, all_append, all_map, all_mapped}
 use Rattle.event_record.specs.declared.writing.Line.{Line}
 use Rattle.event_record.specs.RunLines.{AreLinesOf, BringsBytes}
-use Rattle.event_record.proofs.ClassNames.{ClassesNamed, all_both, class_named, known_named, listed_classes, listed_fields, strings_named, type_named}
+use Rattle.event_record.proofs.ClassNames.{ClassesNamed, class_named, known_named, listed_classes, listed_fields, strings_named, type_named}
 use Rattle.event_record.proofs.ListingWords.{method_types}
 use Rattle.event_record.proofs.Shown.{AreShown, FewArguments, IsShown, LiteralsAreBytes, ObjectNamed, ObjectShown, rests_shown}
 use Rattle.event_record.proofs.ShownRuns.{IsNamedProgram, MachineShown, NamesNamed, NamesShown, first_shown, lines_written}
@@ -168,7 +168,7 @@ module _ (program : Program) (text : List ℕ) (spells : SpellsListing text prog
 
   all_classes : ClassesNamed (classes_of program)
   all_classes =
-      all_both (λ (c : ListedClass). IsNamed c.name) program.listing.classes (map (λ (c : LinkedClass). head_of c.file) program.classes)
+      all_append (λ (c : ListedClass). IsNamed c.name) program.listing.classes (map (λ (c : LinkedClass). head_of c.file) program.classes)
       (listed_classes text program.listing spells)
       (heads_named program.classes sound.classes (λ own class there. class_named class.name (standing own class there).named))
 

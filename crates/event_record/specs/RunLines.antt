@@ -1,5 +1,5 @@
 -- The lines of a run of a linked program, and that a record can tell them. (docs/RECORDS.md)
-use Rattle.std.specs.Prelude.{◌≡◌, ◌≤◌, ◌<◌, ◌+◌, ◌^◌, ℕ, suc, List, [], ◌∷◌, length, Some}
+use Rattle.std.specs.Prelude.{◌≡◌, ◌≤◌, ◌<◌, ◌+◌, ◌^◌, ℕ, suc, List, [], ◌∷◌, length, Some, Ok}
 use Rattle.std.specs.List.{AllByRecursion}
 use Rattle.api_listing.specs.declared.events.ApiAnswer.{ApiAnswer}
 use Rattle.api_listing.specs.declared.events.ApiAnswer.TheVariants as answers
@@ -13,8 +13,11 @@ use Rattle.guest_model.specs.declared.machine.Choice.TheVariants as choices
 use Rattle.guest_model.specs.declared.machine.Machine.{Machine}
 use Rattle.guest_model.specs.Runs.{start_of}
 use Rattle.guest_model.specs.Stepping.{stepped}
+use Rattle.event_record.specs.declared.writing.EndLine.{EndLine}
 use Rattle.event_record.specs.declared.writing.Line.{Line}
-use Rattle.event_record.specs.Writing.{IsTold}
+use Rattle.event_record.specs.Record.{reading}
+use Rattle.event_record.specs.Spelling.{IsStopValue}
+use Rattle.event_record.specs.Writing.{IsTold, ending_of, record_text, run_of}
 
 -- ---- the lines of a run
 
@@ -53,3 +56,12 @@ LinesOfRunsAreTold =
     (program : Program) (text : List ℕ) (lines : List Line) → SpellsListing text program.listing → IsSound program → AreStanding program
     → AreNamed program → AreLiterals program → AreLinesOf program lines → suc (length program.listing.fields) + length lines ≤ 2 ^ 32
     → AllByRecursion (λ (line : Line). BringsBytes line.step.choice) lines → AllByRecursion (IsTold program.listing) lines
+
+-- So the record of a run of a linked program, of at most 1,000,000 steps, is read as that run.
+abbrev pub RecordsOfRunsAreReadAgain : Type 0
+RecordsOfRunsAreReadAgain =
+    (program : Program) (text : List ℕ) (lines : List Line) (end : EndLine) → SpellsListing text program.listing → IsSound program
+    → AreStanding program → AreNamed program → AreLiterals program → AreLinesOf program lines
+    → AllByRecursion (λ (line : Line). BringsBytes line.step.choice) lines
+    → length lines ≤ 1000000 → IsStopValue (ending_of end (length lines))
+    → reading (record_text program.listing lines end) program.listing ≡ Ok (run_of lines)
