@@ -13,4 +13,12 @@ pub mod WrittenAgain
 pub mod FirstFault
 pub mod Indices
 mod ListingWords
+mod WrittenLines
+mod ClassNames
+mod Shown
+mod NamedWork
+mod ShownCalls
+mod ShownAnswers
+mod ShownRuns
+mod ShownStart
 mod RunLines

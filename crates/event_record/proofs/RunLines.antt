@@ -1,6 +1,6 @@
 -- A record can tell each line of a run.
-use Rattle.std.proofs.Common.{◌≡◌, ◌≤◌, ◌<◌, ◌^◌, ◌+◌, ℕ, suc, Bool, true, false, List, [], ◌∷◌, ◌++◌, length, map, Option, Some, None, refl, sym, ap, subst, ◌∙◌, arith}
-use Rattle.std.specs.Prelude.{◌||◌, IfSome, IsSome, IsSomeAnd, bytes_eq, is_some, not, slice_get}
+use Rattle.std.proofs.Common.{◌≡◌, ◌≤◌, ◌<◌, ◌^◌, ◌+◌, ℕ, suc, true, List, [], ◌∷◌, ◌++◌, length, map, Option, Some, None, refl, sym, ap, subst, ◌∙◌, arith}
+use Rattle.std.specs.Prelude.{◌||◌, IfSome, IsSome, IsSomeAnd, is_some, not, slice_get}
 use Rattle.std.specs.List.{AllByRecursion, filter_map}
 use Rattle.std.specs.Option.{option_map_or, option_to_list}
 use Rattle.std.proofs.lemmas.Bool.{and_parts}
@@ -14,12 +14,10 @@ use Rattle.api_listing.specs.declared.events.ApiValue.TheVariants as api
 use Rattle.api_listing.specs.declared.events.Event.{Event}
 use Rattle.api_listing.specs.declared.events.Event.TheVariants as events
 use Rattle.api_listing.specs.declared.descriptor.MethodType.{MethodType}
-use Rattle.api_listing.specs.declared.types.ListedClass.{ListedClass}
 use Rattle.api_listing.specs.declared.types.ListedMethod.{ListedMethod}
-use Rattle.api_listing.specs.BuiltIn.{built_in_classes, throwable}
+use Rattle.api_listing.specs.BuiltIn.{throwable}
 use Rattle.api_listing.proofs.DescriptorLaws.{method_again}
 use Rattle.api_listing.specs.Listing.{SpellsListing, is_known}
-use Rattle.api_listing.specs.Nearest.{class_named}
 use Rattle.bytecode_model.specs.declared.program.Program.{Program}
 use Rattle.bytecode_model.specs.Classes.{is_below, is_interface}
 use Rattle.bytecode_model.specs.Sound.{IsSound}
@@ -49,11 +47,16 @@ use Rattle.event_record.specs.Again.{IsPrinted}
 use Rattle.event_record.specs.Entry.{gives_nothing}
 use Rattle.event_record.specs.Library.{library_of}
 use Rattle.event_record.specs.Printing.{IsGiven, IsValue, method_listed}
-use Rattle.event_record.specs.RunLines.{AreLinesFrom, IsChoiceWritten, IsEventWritten, IsLineWritten, IsWritten, LinesOfRunsAreTold, ShowsWords}
+use Rattle.event_record.specs.RunLines.{AreLinesFrom, LinesOfRunsAreTold, RecordsOfRunsAreReadAgain}
 use Rattle.event_record.specs.Spelling.{IsAnswer}
 use Rattle.event_record.specs.Writing.{IsChoice, IsTold, NamesWord}
+use Rattle.event_record.proofs.ClassNames.{holds_at}
 use Rattle.event_record.proofs.Indices.{first_is_index}
 use Rattle.event_record.proofs.ListingWords.{known_word, method_first, method_types, method_words, tells_result}
+use Rattle.event_record.proofs.ShownAnswers.{listed_known}
+use Rattle.event_record.proofs.ShownStart.{run_written}
+use Rattle.event_record.proofs.WrittenAgain.{run_again}
+use Rattle.event_record.proofs.WrittenLines.{IsChoiceWritten, IsEventWritten, IsLineWritten, IsWritten, ShowsWords}
 
 -- the laws of the machine that this stands on
 pub record Laws : Type 0 where
@@ -109,21 +112,6 @@ of_lines P (line ∷ lines) all =
 
 -- ---- answers
 
-holds_at : {A : Type 0} (p : A → Bool) (o : Option A) → option_map_or p o false ≡ true → (x : A) × (o ≡ Some x) × (p x ≡ true)
-holds_at p None e = absurd cc
-holds_at p (Some x) e = (x, refl, e)
-
-found_known : (classes : List ListedClass) (class : List ℕ) (c : ListedClass) → class_named classes class ≡ Some c → is_known classes class ≡ true
-found_known [] class c e = absurd cc
-found_known (d ∷ classes) class c e = by (bytes_eq d.name class) refl (found_known classes class c) where
-  by : (b : Bool) → bytes_eq d.name class ≡ b → (class_named classes class ≡ Some c → is_known classes class ≡ true)
-      → is_known (d ∷ classes) class ≡ true
-  by true is others = rw is refl
-  by false is others =
-      let rest : class_named classes class ≡ Some c = rw is at e in
-      let known = others rest in
-      rw is known
-
 module _ (laws : Laws) (program : Program) (text : List ℕ) (spells : SpellsListing text program.listing) where
   abbrev Tells : ApiAnswer → Type 0
   Tells answer = IsAnswer (library_of program.listing) answer × NamesWord answer
@@ -137,10 +125,7 @@ module _ (laws : Laws) (program : Program) (text : List ℕ) (spells : SpellsLis
   answer_told heap result receiver arguments (answers.Text bytes) fit written = (written, tt)
   answer_told heap result receiver arguments (answers.Fresh class) fit written =
       let f = and_parts (of_class result (λ name. is_interface program name || is_below program class name)) (is_listed_class program class) fit in
-      let l = and_parts (option_map_or (λ (c : ListedClass). not c.is_interface) (class_named program.listing.classes class) false)
-      (not (is_known built_in_classes class)) f.1 in
-      let c = holds_at (λ (c : ListedClass). not c.is_interface) (class_named program.listing.classes class) l.0 in
-      let known = found_known program.listing.classes class c.0 c.1 in
+      let known = listed_known program class f.1 in
       (known, known_word text program.listing spells class known)
   answer_told heap result receiver arguments (answers.Arg i) fit written = (written, tt)
   answer_told heap result receiver arguments answers.Receiver fit written = (tt, tt)
@@ -309,7 +294,8 @@ module _ (laws : Laws) (program : Program) (text : List ℕ) (spells : SpellsLis
         by (Some event) h rest = (h, rest)
 
 pub lines_of_runs_are_told : Laws → LinesOfRunsAreTold
-lines_of_runs_are_told laws program text lines spells sound named literals are few written =
+lines_of_runs_are_told laws program text lines spells sound standing named literals are few brings =
+    let written = run_written program text spells sound standing named literals laws.enabled lines are brings in
     let steps : List Step = map step_of lines in
     let n : ℕ = suc (length program.listing.fields) + length steps in
     let many : length steps ≡ length lines = length-map lines step_of in
@@ -322,3 +308,9 @@ lines_of_runs_are_told laws program text lines spells sound named literals are f
     (subst (AllByRecursion (ShowsBelow n)) is (laws.shown program steps)) (written_events laws program text spells lines written) in
     let told = steps_told laws program text spells (2 ^ 32) lines (start_of program) are (omega (arith, few)) written in
     lines_told laws program text spells n lines le told (of_lines (IsKnown laws program text spells n) lines known)
+
+pub records_of_runs_again : Laws → RecordsOfRunsAreReadAgain
+records_of_runs_again laws program text lines end spells sound standing named literals are brings few value =
+    let fields : length program.listing.fields ≤ 20000 = sound.listed.fields in
+    run_again program.listing lines end
+    (lines_of_runs_are_told laws program text lines spells sound standing named literals are (omega (arith, fields, few)) brings) few value

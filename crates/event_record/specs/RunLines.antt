@@ -1,25 +1,23 @@
 -- The lines of a run of a linked program, and that a record can tell them. (docs/RECORDS.md)
-use Rattle.std.specs.Prelude.{◌≡◌, ◌≢◌, ◌≤◌, ◌<◌, ◌+◌, ◌^◌, IfSome, ℕ, suc, List, [], ◌∷◌, length, Some, None}
+use Rattle.std.specs.Prelude.{◌≡◌, ◌≤◌, ◌<◌, ◌+◌, ◌^◌, ℕ, suc, List, [], ◌∷◌, length, Some, Ok}
 use Rattle.std.specs.List.{AllByRecursion}
 use Rattle.api_listing.specs.declared.events.ApiAnswer.{ApiAnswer}
 use Rattle.api_listing.specs.declared.events.ApiAnswer.TheVariants as answers
-use Rattle.api_listing.specs.declared.events.ApiValue.{ApiValue}
-use Rattle.api_listing.specs.declared.events.ApiValue.TheVariants as api
-use Rattle.api_listing.specs.declared.events.Event.{Event}
-use Rattle.api_listing.specs.declared.events.Event.TheVariants as events
 use Rattle.api_listing.specs.Listing.{SpellsListing}
 use Rattle.bytecode_model.specs.declared.program.Program.{Program}
 use Rattle.bytecode_model.specs.Sound.{IsSound}
-use Rattle.bytecode_model.specs.Standing.{AreLiterals}
+use Rattle.bytecode_model.specs.Standing.{AreLiterals, AreStanding}
 use Rattle.bytecode_model.specs.Targets.{AreNamed}
 use Rattle.guest_model.specs.declared.machine.Choice.{Choice}
 use Rattle.guest_model.specs.declared.machine.Choice.TheVariants as choices
 use Rattle.guest_model.specs.declared.machine.Machine.{Machine}
 use Rattle.guest_model.specs.Runs.{start_of}
 use Rattle.guest_model.specs.Stepping.{stepped}
+use Rattle.event_record.specs.declared.writing.EndLine.{EndLine}
 use Rattle.event_record.specs.declared.writing.Line.{Line}
-use Rattle.event_record.specs.Printing.{HasNoBreak}
-use Rattle.event_record.specs.Writing.{IsTold}
+use Rattle.event_record.specs.Record.{reading}
+use Rattle.event_record.specs.Spelling.{IsStopValue}
+use Rattle.event_record.specs.Writing.{IsTold, ending_of, record_text, run_of}
 
 -- ---- the lines of a run
 
@@ -32,51 +30,38 @@ AreLinesFrom program machine (line ∷ lines) =
 abbrev pub AreLinesOf : Program → List Line → Type 0
 AreLinesOf program lines = AreLinesFrom program (start_of program) lines
 
--- ---- what a library can answer, and see
+-- ---- what a library answers
 
--- A text is made of bytes, and a place is a number of 32 bits.
-abbrev pub IsWritten : ApiAnswer → Type 0
-IsWritten answers.Nothing = Unit {0}
-IsWritten (answers.Int n) = Unit {0}
-IsWritten answers.Null = Unit {0}
-IsWritten (answers.Text bytes) = AllByRecursion (λ b. b < 256) bytes
-IsWritten (answers.Fresh class) = Unit {0}
-IsWritten (answers.Arg place) = place < 2 ^ 32
-IsWritten answers.Receiver = Unit {0}
-IsWritten (answers.Throws class) = Unit {0}
+-- A text is made of bytes.
+abbrev pub AnswersBytes : ApiAnswer → Type 0
+AnswersBytes (answers.Text bytes) = AllByRecursion (λ b. b < 256) bytes
+AnswersBytes answers.Nothing = Unit {0}
+AnswersBytes (answers.Int n) = Unit {0}
+AnswersBytes answers.Null = Unit {0}
+AnswersBytes (answers.Fresh class) = Unit {0}
+AnswersBytes (answers.Arg place) = Unit {0}
+AnswersBytes answers.Receiver = Unit {0}
+AnswersBytes (answers.Throws class) = Unit {0}
 
-abbrev pub IsChoiceWritten : Choice → Type 0
-IsChoiceWritten choices.Plain = Unit {0}
-IsChoiceWritten (choices.Answer answer) = IsWritten answer
-
--- The name is a word.
-abbrev pub IsNamed : List ℕ → Type 0
-IsNamed name = (name ≢ []) × HasNoBreak name
-
--- The names of classes are words, and texts are made of bytes.
-abbrev pub ShowsWords : ApiValue → Type 0
-ShowsWords (api.Int n) = Unit {0}
-ShowsWords api.Null = Unit {0}
-ShowsWords (api.Text bytes) = AllByRecursion (λ b. b < 256) bytes
-ShowsWords (api.Obj class at) = IsNamed class
-ShowsWords (api.Class class) = IsNamed class
-
-abbrev pub IsEventWritten : Event → Type 0
-IsEventWritten (events.Call thread method arguments) = AllByRecursion ShowsWords arguments
-IsEventWritten (events.Return thread method None) = Unit {0}
-IsEventWritten (events.Return thread method (Some value)) = ShowsWords value
-IsEventWritten (events.Except thread method) = Unit {0}
-
-pub record IsLineWritten (line : Line) : Type 0 where
-  pub choice : IsChoiceWritten line.step.choice
-  pub event : IfSome line.event IsEventWritten
+abbrev pub BringsBytes : Choice → Type 0
+BringsBytes choices.Plain = Unit {0}
+BringsBytes (choices.Answer answer) = AnswersBytes answer
 
 -- ---- the law
 
 -- A record can tell each line of a run of a linked program: its steps are so few that the numbers of objects and threads have 32
--- bits, and what the library answers, and the names and texts that it sees, can be written.
+-- bits, and the texts that the library answers are made of bytes.
 abbrev pub LinesOfRunsAreTold : Type 0
 LinesOfRunsAreTold =
-    (program : Program) (text : List ℕ) (lines : List Line) → SpellsListing text program.listing → IsSound program → AreNamed program
-    → AreLiterals program → AreLinesOf program lines → suc (length program.listing.fields) + length lines ≤ 2 ^ 32
-    → AllByRecursion IsLineWritten lines → AllByRecursion (IsTold program.listing) lines
+    (program : Program) (text : List ℕ) (lines : List Line) → SpellsListing text program.listing → IsSound program → AreStanding program
+    → AreNamed program → AreLiterals program → AreLinesOf program lines → suc (length program.listing.fields) + length lines ≤ 2 ^ 32
+    → AllByRecursion (λ (line : Line). BringsBytes line.step.choice) lines → AllByRecursion (IsTold program.listing) lines
+
+-- So the record of a run of a linked program, of at most 1,000,000 steps, is read as that run.
+abbrev pub RecordsOfRunsAreReadAgain : Type 0
+RecordsOfRunsAreReadAgain =
+    (program : Program) (text : List ℕ) (lines : List Line) (end : EndLine) → SpellsListing text program.listing → IsSound program
+    → AreStanding program → AreNamed program → AreLiterals program → AreLinesOf program lines
+    → AllByRecursion (λ (line : Line). BringsBytes line.step.choice) lines
+    → length lines ≤ 1000000 → IsStopValue (ending_of end (length lines))
+    → reading (record_text program.listing lines end) program.listing ≡ Ok (run_of lines)

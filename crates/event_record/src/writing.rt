@@ -7,7 +7,7 @@ ghost use Rattle.api_listing.specs.declared.types.ListedMethod.{ListedMethod};
 ghost use Rattle.event_record.specs.Again.{end_line};
 ghost use Rattle.event_record.specs.Joined.{WritesOn, end_head, joined_line};
 ghost use Rattle.event_record.specs.Printing.{behind, event_line};
-ghost use Rattle.event_record.specs.RunLines.{LinesOfRunsAreTold};
+ghost use Rattle.event_record.specs.RunLines.{LinesOfRunsAreTold, RecordsOfRunsAreReadAgain};
 ghost use Rattle.event_record.specs.Spelling.{answer_words};
 ghost use Rattle.event_record.specs.Value.{hex};
 ghost use Rattle.event_record.specs.Writing.{
@@ -100,10 +100,12 @@ pub fn records_are_read_again()
     ensures { RecordsAreReadAgain }
 {}
 
-/// A record can tell each line of a run of a linked program that has fewer than some 4,000,000,000 steps, where the names of
-/// classes that the library sees are words, and texts are made of bytes.
+/// A record can tell each line of a run of a linked program that has fewer than some 4,000,000,000 steps, where the texts that
+/// the library answers are made of bytes.
 pub fn lines_of_runs_are_told()
     ensures told { LinesOfRunsAreTold }
+    // So the record of a run of at most 1,000,000 steps is read as that run.
+    ensures again { RecordsOfRunsAreReadAgain }
 {
     steps_are_enabled();
     steps_add_one();
