@@ -2,6 +2,7 @@ mod Options
 mod Differing
 mod Noted
 mod Accepting
+pub mod Telling
 mod Security
 mod Denied
 pub mod Covering

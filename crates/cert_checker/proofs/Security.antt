@@ -10,6 +10,8 @@ use Rattle.bytecode_model.specs.declared.program.Method.{Method}
 use Rattle.bytecode_model.specs.declared.program.Program.{Program}
 use Rattle.bytecode_model.specs.declared.program.Target.{Target}
 use Rattle.bytecode_model.specs.Sound.{IsSound, IsSoundClass, IsSoundMethod, IsWithin}
+use Rattle.bytecode_model.specs.Standing.{AreLiterals}
+use Rattle.bytecode_model.specs.Targets.{AreNamed}
 use Rattle.bytecode_model.specs.Typed.{reached}
 use Rattle.cert_format.specs.declared.certificate.Certificate.{Certificate}
 use Rattle.cert_format.specs.declared.certificate.Mode.{Mode}
@@ -18,15 +20,19 @@ use Rattle.code_typing.specs.Closed.{BeginsReached, GoesToReached, IsCaughtReach
 use Rattle.conspec_automaton.specs.declared.policy.Policy.{Policy}
 use Rattle.conspec_automaton.specs.Racing.{IsRaceFree}
 use Rattle.conspec_automaton.specs.Sound.{IsPolicy, NamesMethods}
+use Rattle.guest_model.specs.Numbers.{KeepsWords}
 use Rattle.guest_model.specs.Places.{method_at, insn_in}
 use Rattle.guest_model.specs.Standing.{HasInsns, IsClosed}
 use Rattle.block_logic.specs.Accepted.{IsAccepted}
 use Rattle.block_logic.specs.Annotations.{annotations_of, held_in}
 use Rattle.block_logic.specs.Formed.{RunsAreFormed}
 use Rattle.block_logic.specs.Meaning.{IsJudged, IsReleasing}
-use Rattle.block_logic.specs.Obeying.{AcceptedObeys, EventsAreLocked, FitsListing, IsObeying, LockIsHeld}
+use Rattle.block_logic.specs.Obeying.{AcceptedObeys, EventsAreLocked, IsObeying, LockIsHeld}
+use Rattle.typed_runs.specs.Formed.{SeesWellFormed, TellsTypes}
+use Rattle.typed_runs.specs.Programs.{IsLinkedProgram}
 use Rattle.cert_checker.specs.Secure.{Secure}
 use Rattle.cert_checker.proofs.Options.{all_at, and_then_of}
+use Rattle.cert_checker.proofs.Telling.{fits_listing}
 
 -- ---- places
 
@@ -66,6 +72,8 @@ pub record Laws : Type 0 where
   pub begin : BeginsReached
   pub next : GoesToReached
   pub caught : IsCaughtReached
+  pub formed : SeesWellFormed
+  pub words : (program : Program) → IsSound program → AreNamed program → AreLiterals program → KeepsWords program
 
 -- a race-free policy is race-free of each two methods
 releasing : (program : Program) (mode : Mode) (policy : Policy) → IsRaceFree policy → RunsAreFormed program policy → IsReleasing program policy (held_in mode)
@@ -80,16 +88,16 @@ releasing program mode policy race formed = record {
 }
 
 -- what is known of the mode, as it is said of the calls round which the lock is held
-judged : (program : Program) (mode : Mode) (policy : Policy) → (mode ≡ modes.Release → IsRaceFree policy) → (mode ≡ modes.Release → RunsAreFormed program policy) → IsJudged program policy (held_in mode)
+judged : (program : Program) (mode : Mode) (policy : Policy) → (mode ≡ modes.Release → IsRaceFree policy) → RunsAreFormed program policy → IsJudged program policy (held_in mode)
 judged program modes.Hold policy race formed = inl refl
-judged program modes.Release policy race formed = inr (releasing program modes.Release policy (race refl) (formed refl))
+judged program modes.Release policy race formed = inr (releasing program modes.Release policy (race refl) formed)
 
 -- what is known of a program and a policy before the check
 pub record IsGiven (program : Program) (policy : Policy) : Type 0 where
-  pub sound : IsSound program
+  pub linked : IsLinkedProgram program
   pub good : IsPolicy policy
   pub named : NamesMethods (length program.listing.methods) policy
-  pub listed : AllByRecursion (FitsListing program.listing) policy.clauses
+  pub told : AllByRecursion (TellsTypes program.listing) policy.clauses
 
 module _ (laws : Laws) (program : Program) (policy : Policy) (certificate : Certificate) (given : IsGiven program policy) (accepted : IsAccepted program policy certificate) where
   abbrev set : ℕ → ℕ → ℕ → Bool
@@ -109,7 +117,7 @@ module _ (laws : Laws) (program : Program) (policy : Policy) (certificate : Cert
         c = h.0;
         class_there = h.1;
         in_class = h.2;
-        well = all_at IsSoundMethod h.0.methods method m (all_at IsSoundClass program.classes class h.0 given.sound.classes h.1).methods h.2;
+        well = all_at IsSoundMethod h.0.methods method m (all_at IsSoundClass program.classes class h.0 given.linked.sound.classes h.1).methods h.2;
       }
 
   has_insns : HasInsns program
@@ -140,17 +148,24 @@ module _ (laws : Laws) (program : Program) (policy : Policy) (certificate : Cert
   obeying : IsJudged program policy (held_in certificate.mode) → IsObeying program policy (annotations_of certificate)
   obeying judged = record {
     judged = judged;
-    sound = given.sound;
+    sound = given.linked.sound;
     good = given.good;
     named = given.named;
-    listed = given.listed;
+    listed = fits_listing program.listing policy.clauses given.told;
     accepted = accepted;
     insns = has_insns;
     closed = closed;
   }
 
-  pub secure : (certificate.mode ≡ modes.Release → IsRaceFree policy) → (certificate.mode ≡ modes.Release → RunsAreFormed program policy) → Secure certificate.mode program policy
-  secure race formed steps = laws.obeys program policy certificate (obeying (judged program certificate.mode policy race formed)) steps
+  -- runs are formed, since the certificate types the program
+  formed : RunsAreFormed program policy
+  formed = record {
+    events = laws.formed program certificate.typing policy (record { links = given.linked; typed = accepted.typed }) given.told;
+    words = laws.words program given.linked.sound given.linked.linked.named given.linked.linked.literals;
+  }
+
+  pub secure : (certificate.mode ≡ modes.Release → IsRaceFree policy) → Secure certificate.mode program policy
+  secure race steps = laws.obeys program policy certificate (obeying (judged program certificate.mode policy race formed)) steps
 
   pub locked : certificate.mode ≡ modes.Hold → EventsAreLocked program policy
   locked hold = laws.held program policy certificate (obeying (inl (rw hold refl))) hold

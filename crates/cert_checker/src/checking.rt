@@ -8,13 +8,14 @@ ghost use Rattle.cert_format.specs.declared.certificate.Mode.TheVariants as mode
 ghost use Rattle.conspec_automaton.specs.Racing.{IsRaceFree};
 ghost use Rattle.conspec_automaton.specs.Sound.{IsPolicy, NamesMethods};
 ghost use Rattle.block_logic.specs.Accepted.{IsAccepted};
-ghost use Rattle.block_logic.specs.Formed.{RunsAreFormed};
-ghost use Rattle.block_logic.specs.Obeying.{EventsAreLocked, FitsListing};
+ghost use Rattle.block_logic.specs.Obeying.{EventsAreLocked};
 ghost use Rattle.block_logic.specs.Operands.{has_clause};
 ghost use Rattle.block_logic.specs.Annotations.{annotations_of};
 ghost use Rattle.block_logic.specs.Outside.{LeavesBlocks};
 ghost use Rattle.cert_checker.specs.Acceptance.{sites_of, verdict};
 ghost use Rattle.cert_checker.specs.Secure.{Secure};
+ghost use Rattle.typed_runs.specs.Formed.{TellsTypes};
+ghost use Rattle.typed_runs.specs.Programs.{IsLinkedProgram};
 
 use crate::fault::CheckFault;
 use crate::notes::notes_fault;
@@ -25,7 +26,9 @@ use bytecode_model::{LinkedClass, Method, Program};
 use cert_format::{Certificate, Mode};
 use code_typing::{check_typing, typed_is_closed};
 use conspec_automaton::Policy;
+use guest_model::sees_numbers_in_range;
 use type_lattice::Indexed;
+use typed_runs::events_are_well_formed;
 
 /// The answer yes.
 #[derive(Clone, Copy)]
@@ -43,15 +46,14 @@ pub fn examine(
     policy: &Policy,
     certificate: &Certificate,
 ) -> Result<Accepted, CheckFault>
-    requires sound { IsSound program.now }
+    requires linked { IsLinkedProgram program.now }
     requires policy { IsPolicy policy.now }
     requires named { NamesMethods (length program.now.listing.methods) policy.now }
-    requires listed { AllByRecursion (FitsListing program.now.listing) policy.now.clauses }
+    requires told { AllByRecursion (TellsTypes program.now.listing) policy.now.clauses }
     // It passes exactly where the conditions hold. Then every list of steps obeys: in mode hold, and in mode release where the policy
-    // is race-free and runs are well formed.
+    // is race-free.
     ensures ok { IsOk result ↔ IsAccepted program.now policy.now certificate.now }
     ensures secure { IsOk result → (certificate.now.mode ≡ modes.Release → IsRaceFree policy.now)
-        → (certificate.now.mode ≡ modes.Release → RunsAreFormed program.now policy.now)
         → Secure certificate.now.mode program.now policy.now }
 
     // In mode hold each step whose event has a clause is of the thread that holds the lock: the lock's order is that of the events.
@@ -88,6 +90,8 @@ pub fn examine(
         });
     }
     typed_is_closed();
+    events_are_well_formed();
+    sees_numbers_in_range();
     accepted_obeys();
     errors_leave_blocks();
     Ok(Accepted {

@@ -3,10 +3,8 @@
 
 ghost use Rattle.std.specs.Prelude.{◌≡◌, IfErr, IsOk, length};
 ghost use Rattle.std.specs.List.{AllByRecursion};
-ghost use Rattle.bytecode_model.specs.Sound.{IsSound};
-ghost use Rattle.block_logic.specs.Formed.{RunsAreFormed};
 ghost use Rattle.block_logic.specs.Annotations.{annotations_of};
-ghost use Rattle.block_logic.specs.Obeying.{EventsAreLocked, FitsListing};
+ghost use Rattle.block_logic.specs.Obeying.{EventsAreLocked};
 ghost use Rattle.block_logic.specs.Outside.{LeavesBlocks};
 ghost use Rattle.cert_checker.specs.Judging.{IsAllowed, judged, race_denied, races_denied};
 ghost use Rattle.cert_checker.specs.Secure.{Secure};
@@ -16,6 +14,8 @@ ghost use Rattle.conspec_automaton.specs.Racing.{IsRaceFree, all_pairs};
 ghost use Rattle.conspec_automaton.specs.Sound.{IsPolicy, NamesMethods};
 ghost use Rattle.mon_base.specs.Answer.{Answers};
 ghost use Rattle.race_free_check.specs.Limit.{AllHaveFewPoints};
+ghost use Rattle.typed_runs.specs.Formed.{TellsTypes};
+ghost use Rattle.typed_runs.specs.Programs.{IsLinkedProgram};
 
 use crate::checking::{Accepted, examine};
 use crate::fault::CheckFault;
@@ -58,24 +58,28 @@ impl From<CheckFault> for Denial {
 
 /// Checks a program with its certificate. Where the lock is let go round calls it is decided besides whether the policy is
 /// race-free, which takes memory. It runs nothing.
+///
+/// What it asks is what the calls that read its inputs give: the program is one that `link` gives of files, over a listing that was
+/// read, and the policy is one that `build` gives of a policy that was read over it, whose clauses then tell the types of their
+/// methods (`policies_tell_types` of typed_runs).
 pub fn check(
     alloc: Global,
     program: &Indexed,
     policy: &Policy,
     certificate: &Certificate,
 ) -> Result<Accepted, Denial>
-    requires sound { IsSound program.now }
+    requires linked { IsLinkedProgram program.now }
     requires policy { IsPolicy policy.now }
     requires named { NamesMethods (length program.now.listing.methods) policy.now }
-    requires listed { AllByRecursion (FitsListing program.now.listing) policy.now.clauses }
+    requires told { AllByRecursion (TellsTypes program.now.listing) policy.now.clauses }
     // Which answer it is: the first test that fails, with its first place, and then what is decided of races.
     ensures exact { Answers Denial.Memory result (judged program.now policy.now certificate.now) }
     // It is accepted exactly where it is allowed, if memory is there.
     ensures allowed { IsOk result → IsAllowed program.now policy.now certificate.now }
     ensures only { IsAllowed program.now policy.now certificate.now → IfErr result (λ denial. denial ≡ denials.Memory) }
-    // Then every list of steps obeys: in mode hold, and in mode release where runs are well formed, as those of a typed program are.
-    ensures secure { IsOk result → (certificate.now.mode ≡ modes.Release → RunsAreFormed program.now policy.now)
-        → Secure certificate.now.mode program.now policy.now }
+    // Then every list of steps obeys, as the mode promises. In mode release this stands on runs being formed, as those of a linked
+    // program are that its certificate types.
+    ensures secure { IsOk result → Secure certificate.now.mode program.now policy.now }
     // In mode hold each step whose event has a clause is of the thread that holds the lock: the lock's order is that of the events.
     ensures locked { IsOk result → certificate.now.mode ≡ modes.Hold → EventsAreLocked program.now policy.now }
     // In either mode an error that a Java machine throws in a block leads out of it: where it is caught no lock is held, no call

@@ -5,7 +5,6 @@ use Rattle.std.proofs.lemmas.Option.{slice_get_within}
 use Rattle.api_listing.specs.declared.types.Listing.{Listing}
 use Rattle.api_listing.specs.Listing.{SpellsListing}
 use Rattle.block_logic.specs.Accepted.{IsAccepted}
-use Rattle.block_logic.specs.Formed.{RunsAreFormed}
 use Rattle.block_template.specs.Blocks.{plan_of}
 use Rattle.block_template.specs.Good.{PlansAreGood}
 use Rattle.bytecode_model.specs.declared.program.Program.{Program}
@@ -20,6 +19,7 @@ use Rattle.bytecode_model.specs.Typed.{IsTyped}
 use Rattle.bytecode_model.proofs.Lists.{all_get}
 use Rattle.cert_format.specs.declared.certificate.Mode.{Mode}
 use Rattle.cert_format.specs.declared.typing.Typing.{Typing}
+use Rattle.cert_checker.proofs.Telling.{fits_listing}
 use Rattle.cert_maker.specs.Accepting.{IsStopped, WovenIsAccepted}
 use Rattle.class_linking.specs.Laws.{LinkedAreNamed, LinkedIsInOrder, LinkedOperandsAreRight}
 use Rattle.class_linking.specs.Linking.{linked}
@@ -31,7 +31,6 @@ use Rattle.conspec_automaton.specs.Building.{built}
 use Rattle.conspec_parse.specs.Telling.{KindsAreTold, ResultsAreTold}
 use Rattle.input_files.specs.declared.inline_inputs.InlineInputs.{InlineInputs}
 use Rattle.input_files.specs.InlineInputs.{InlineSound}
-use Rattle.input_files.specs.Named.{IsListed, IsPolicyOf}
 use Rattle.cert_maker.specs.ToldIsTyped.{IsTypedStill, ToldIsTyped}
 use Rattle.woven_linking.specs.Links.{OriginalIsFree, WovenLinks}
 use Rattle.woven_linking.specs.Program.{IsWovenOf, WovenFilesComeBack, WovenFilesHaveRoom, WovenProgramIsLinked, WovenProgramIsSound}
@@ -40,19 +39,18 @@ use Rattle.cert_maker.specs.Told.{FitsTyping, told}
 use Rattle.cert_format.specs.Fits as spell
 use Rattle.class_codec.specs.Fits.{CanSpell}
 use Rattle.std.specs.List.{AllByRecursion}
+use Rattle.typed_runs.specs.Programs.{IsLinkedProgram}
 use Rattle.woven_typing.specs.Framing.{typing_of}
 use Rattle.woven_typing.specs.Telling.{ListingsKnowThrowable, PoliciesTell, TellsKinds}
 use Rattle.woven_typing.specs.WovenTyping.{BlocksAreReachedSo, IsGiven, IsTypedSo, WovenIsTyped, front, is_reached, kept_frame}
 use Rattle.inliner_tool.specs.declared.inline.Given.{Given}
 use Rattle.inliner_tool.specs.Expected.{IsExpected, woven_program}
 use Rattle.inliner_tool.specs.Policy.{IsSoundFor}
-use Rattle.inliner_tool.specs.Running.{IsLinkedProgram, LinkedRunTyped}
 use Rattle.inliner_tool.specs.Programs.{woven_links}
 use Rattle.inliner_tool.specs.Weaving.{certificate_for}
 use Rattle.inliner_tool.proofs.Blocks.{numbers, of_inputs, remade, same_program}
 use Rattle.inliner_tool.proofs.Counting.{assembled_of}
 use Rattle.inliner_tool.proofs.Spelled.{can_spell}
-use Rattle.inliner_tool.proofs.TypedRuns.{runs_formed}
 
 and_false : (b : Bool) → (b && false) ≡ false
 and_false true = refl
@@ -82,7 +80,7 @@ module _ (old new : Program) (policy : Policy) (mode : Mode) (typing : Typing) (
 module _ (links : WovenLinks) (good : PlansAreGood) (free : OriginalIsFree) (order : LinkedIsInOrder) (right : LinkedOperandsAreRight)
     (kinds : KindsAreTold) (results : ResultsAreTold) (tells : PoliciesTell) (knows : ListingsKnowThrowable) (types : WovenIsTyped) (reaches : BlocksAreReachedSo)
     (stays : ToldIsTyped) (accepts : WovenIsAccepted) (linked_so : WovenProgramIsLinked) (back : WovenFilesComeBack) (room : WovenFilesHaveRoom) (sound_so : WovenProgramIsSound)
-    (named : LinkedAreNamed) (run : LinkedRunTyped)
+    (named : LinkedAreNamed)
     (inputs : InlineInputs) (known : InlineSound inputs) (main : List ℕ) (given : Given) (made : Woven)
     (client_links : linked inputs.classes.files inputs.listing main Original ≡ Ok given.client) (sound : IsSound given.client) (of : IsLinkedOf Original inputs.listing main given.client)
     (is : given.policy ≡ built inputs.policy) (sound_for : IsSoundFor given.client.listing given.policy) (weaves : woven given.client (plan_of given.policy given.mode) given.policy.vars ≡ Ok made)
@@ -121,7 +119,8 @@ module _ (links : WovenLinks) (good : PlansAreGood) (free : OriginalIsFree) (ord
 
   accepted : IsSound new.0 → IsAccepted new.0 given.policy (certificate_for given new.0)
   accepted new_sound =
-      accepts given.client new.0 given.policy given.mode (told new.0 (typing_of given.client given.policy given.mode given.typing)) sound_for.read sound_for.fits sound new_sound operands
+      accepts given.client new.0 given.policy given.mode (told new.0 (typing_of given.client given.policy given.mode given.typing)) sound_for.read
+      (fits_listing given.client.listing given.policy.clauses sound_for.told) sound new_sound operands
       (free known.listed.text inputs.listing inputs.classes.files main given.client known.listed.spells (assembled_of inputs.classes.files inputs.listing main Original given.client client_links))
       new.1.1 still.typed still.shaped
       (stopped given.client new.0 given.policy given.mode given.typing reaches so shaped still)
@@ -157,17 +156,12 @@ module _ (links : WovenLinks) (good : PlansAreGood) (free : OriginalIsFree) (ord
   linked_program = record {
     side = Inlined;
     main = main;
-    listed = subst IsListed (sym linked_of_new.listing_is) known.listed;
+    text = known.listed.text;
+    listed = subst (SpellsListing known.listed.text) (sym linked_of_new.listing_is) known.listed.spells;
     linked = subst (λ (l : Listing). IsLinkedOf Inlined l main (woven_program given made)) (sym linked_of_new.listing_is) linked_of_new;
     sound = new_sound;
     order = order_again;
   }
-
-  formed : RunsAreFormed (woven_program given made) given.policy
-  formed =
-      let runs = run (woven_program given made) (certificate_for given (woven_program given made)).typing linked_program accepted_again.typed in
-      subst (RunsAreFormed (woven_program given made)) (sym is)
-      (runs_formed (woven_program given made) (certificate_for given (woven_program given made)).typing inputs.policy runs (subst (λ (l : Listing). IsPolicyOf l inputs.policy) (sym linked_of_new.listing_is) known.policy))
 
   pub expected : IsExpected main given made
   expected = record {
@@ -175,9 +169,7 @@ module _ (links : WovenLinks) (good : PlansAreGood) (free : OriginalIsFree) (ord
     room = room inputs.listing inputs.classes.files main given.client (plan_of given.policy given.mode) given.policy.vars made woven_of fits;
     links = ap (λ (l : Listing). woven_links made.files l main) of.listing_is ∙ linked_again;
     back = back inputs.listing inputs.classes.files main given.client (plan_of given.policy given.mode) given.policy.vars made woven_of;
-    sound = new_sound;
-    order = order_again;
+    linked = linked_program;
     accepted = accepted_again;
-    formed = formed;
     spells = subst (λ (p : Program). IsSound p → FitsTyping (certificate_for given p).typing → is_written (certificate_for given p) ≡ true → spell.CanSpell (length given.policy.vars) (certificate_for given p)) same spelled new_sound;
   }

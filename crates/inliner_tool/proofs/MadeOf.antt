@@ -13,6 +13,7 @@ use Rattle.conspec_automaton.specs.Sound.{IsPolicy, NamesMethods}
 use Rattle.conspec_parse.specs.Telling.{KindsAreTold, ResultsAreTold}
 use Rattle.input_files.specs.declared.inline_inputs.InlineInputs.{InlineInputs}
 use Rattle.input_files.specs.InlineInputs.{InlineSound}
+use Rattle.typed_runs.specs.Formed.{PoliciesTellTypes}
 use Rattle.inliner_tool.specs.declared.inline.Given.{Given}
 use Rattle.inliner_tool.specs.Expected.{IsMadeOf}
 use Rattle.inliner_tool.specs.Programs.{AreTypes}
@@ -36,16 +37,16 @@ module _ (inputs : InlineInputs) (client : Program) (given : Given) (gathered : 
   pub client_laid_out : IsLaidOut given.client given.typing.frames
   client_laid_out = subst (λ (p : Program). IsLaidOut p given.typing.frames) (sym gathered.client) gathered.laid_out
 
-  pub made_of : KindsAreTold → ResultsAreTold → InlineSound inputs → (named : NamedInline) → original inputs.listing inputs.classes named.main ≡ Ok client
+  pub made_of : PoliciesTellTypes → KindsAreTold → ResultsAreTold → InlineSound inputs → (named : NamedInline) → original inputs.listing inputs.classes named.main ≡ Ok client
       → IsSound client → IsLinkedOf Original inputs.listing named.main client → client.listing ≡ inputs.listing → IsPolicy given.policy × NamesMethods (length inputs.listing.methods) given.policy
       → (made : Woven) → woven given.client (plan_of given.policy given.mode) given.policy.vars ≡ Ok made → IsMadeOf inputs named.main given made
-  made_of kinds results known named links sound stands same policies made weaves = record {
+  made_of tell kinds results known named links sound stands same policies made weaves = record {
     known = known;
     links = inputs_link named inputs given.client (client_links named links);
     sound = subst IsSound (sym gathered.client) sound;
     stands = subst (IsLinkedOf Original inputs.listing named.main) (sym gathered.client) stands;
     policy = gathered.policy;
-    kept = sound_for kinds results inputs known given.policy gathered.policy policies given.client.listing (listing_same same);
+    kept = sound_for tell kinds results inputs known given.policy gathered.policy policies given.client.listing (listing_same same);
     weaves = weaves;
   }
 

@@ -3,7 +3,6 @@ use Rattle.std.proofs.Common.{◌≡◌, length, Ok, Err, inl, inr, sym, subst}
 use Rattle.std.specs.List.{AllByRecursion}
 use Rattle.mon_base.proofs.Reading.{ok_is}
 use Rattle.api_listing.specs.declared.types.Listing.{Listing}
-use Rattle.block_logic.specs.Obeying.{FitsListing}
 use Rattle.block_template.specs.Blocks.{plan_of}
 use Rattle.bytecode_model.specs.declared.program.Program.{Program}
 use Rattle.class_weaving.specs.declared.woven.Woven.{Woven}
@@ -15,22 +14,24 @@ use Rattle.conspec_automaton.specs.Sound.{IsPolicy, NamesMethods}
 use Rattle.conspec_parse.specs.Telling.{KindsAreTold, ResultsAreTold}
 use Rattle.input_files.specs.declared.inline_inputs.InlineInputs.{InlineInputs}
 use Rattle.input_files.specs.InlineInputs.{InlineSound}
+use Rattle.typed_runs.specs.Formed.{PoliciesTellTypes, TellsTypes}
 use Rattle.inliner_tool.specs.declared.refusal.Refusal.{Refusal}
 use Rattle.inliner_tool.specs.declared.inline.Given.{Given}
 use Rattle.inliner_tool.specs.declared.inline.Ready.{Ready}
 use Rattle.inliner_tool.specs.Policy.{IsSoundFor}
 use Rattle.inliner_tool.specs.Programs.{AreTypes, Equals, Step, Types, UnlessMemory}
 use Rattle.inliner_tool.specs.Weaving.{Chosen, Fits, Gathers, Plans, Remakes, Typed, mode_for, original, weave_step}
-use Rattle.inliner_tool.proofs.Listed.{fits_listing}
+use Rattle.inliner_tool.proofs.Listed.{tells_types}
 use Rattle.inliner_tool.proofs.Planning.{first_fails, later}
 
 -- What is known of the policy over the program's listing.
-pub sound_for : KindsAreTold → ResultsAreTold → (inputs : InlineInputs) → InlineSound inputs → (policy : Policy) → policy ≡ built inputs.policy
+pub sound_for : PoliciesTellTypes → KindsAreTold → ResultsAreTold → (inputs : InlineInputs) → InlineSound inputs → (policy : Policy) → policy ≡ built inputs.policy
     → IsPolicy policy × NamesMethods (length inputs.listing.methods) policy → (listing : Listing) → listing ≡ inputs.listing → IsSoundFor listing policy
-sound_for kinds results inputs known policy is sound listing same =
-    let fits : AllByRecursion (FitsListing inputs.listing) policy.clauses =
-    subst (λ (p : Policy). AllByRecursion (FitsListing inputs.listing) p.clauses) (sym is) (fits_listing kinds results inputs.listing inputs.policy known.listed known.policy) in
-    subst (λ (l : Listing). IsSoundFor l policy) (sym same) (record { read = sound.0; named = sound.1; fits = fits })
+sound_for tell kinds results inputs known policy is sound listing same =
+    let told : AllByRecursion (TellsTypes inputs.listing) policy.clauses =
+    subst (λ (p : Policy). AllByRecursion (TellsTypes inputs.listing) p.clauses) (sym is)
+    (tells_types tell kinds results known.listed.text inputs.listing inputs.policy known.listed.spells known.policy) in
+    subst (λ (l : Listing). IsSoundFor l policy) (sym same) (record { read = sound.0; named = sound.1; told = told })
 
 module _ (named : NamedInline) (inputs : InlineInputs) (client : Program) (links : Equals (original inputs.listing inputs.classes named.main) (Ok client)) where
   -- nothing is to be woven

@@ -2,24 +2,20 @@
 use Rattle.std.proofs.Common.{◌≡◌, Option, Some, None, Result, Ok, Err, refl}
 use Rattle.std.specs.Prelude.{IfOk, IsSome, option_map}
 use Rattle.bytecode_model.specs.declared.program.Program.{Program}
-use Rattle.block_logic.specs.Formed.{RunsAreFormed}
 use Rattle.bytecode_model.specs.Sound.{IsSound}
 use Rattle.bytecode_model.specs.Standing.{AreLiterals}
 use Rattle.bytecode_model.specs.Targets.{AreNamed}
-use Rattle.bytecode_model.specs.Typed.{IsTyped}
-use Rattle.cert_format.specs.declared.typing.Typing.{Typing}
 use Rattle.conspec_automaton.specs.Building.{built}
 use Rattle.conspec_parse.specs.Telling.{KindsAreTold, ResultsAreTold}
 use Rattle.guest_model.specs.Enabled.{StepsAreEnabled}
-use Rattle.conspec_tree.specs.declared.types.PolicyTree.{PolicyTree}
 use Rattle.guest_model.specs.Numbers.{KeepsWords}
 use Rattle.guest_model.specs.Runs.{exec}
-use Rattle.input_files.specs.Named.{IsPolicyOf}
 use Rattle.guest_model.specs.Stepping.{changed}
 use Rattle.typed_runs.specs.Formed.{PoliciesTellTypes, SeesWellFormed}
 use Rattle.typed_runs.specs.Programs.{IsTypedProgram}
 use Rattle.typed_runs.specs.Runs.{NeverStuck, RunsFit}
-use Rattle.inliner_tool.specs.Running.{IsLinkedProgram, LinkedRunTyped, RunsTyped}
+use Rattle.inliner_tool.specs.Running.{LinkedRunTyped}
+use Rattle.inliner_tool.proofs.Listed.{tells_types}
 
 -- what a value is made of
 made_of : {A B : Type 0} (f : A → B) (o : Option A) → IsSome {T = B} (option_map f o) → (a : A) × (o ≡ Some a)
@@ -28,13 +24,9 @@ made_of f (Some a) some = (a, refl)
 
 module _ (fit : RunsFit) (made : NeverStuck) (enabled : StepsAreEnabled) (formed : SeesWellFormed) (tell : PoliciesTellTypes) (kinds : KindsAreTold) (results : ResultsAreTold)
     (words : (program : Program) → IsSound program → AreNamed program → AreLiterals program → KeepsWords program) where
-  typed_program : (program : Program) (typing : Typing) → IsLinkedProgram program → IsTyped program typing → IsTypedProgram program typing
-  typed_program program typing is typed =
-      record { side = is.side; main = is.main; text = is.listed.text; listed = is.listed.spells; linked = is.linked; sound = is.sound; order = is.order; typed = typed }
-
   pub runs_typed : LinkedRunTyped
   runs_typed program typing is typed =
-      let known = typed_program program typing is typed in
+      let known : IsTypedProgram program typing = record { links = is; typed = typed } in
       record {
         typed = typed;
         fits = fit program typing known;
@@ -44,15 +36,9 @@ module _ (fit : RunsFit) (made : NeverStuck) (enabled : StepsAreEnabled) (formed
               let change = made_of _ (changed program (exec program steps) step) some in
               enabled program (exec program steps) step change.0 change.1,
         );
-        formed = λ tree of.
-            formed program typing (built tree) known
-            (tell is.listed.text program.listing tree is.listed.spells (kinds of.text program.listing tree of.spells) (results of.text program.listing tree of.spells));
+        formed = λ tree of. formed program typing (built tree) known (tells_types tell kinds results is.text program.listing tree is.listed of);
         words = words program is.sound is.linked.named is.linked.literals;
       }
-
--- So its runs are formed, for each policy that was read over its listing.
-pub runs_formed : (program : Program) (typing : Typing) (tree : PolicyTree) → RunsTyped program typing → IsPolicyOf program.listing tree → RunsAreFormed program (built tree)
-runs_formed program typing tree runs of = record { events = runs.formed tree of; words = runs.words }
 
 -- what is so whatever a call gives
 pub so_of_any : {A E : Type 0} (Q : Type 0) (r : Result A E) → Q → IfOk r (λ x. Q)

@@ -5,12 +5,10 @@ use Rattle.bytecode_model.specs.declared.program.Program.{Program}
 use Rattle.bytecode_model.specs.declared.program.Side.TheVariants.{Original}
 use Rattle.bytecode_model.specs.Files.{unlinked}
 use Rattle.bytecode_model.specs.Layout.{IsLaidOut}
-use Rattle.bytecode_model.specs.Order.{IsInOrder}
 use Rattle.bytecode_model.specs.Sound.{IsSound}
 use Rattle.bytecode_model.specs.Standing.{IsLinkedOf}
 use Rattle.bytecode_model.specs.Typed.{IsTyped}
 use Rattle.block_logic.specs.Accepted.{IsAccepted}
-use Rattle.block_logic.specs.Formed.{RunsAreFormed}
 use Rattle.block_template.specs.Blocks.{plan_of}
 use Rattle.cert_format.specs.Fits.{CanSpell}
 use Rattle.class_codec.specs.Fits as classes
@@ -23,6 +21,7 @@ use Rattle.input_files.specs.declared.inline_inputs.InlineInputs.{InlineInputs}
 use Rattle.input_files.specs.InlineInputs.{InlineSound}
 use Rattle.output_files.specs.Outputs.{is_written}
 use Rattle.cert_maker.specs.Told.{FitsTyping}
+use Rattle.typed_runs.specs.Programs.{IsLinkedProgram}
 use Rattle.woven_linking.specs.Program.{HaveRoom, program_with}
 use Rattle.inliner_tool.specs.declared.inline.Given.{Given}
 use Rattle.inliner_tool.specs.Policy.{IsSoundFor}
@@ -33,17 +32,15 @@ use Rattle.inliner_tool.specs.Weaving.{certificate_for}
 abbrev pub woven_program : Given → Woven → Program
 woven_program given made = program_with given.client made.files made.methods
 
--- They have room for the blocks, and link to the program that is made of them. Its classes are in order, and it is accepted with
--- the certificate that is made of the client's types; this can be spelled where it is written. Its runs are formed.
+-- They have room for the blocks, and link to the program that is made of them. It is accepted with the certificate that is made of
+-- the client's types; this can be spelled where it is written.
 pub record IsExpected (main : List ℕ) (given : Given) (made : Woven) : Type 0 where
   pub client : IsSound given.client
   pub room : HaveRoom (plan_of given.policy given.mode) given.client.classes made.files
   pub links : woven_links made.files given.client.listing main ≡ Ok (woven_program given made)
   pub back : unlinked (woven_program given made) ≡ made.files
-  pub sound : IsSound (woven_program given made)
-  pub order : IsInOrder (woven_program given made)
+  pub linked : IsLinkedProgram (woven_program given made)
   pub accepted : IsAccepted (woven_program given made) given.policy (certificate_for given (woven_program given made))
-  pub formed : RunsAreFormed (woven_program given made) given.policy
   pub spells : FitsTyping (certificate_for given (woven_program given made)).typing → is_written (certificate_for given (woven_program given made)) ≡ true
       → CanSpell (length given.policy.vars) (certificate_for given (woven_program given made))
 

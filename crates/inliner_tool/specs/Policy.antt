@@ -2,7 +2,6 @@
 use Rattle.std.specs.Prelude.{length}
 use Rattle.std.specs.List.{AllByRecursion}
 use Rattle.api_listing.specs.declared.types.Listing.{Listing}
-use Rattle.block_logic.specs.Obeying.{FitsListing}
 use Rattle.conspec_automaton.specs.declared.policy.Policy.{Policy}
 use Rattle.conspec_automaton.specs.Building.{built}
 use Rattle.conspec_automaton.specs.Sound.{IsPolicy, NamesMethods}
@@ -10,6 +9,7 @@ use Rattle.conspec_automaton.specs.Verdict.{verdict as judged}
 use Rattle.inliner_tool.specs.declared.answer.Answer.{Answer}
 use Rattle.inliner_tool.specs.declared.answer.Answer.TheVariants as answers
 use Rattle.input_files.specs.declared.policy_inputs.PolicyInputs.{PolicyInputs}
+use Rattle.typed_runs.specs.Formed.{TellsTypes}
 
 abbrev pub policy_answer : PolicyInputs → Answer
 policy_answer inputs = answers.Judged (judged (built inputs.policy) inputs.recorded.events)
@@ -18,4 +18,4 @@ policy_answer inputs = answers.Judged (judged (built inputs.policy) inputs.recor
 pub record IsSoundFor (listing : Listing) (policy : Policy) : Type 0 where
   pub read : IsPolicy policy
   pub named : NamesMethods (length listing.methods) policy
-  pub fits : AllByRecursion (FitsListing listing) policy.clauses
+  pub told : AllByRecursion (TellsTypes listing) policy.clauses

@@ -1,11 +1,7 @@
 -- How a program runs that is accepted or replayed, whatever its steps are. (docs/PROMISES.md)
-use Rattle.std.specs.Prelude.{◌↔◌, ℕ, List, IsSome}
+use Rattle.std.specs.Prelude.{◌↔◌, List, IsSome}
 use Rattle.std.specs.List.{AllByRecursion}
 use Rattle.bytecode_model.specs.declared.program.Program.{Program}
-use Rattle.bytecode_model.specs.declared.program.Side.{Side}
-use Rattle.bytecode_model.specs.Order.{IsInOrder}
-use Rattle.bytecode_model.specs.Sound.{IsSound}
-use Rattle.bytecode_model.specs.Standing.{IsLinkedOf}
 use Rattle.bytecode_model.specs.Typed.{IsTyped}
 use Rattle.cert_format.specs.declared.typing.Typing.{Typing}
 use Rattle.conspec_automaton.specs.Building.{built}
@@ -16,17 +12,9 @@ use Rattle.guest_model.specs.Enabled.{IsEnabled}
 use Rattle.guest_model.specs.Numbers.{KeepsWords}
 use Rattle.guest_model.specs.Runs.{exec, trace}
 use Rattle.guest_model.specs.Stepping.{stepped}
-use Rattle.input_files.specs.Named.{IsListed, IsPolicyOf}
+use Rattle.input_files.specs.Named.{IsPolicyOf}
 use Rattle.typed_runs.specs.Machines.{MachineFits}
-
--- Class files link to the program, over a listing that was read.
-pub record IsLinkedProgram (program : Program) : Type 0 where
-  pub side : Side
-  pub main : List ℕ
-  pub listed : IsListed program.listing
-  pub linked : IsLinkedOf side program.listing main program
-  pub sound : IsSound program
-  pub order : IsInOrder program
+use Rattle.typed_runs.specs.Programs.{IsLinkedProgram}
 
 -- After every list of steps the machine is as the types say, and a step is made exactly where the rules enable it; the events
 -- are well formed for each policy that was read over the listing; and numbers in locals are of 32 bits.

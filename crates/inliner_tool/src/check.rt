@@ -19,10 +19,10 @@ ghost use Rattle.inliner_tool.specs.Check.{
 ghost use Rattle.inliner_tool.specs.CheckDecision.{CheckDecides};
 ghost use Rattle.inliner_tool.specs.declared.answer.Answer.TheVariants.{Denied};
 ghost use Rattle.inliner_tool.specs.Programs.{Equals, Step, UnlessMemory};
-ghost use Rattle.inliner_tool.specs.Running.{IsLinkedProgram};
 ghost use Rattle.inliner_tool.specs.Tool.{CarriesOut, Holds, IsAnswer};
 ghost use Rattle.input_files.specs.CheckInputs.{AreSound};
 ghost use Rattle.input_files.specs.Named.{IsPolicyOf};
+ghost use Rattle.typed_runs.specs.Programs.{IsLinkedProgram};
 
 use crate::answer::{Answer, refused, stopped};
 use crate::classes::label_of;
@@ -42,6 +42,7 @@ use mon_base::{Bytes, NoMemory};
 use mon_store::Store;
 use std::alloc::Global;
 use type_lattice::Indexed;
+use typed_runs::policies_tell_types;
 
 /// A program that was accepted, the policy, and what it was accepted as.
 #[derive(Drop)]
@@ -157,6 +158,7 @@ fn program_checked(
         return Err(Answer::Memory);
     };
     kinds_are_told();
+    policies_tell_types();
     linked_programs_run_typed();
     match check(alloc, program, &automaton, certificate) {
         Ok(accepted) => Ok((automaton, accepted)),

@@ -4,7 +4,6 @@ ghost use Rattle.std.specs.Prelude.{◌≡◌, ◌≤◌, IfOk, Ok, length, true
 ghost use Rattle.std.specs.List.{AllByRecursion};
 ghost use Rattle.api_listing.specs.declared.types.Listing.{Listing};
 ghost use Rattle.api_listing.specs.Listing.{IsFew};
-ghost use Rattle.block_logic.specs.Formed.{RunsAreFormed};
 ghost use Rattle.block_template.specs.Blocks.{plan_of};
 ghost use Rattle.bytecode_model.specs.Layout.{IsLaidOut};
 ghost use Rattle.bytecode_model.specs.Order.{IsInOrder};
@@ -24,6 +23,7 @@ ghost use Rattle.input_files.specs.Named.{IsListed};
 ghost use Rattle.mon_base.specs.Answer.{Answers};
 ghost use Rattle.output_files.specs.Outputs.{is_written, outputs_of};
 ghost use Rattle.cert_maker.specs.Told.{FitsTyping, told};
+ghost use Rattle.typed_runs.specs.Programs.{IsLinkedProgram};
 ghost use Rattle.woven_linking.specs.Program.{program_with};
 ghost use Rattle.woven_typing.specs.Framing.{typing_of};
 ghost use Rattle.inliner_tool.specs.Seen.{seen};
@@ -57,7 +57,6 @@ use crate::answer::{Answer, refused, stopped};
 use crate::programs::{program_of, types_of};
 use crate::race::{auto_mode, race_step};
 use crate::refusal::Refusal;
-use crate::running::linked_programs_run_typed;
 use api_listing::Listing;
 use block_template::plans_are_good;
 use bytecode_model::{LinkedClass, Method, Program, Side};
@@ -78,6 +77,7 @@ use offset_patch::SpliceFault;
 use policy_weaving::inline;
 use std::alloc::Global;
 use type_lattice::Indexed;
+use typed_runs::policies_tell_types;
 use woven_linking::{original_is_free, program_with, woven_files_link, woven_program_is_linked};
 use woven_typing::{
     items_are_reached, listings_know_throwable, policies_tell, typing_of, woven_is_typed,
@@ -158,6 +158,7 @@ pub fn plan(alloc: Global, inputs: InlineInputs, words: &InlineWords) -> Result<
         }
     };
     kinds_are_told();
+    policies_tell_types();
     woven_is_expected();
     rewoven(alloc, words, given, made)
 }
@@ -181,7 +182,6 @@ fn woven_is_expected()
     told_is_typed();
     woven_is_accepted();
     linked_programs_are_named();
-    linked_programs_run_typed();
 }
 
 /// What is to be woven: the program with its types, and the policy in its mode.
@@ -462,10 +462,9 @@ fn judged(
     program: &Indexed,
     certificate: &Certificate,
 ) -> Result<Ready, Refusal>
-    requires sound { IsSound program.now }
+    requires linked { IsLinkedProgram program.now }
     requires policy { IsSoundFor program.now.listing policy.now }
     requires allowed { IsAllowed program.now policy.now certificate.now }
-    requires formed { RunsAreFormed program.now policy.now }
     ensures accepts { UnlessMemory (Accepts folder.now policy.now program.now certificate.now) result }
     ensures secure { IfOk result (λ ready. Secure certificate.now.mode program.now policy.now) }
     ensures verdict { IfOk result (λ ready. judged program.now policy.now certificate.now ≡ Ok ready.accepted) }

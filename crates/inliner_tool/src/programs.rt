@@ -12,8 +12,8 @@ ghost use Rattle.class_codec.specs.Fits.{CanSpell};
 ghost use Rattle.class_linking.specs.Linking.{linked};
 ghost use Rattle.input_files.specs.Named.{IsListed};
 ghost use Rattle.inliner_tool.specs.Programs.{Equals, Types, UnlessMemory, link_refusal, link_step, program_of};
-ghost use Rattle.inliner_tool.specs.Running.{IsLinkedProgram};
 ghost use Rattle.type_infer.specs.Untyped.{IsLeast};
+ghost use Rattle.typed_runs.specs.Programs.{IsLinkedProgram};
 
 use crate::classes::{label_of, within_total};
 use crate::refusal::Refusal;

@@ -10,10 +10,11 @@ ghost use Rattle.inliner_tool.specs.Answers.{EndsWell};
 ghost use Rattle.inliner_tool.specs.Programs.{Equals, Types, UnlessMemory};
 ghost use Rattle.inliner_tool.specs.Replay.{InputsRun, ReplayedRuns, Tells, end_told, run_text, steps_told};
 ghost use Rattle.inliner_tool.specs.ReplayDecision.{ReplayDecides};
-ghost use Rattle.inliner_tool.specs.Running.{IsLinkedProgram, RunsTyped};
+ghost use Rattle.inliner_tool.specs.Running.{RunsTyped};
 ghost use Rattle.inliner_tool.specs.Tool.{CarriesOut, IsAnswer};
 ghost use Rattle.input_files.specs.Forms.{Then};
 ghost use Rattle.input_files.specs.ReplayInputs.{ReplaySound};
+ghost use Rattle.typed_runs.specs.Programs.{IsLinkedProgram};
 
 use crate::answer::{Answer, refused, stopped};
 use crate::programs::{program_of, types_of};

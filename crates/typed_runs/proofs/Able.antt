@@ -56,7 +56,7 @@ module _ (program : Program) (typing : Typing) (ok : IsTypedProgram program typi
   top_object : shape_of r.stands.insn ≡ shapes.Heap heap_shapes.Throw → HasOne (IsObject machine.heap) frame.stack.items
   top_object shape =
       let one = one_taken program typing ok machine.heap frame r (to_class program throwable) (ap (takes_of (stands_at r.stands)) shape) in
-      let fits = type_fits_over program ok.order machine.heap r.stands.class r.stands.method one.value one.type (types.Ref throwable) one.met one.fits in
+      let fits = type_fits_over program ok.links.order machine.heap r.stands.class r.stands.method one.value one.type (types.Ref throwable) one.met one.fits in
       let object = wanted_object program machine.heap r.stands.class r.stands.method one.value (types.Ref throwable) fits refl in
       subst (HasOne (IsObject machine.heap)) (sym one.items_are) object
 

@@ -156,7 +156,7 @@ module _ (program : Program) (typing : Typing) (ok : IsTypedProgram program typi
 
   -- the superclass and the interfaces of a given class stand above it
   pub given_below : (own : ℕ) (class : LinkedClass) → slice_get program.classes own ≡ Some class → stands_below given_heads (head_of class.file) ≡ true
-  given_below own class there = (and_parts (stands_below given_heads (head_of class.file)) _ (ok.linked.standing own class there).supers).0
+  given_below own class there = (and_parts (stands_below given_heads (head_of class.file)) _ (ok.links.linked.standing own class there).supers).0
 
   given_stand : list_all have_stand (map (λ (c : LinkedClass). head_of c.file) program.classes) ≡ true
   given_stand =
@@ -240,7 +240,7 @@ module _ (program : Program) (typing : Typing) (ok : IsTypedProgram program typi
   not_array : (from above : Name) → is_below program from above ≡ true → is_array from ≡ false
   not_array from above e =
       elim (cases_Bool (is_array from)) [
-        | inl is ↦ absurd (unnamed_up (classes_of program) (length (classes_of program)) from above (ok.order.no_arrays from is) e)
+        | inl is ↦ absurd (unnamed_up (classes_of program) (length (classes_of program)) from above (ok.links.order.no_arrays from is) e)
         | inr apart ↦ apart
       ]
 
@@ -275,7 +275,7 @@ module _ (program : Program) (typing : Typing) (ok : IsTypedProgram program typi
   under_given from own class there apart e =
       elim (or_cases (class_fits program from class.name) (array_fits program from class.name) e) [
         | inl one ↦ by (seen program from class.name one)
-        | inr two ↦ absurd (false≢true (sym (given_apart program typing ok own class there) ∙ array_second program ok.order from class.name two))
+        | inr two ↦ absurd (false≢true (sym (given_apart program typing ok own class there) ∙ array_second program ok.links.order from class.name two))
       ] where
         by : Fit program from class.name → (from ≡ class.name) ⊎ ((is_array from ≡ false) × (is_below program from class.name ≡ true))
         by (equal f) = inl f
@@ -292,5 +292,5 @@ module _ (program : Program) (typing : Typing) (ok : IsTypedProgram program typi
 
   pub good_interface : (own : ℕ) (class : LinkedClass) → slice_get program.classes own ≡ Some class → is_good_interface (head_of class.file) class.file.fields ≡ true
   good_interface own class there =
-      let supers = (and_parts (stands_below given_heads (head_of class.file)) _ (ok.linked.standing own class there).supers).1 in
+      let supers = (and_parts (stands_below given_heads (head_of class.file)) _ (ok.links.linked.standing own class there).supers).1 in
       (and_parts (is_good_interface (head_of class.file) class.file.fields) _ supers).0

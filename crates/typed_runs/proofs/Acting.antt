@@ -231,7 +231,7 @@ module _ (program : Program) (typing : Typing) (ok : IsTypedProgram program typi
   top_thrown shape =
       let one = one_taken program typing ok machine.heap frame r (to_class program throwable) (ap (takes_of (stands_at r.stands)) shape) in (
         one,
-        type_fits_over program ok.order machine.heap r.stands.class r.stands.method one.value one.type (types.Ref throwable) one.met one.fits,
+        type_fits_over program ok.links.order machine.heap r.stands.class r.stands.method one.value one.type (types.Ref throwable) one.met one.fits,
       )
 
   throw_fits : shape_of r.stands.insn ≡ shapes.Heap heap_shapes.Throw

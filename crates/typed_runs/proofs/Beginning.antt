@@ -83,7 +83,7 @@ all_numbered {A = A} {B = B} P f (x ∷ xs) from each =
 module _ (program : Program) (typing : Typing) (ok : IsTypedProgram program typing) where
   field_known : (index : ℕ) (field : MethodId) → slice_get program.listing.fields index ≡ Some field → is_known program.listing.classes (inner field.desc) ≡ true
   field_known index field there =
-      let f = listed_field ok.text program.listing ok.listed index field there in
+      let f = listed_field ok.links.text program.listing ok.links.listed index field there in
       let same : inner field.desc ≡ f.class = ap inner f.desc ∙ inner_spelled f.class in
       subst (λ (n : Name). is_known program.listing.classes n ≡ true) (sym same) f.known
 
@@ -194,7 +194,7 @@ module _ (program : Program) (typing : Typing) (ok : IsTypedProgram program typi
 
   main_begins : CanBegin program (program.main_class, program.main_method)
   main_begins =
-      let b = ok.linked.begins in
+      let b = ok.links.linked.begins in
       let is = and_parts (bytes_eq b.method.name main_name) (bytes_eq b.method.desc main_desc) b.is in
       record {
         method = b.method;

@@ -69,7 +69,7 @@ module _ (program : Program) (typing : Typing) (ok : IsTypedProgram program typi
   pub result_told : (index : ℕ) (listed : ListedMethod) → slice_get program.listing.methods index ≡ Some listed
       → type_given (types_of listed.id.desc).result ≡ result_type listed.id.desc
   result_told index listed there =
-      let m = listed_method ok.text program.listing ok.listed index listed there in
+      let m = listed_method ok.links.text program.listing ok.links.listed index listed there in
       let read : types_of listed.id.desc ≡ m.0 = ap types_read m.1 in
       let text = (read_so listed.id.desc m.0 m.1).1 in
       ap (λ (t : MethodType). type_given t.result) read ∙ sym (text_given m.0.result) ∙ ap type_of_text (sym text)

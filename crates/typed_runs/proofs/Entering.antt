@@ -112,7 +112,7 @@ module _ (program : Program) (typing : Typing) (ok : IsTypedProgram program typi
           locals =
               widened of (taken ++ replicate (method.max_locals - length taken) values.Null) (padded method.max_locals (type_at types_in)) _
               (places_widen of (type_at types_in) (type_at b.type.locals) (range_with_len 0 method.max_locals)
-              (locals_widen program ok.order heap class method (type_at types_in) b.type.locals q.0))
+              (locals_widen program ok.links.order heap class method (type_at types_in) b.type.locals q.0))
               (padded_fits of refl taken types_in method.max_locals room p);
           operands = subst (λ (ts : List VType). Paired of [] (reverse ts)) (sym empty) tt;
           room = omega arith;

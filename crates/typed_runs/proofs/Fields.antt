@@ -184,7 +184,7 @@ module _ (program : Program) (typing : Typing) (ok : IsTypedProgram program typi
         → WorksFor heaps.ReadStatic (target.ApiField index) frame.stack.items
     listed_read first index u =
         let id : MethodId = in_class u.told u.declaring in
-        let f = listed_field ok.text program.listing ok.listed index id u.declared.0 in
+        let f = listed_field ok.links.text program.listing ok.links.listed index id u.declared.0 in
         let less : index < length program.listing.fields = slice_get_within program.listing.fields index id u.declared.0 in
         let there : reads_static program world (target.ApiField index) frame.stack.items ≡ Some (Ok (world, values.Ref index ∷ frame.stack.items)) =
         rw (lt-ltb index (length program.listing.fields) less) refl in
@@ -255,7 +255,7 @@ module _ (program : Program) (typing : Typing) (ok : IsTypedProgram program typi
         (split_here program typing ok shaped world fit statics frame r heaps.WriteStatic shape) in
         subst (WorksFor heaps.WriteStatic spot.ref) (sym t.items_are)
         (write_static_at t.value t.below
-        (described_over program ok.order world.heap r.stands.class r.stands.method t.value t.type (desc_referred spot) t.met t.fits) t.left
+        (described_over program ok.links.order world.heap r.stands.class r.stands.method t.value t.type (desc_referred spot) t.met t.fits) t.left
         (field_named program r.stands.class r.stands.insn true true spot.ref (names program typing ok frame r.stands)
         (use_here program typing ok shaped world fit statics frame r heaps.WriteStatic shape)))
 
@@ -285,7 +285,7 @@ module _ (program : Program) (typing : Typing) (ok : IsTypedProgram program typi
         within = d.here;
         apart = d.flags ∙ static;
         is_desc = d.desc ∙ sym (desc_told (target.Field of index) u);
-        reaches = λ v h. made_over program ok.order world.heap v (types.Ref (class_referred spot)) (types.Ref d.class.name)
+        reaches = λ v h. made_over program ok.links.order world.heap v (types.Ref (class_referred spot)) (types.Ref d.class.name)
             (subst (λ (name : Name). assignable program (types.Ref name) (types.Ref d.class.name) ≡ true) (sym (class_told (target.Field of index) u)) up) h;
       }
 
@@ -407,7 +407,7 @@ module _ (program : Program) (typing : Typing) (ok : IsTypedProgram program typi
         (split_here program typing ok shaped world fit statics frame r heaps.ReadField shape) in
         subst (WorksFor heaps.ReadField spot.ref) (sym t.items_are)
         (read_field_at t.value t.below
-        (type_fits_over program ok.order world.heap r.stands.class r.stands.method t.value t.type (types.Ref (class_referred spot)) t.met t.fits) t.left
+        (type_fits_over program ok.links.order world.heap r.stands.class r.stands.method t.value t.type (types.Ref (class_referred spot)) t.met t.fits) t.left
         (field_named program r.stands.class r.stands.insn false false spot.ref (names program typing ok frame r.stands)
         (use_here program typing ok shaped world fit statics frame r heaps.ReadField shape)))
 
@@ -431,7 +431,7 @@ module _ (program : Program) (typing : Typing) (ok : IsTypedProgram program typi
               let one : r.stands.class ≡ o.class = some_is r.stands.class o.class (sym r.stands.there ∙ ap (slice_get program.classes) (sym same) ∙ o.there) in
               or_right (is_null v) _ (subst (λ (c : LinkedClass). is_of program world.heap c.name v ≡ true) one (this_of v t h a.1))
           | inr named ↦
-              o.reaches v (type_fits_over program ok.order world.heap r.stands.class r.stands.method v t (types.Ref (class_referred spot)) named h)
+              o.reaches v (type_fits_over program ok.links.order world.heap r.stands.class r.stands.method v t (types.Ref (class_referred spot)) named h)
         ]
 
     write_field_at : (v w : Value) (t : VType) (below : List Value) → fits_made program world.heap v (type_described (desc_referred spot)) ≡ true
@@ -449,7 +449,7 @@ module _ (program : Program) (typing : Typing) (ok : IsTypedProgram program typi
         (split_here program typing ok shaped world fit statics frame r heaps.WriteField shape) in
         subst (WorksFor heaps.WriteField spot.ref) (sym t.items_are)
         (write_field_at t.upper t.lower t.low_type t.below
-        (described_over program ok.order world.heap r.stands.class r.stands.method t.upper t.high_type (desc_referred spot) t.high_met t.upper_fits)
+        (described_over program ok.links.order world.heap r.stands.class r.stands.method t.upper t.high_type (desc_referred spot) t.high_met t.upper_fits)
         t.lower_fits t.low_met t.left
         (field_named program r.stands.class r.stands.insn false true spot.ref (names program typing ok frame r.stands)
         (use_here program typing ok shaped world fit statics frame r heaps.WriteField shape)))

@@ -148,5 +148,5 @@ module _ (program : Program) (policy : Policy) (tells : AllByRecursion (TellsTyp
 
 pub sees_well_formed : UsesAreShaped → ((program : Program) → IsSound program → AreNamed program → AreLiterals program → SeesInRange program) → SeesWellFormed
 sees_well_formed shaped range program typing policy ok tells steps =
-    each_formed program policy tells (trace program steps) (range program ok.sound ok.linked.named ok.linked.literals steps)
+    each_formed program policy tells (trace program steps) (range program ok.links.sound ok.links.linked.named ok.links.linked.literals steps)
     (runs_pass_numbers shaped (λ program typing ok. calls_work program typing ok shaped) program typing ok steps)

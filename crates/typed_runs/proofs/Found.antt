@@ -152,8 +152,8 @@ module _ (program : Program) (typing : Typing) (ok : IsTypedProgram program typi
   -- so many classes are given that one more are at most all
   more_than_given : suc (length program.classes) ≤ count program typing ok
   more_than_given =
-      let listed : length program.listing.classes ≡ 20 + length (filter_map class_declared ok.listed.said) =
-      ap (λ l. length l.classes) ok.listed.listed ∙ length-append built_in_classes _ ∙ ap (λ (k : ℕ). k + length (filter_map class_declared ok.listed.said)) built_in_many in
+      let listed : length program.listing.classes ≡ 20 + length (filter_map class_declared ok.links.listed.said) =
+      ap (λ l. length l.classes) ok.links.listed.listed ∙ length-append built_in_classes _ ∙ ap (λ (k : ℕ). k + length (filter_map class_declared ok.links.listed.said)) built_in_many in
       let all = length-append program.listing.classes (map (λ (c : LinkedClass). head_of c.file) program.classes) in
       let given = length-map program.classes (λ (c : LinkedClass). head_of c.file) in
       omega (arith, listed, all, given)

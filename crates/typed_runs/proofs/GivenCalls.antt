@@ -63,7 +63,7 @@ module _ (program : Program) (typing : Typing) (ok : IsTypedProgram program typi
       subst (λ o. one_named above (up_from (classes_of program) o n) ≡ true) (sym (given_head program typing ok own class there))
       (or_right (bytes_eq (head_of class.file).name above) _
       (subst (λ (parent : Name). is_up (classes_of program) n parent above ≡ true) (sym (given_parent program typing ok own class there)) e)) in
-      subst (λ list. one_named above list ≡ true) (ok.order.ends class.name) next
+      subst (λ list. one_named above list ≡ true) (ok.links.order.ends class.name) next
 
 module _ (program : Program) (typing : Typing) (ok : IsTypedProgram program typing) (shaped : UsesAreShaped) (machine : Machine)
     (fit : MachineFits program typing machine) (number : ℕ) (thread : Thread)
@@ -132,10 +132,10 @@ module _ (program : Program) (typing : Typing) (ok : IsTypedProgram program typi
       elim (or_cases (bytes_eq (class_referred place) r.stands.class.name) _ e) [
         | inl own ↦
             let same : u.told.class ≡ r.stands.class.name = sym class_told ∙ same_of (class_referred place) r.stands.class.name own in
-            is_of_over program ok.order machine.heap r.stands.class.name u.declared.class.name v
+            is_of_over program ok.links.order machine.heap r.stands.class.name u.declared.class.name v
             (subst (λ (n : Name). assignable program (types.Ref n) (types.Ref u.declared.class.name) ≡ true) same told_reaches) h
         | inr up ↦
-            is_of_over program ok.order machine.heap r.stands.class.name u.declared.class.name v
+            is_of_over program ok.links.order machine.heap r.stands.class.name u.declared.class.name v
             (parent_reaches (sym class_told ∙ same_of (class_referred place) r.stands.class.parent up)) h
       ]
 
@@ -151,7 +151,7 @@ module _ (program : Program) (typing : Typing) (ok : IsTypedProgram program typi
       let same = same_of (class_referred place) (new_at r.stands.method at) (chosen _ (class_referred place) e) in
       let is : is_of program machine.heap u.told.class v ≡ true =
       subst (λ (n : Name). is_of program machine.heap n v ≡ true) (sym same ∙ class_told) (just_is_of program machine.heap (new_at r.stands.method at) v h) in
-      is_of_over program ok.order machine.heap u.told.class u.declared.class.name v told_reaches is
+      is_of_over program ok.links.order machine.heap u.told.class u.declared.class.name v told_reaches is
 
   not_null : (v : Value) (name : Name) → is_null v ≡ false → fits_made program machine.heap v (types.Ref name) ≡ true → is_of program machine.heap name v ≡ true
   not_null v name some h =
@@ -170,8 +170,8 @@ module _ (program : Program) (typing : Typing) (ok : IsTypedProgram program typi
         | inr both ↦
             let up = (and_parts (assignable program v.type (types.Ref (class_referred place))) (to_own place how v.type) both).0 in
             let is = not_null v.value (class_referred place) some
-            (type_fits_over program ok.order machine.heap r.stands.class r.stands.method v.value v.type (types.Ref (class_referred place)) up v.fits) in
-            is_of_over program ok.order machine.heap (class_referred place) u.declared.class.name v.value
+            (type_fits_over program ok.links.order machine.heap r.stands.class r.stands.method v.value v.type (types.Ref (class_referred place)) up v.fits) in
+            is_of_over program ok.links.order machine.heap (class_referred place) u.declared.class.name v.value
             (subst (λ (n : Name). assignable program (types.Ref n) (types.Ref u.declared.class.name) ≡ true) (sym class_told) told_reaches) is
       ]
 
@@ -185,7 +185,7 @@ module _ (program : Program) (typing : Typing) (ok : IsTypedProgram program typi
         | inl is ↦ absurd (true≢false (sym is ∙ maker_called ∙ other))
         | inr both ↦
             not_null v.value r.stands.class.name some
-            (type_fits_over program ok.order machine.heap r.stands.class r.stands.method v.value v.type (types.Ref r.stands.class.name)
+            (type_fits_over program ok.links.order machine.heap r.stands.class r.stands.method v.value v.type (types.Ref r.stands.class.name)
             (and_parts (assignable program v.type (types.Ref (class_referred place))) _ both).1 v.fits)
       ]
 
@@ -237,7 +237,7 @@ module _ (program : Program) (typing : Typing) (ok : IsTypedProgram program typi
           runs = on.runs;
           named = on.named;
           described = on.described ∙ desc_called;
-          reaches = type_over program ok.order (types.Ref class) (types.Ref r.stands.class.name) (types.Ref on.runs.owner.name) (reached class r.stands.class.name v is own) on.reaches;
+          reaches = type_over program ok.links.order (types.Ref class) (types.Ref r.stands.class.name) (types.Ref on.runs.owner.name) (reached class r.stands.class.name v is own) on.reaches;
         };
       }
 

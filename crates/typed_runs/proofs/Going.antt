@@ -197,7 +197,7 @@ module _ (program : Program) (typing : Typing) (ok : IsTypedProgram program typi
       → AreWaiting program typing heap (result_type s.method.desc) under → AreRunning program typing heap (moved_to frame to locals items ∷ under)
   runs_at to locals items under has h waiting =
       let g = goes_to program typing ok frame s to has in
-      let there = hold_there program ok.order heap s.class s.method (stands_at s) s.type g.type locals items refl g.takes h in (
+      let there = hold_there program ok.links.order heap s.class s.method (stands_at s) s.type g.type locals items refl g.takes h in (
         record {
           stands = moved_stands s to g.type g.insn g.told g.next locals items;
           locals = there.locals_hold;

@@ -145,7 +145,7 @@ module _ (program : Program) (typing : Typing) (ok : IsTypedProgram program typi
   record Wants (item : Item) (v : Value) (t : VType) : Type 0 where
     of : List ℕ
     holds_array : fits_made program world.heap v (types.Ref (91 ∷ of)) ≡ true
-    wants : (rest : List ℕ) → component_fits program rest of ≡ true → Wanted program ok.order (91 ∷ rest) item
+    wants : (rest : List ℕ) → component_fits program rest of ≡ true → Wanted program ok.links.order (91 ∷ rest) item
     are : (rest : List ℕ) → component_fits program rest of ≡ true → ItemsAre item rest
     reads : (rest : List ℕ) (w : Value) → component_fits program rest of ≡ true → fits_made program world.heap w (type_described rest) ≡ true
         → of_here w (read_of item t) ≡ true
@@ -157,13 +157,13 @@ module _ (program : Program) (typing : Typing) (ok : IsTypedProgram program typi
 
   wanted_fits : (v : Value) (t : VType) (name : Name) → of_here v t ≡ true → assignable program t (types.Ref name) ≡ true
       → fits_made program world.heap v (types.Ref name) ≡ true
-  wanted_fits v t name h e = type_fits_over program ok.order world.heap r.stands.class r.stands.method v t (types.Ref name) e h
+  wanted_fits v t name h e = type_fits_over program ok.links.order world.heap r.stands.class r.stands.method v t (types.Ref name) e h
 
   -- items that are numbers
   numbers_are : (rest item : List ℕ) → is_array item ≡ false → named item ≡ None → type_described item ≡ types.Int
       → component_fits program rest item ≡ true → type_described rest ≡ types.Int
   numbers_are rest item apart none int over =
-      let one : rest ≡ item = ap (drop 1) (plain_array program ok.order (91 ∷ rest) item apart none (over_array program rest item over)) in
+      let one : rest ≡ item = ap (drop 1) (plain_array program ok.links.order (91 ∷ rest) item apart none (over_array program rest item over)) in
       ap type_described one ∙ int
 
   number_read : (rest item : List ℕ) (w : Value) → is_array item ≡ false → named item ≡ None → type_described item ≡ types.Int
@@ -219,14 +219,14 @@ module _ (program : Program) (typing : Typing) (ok : IsTypedProgram program typi
   reference_over : (rest of : List ℕ) → component_fits program rest of ≡ true → reaches (91 ∷ of) (codes "[Ljava/lang/Object;") ≡ true
       → reaches (91 ∷ rest) (codes "[Ljava/lang/Object;") ≡ true
   reference_over rest of over e =
-      type_over program ok.order (types.Ref (91 ∷ rest)) (types.Ref (91 ∷ of)) (types.Ref (codes "[Ljava/lang/Object;")) (over_array program rest of over) e
+      type_over program ok.links.order (types.Ref (91 ∷ rest)) (types.Ref (91 ∷ of)) (types.Ref (codes "[Ljava/lang/Object;")) (over_array program rest of over) e
 
   references_are : (rest of : List ℕ) → component_fits program rest of ≡ true → reaches (91 ∷ of) (codes "[Ljava/lang/Object;") ≡ true
       → (name : Name) × (type_described rest ≡ types.Ref name)
   references_are rest of over e =
-      let a = only_arrays program ok.order (91 ∷ rest) (codes "Ljava/lang/Object;") (reference_over rest of over e) in
+      let a = only_arrays program ok.links.order (91 ∷ rest) (codes "Ljava/lang/Object;") (reference_over rest of over e) in
       let same : rest ≡ a.0 = ap (drop 1) a.1 in
-      let n = reference_item program ok.order a.0 a.2 in
+      let n = reference_item program ok.links.order a.0 a.2 in
       (n.0, ap type_described same ∙ n.1)
 
   reference_named : (v : Value) (of : List ℕ) → of_here v (types.Ref (91 ∷ of)) ≡ true → reaches (91 ∷ of) (codes "[Ljava/lang/Object;") ≡ true
@@ -244,7 +244,7 @@ module _ (program : Program) (typing : Typing) (ok : IsTypedProgram program typi
   reference_array v types.Int h e = absurd cc
   reference_array v types.Null h e = nothing (null_is v h)
   reference_array v (types.Ref name) h e =
-      let a = only_arrays program ok.order name (codes "Ljava/lang/Object;") e in
+      let a = only_arrays program ok.links.order name (codes "Ljava/lang/Object;") e in
       subst (λ (n : Name). Array items.Reference v (types.Ref n)) (sym a.1)
       (something (reference_named v a.0 (subst (λ (n : Name). of_here v (types.Ref n) ≡ true) a.1 h)
       (subst (λ (n : Name). reaches n (codes "[Ljava/lang/Object;") ≡ true) a.1 e)))
@@ -266,7 +266,7 @@ module _ (program : Program) (typing : Typing) (ok : IsTypedProgram program typi
   items_ready item v t (nothing e) = subst (IsNullOr (HasItems item) world.heap) (sym e) tt
   items_ready item v t (something a) =
       array_ready (HasItems item) a.of v (array_of_value program typing ok world.heap fit a.of v a.holds_array)
-      (λ rest list over. wanted_items program ok.order item (91 ∷ rest) (a.wants rest over))
+      (λ rest list over. wanted_items program ok.links.order item (91 ∷ rest) (a.wants rest over))
 
   -- an array of the heap that is worked on
   record On (item : Item) (t : VType) (at : ℕ) (rest : List ℕ) (list : List Value) : Type 0 where
@@ -284,7 +284,7 @@ module _ (program : Program) (typing : Typing) (ok : IsTypedProgram program typi
       array_done a.of v _ (array_of_value program typing ok world.heap fit a.of v a.holds_array)
       (λ at rest list e there over all.
       let chosen : cond (has_items item (91 ∷ rest)) (f (record { at = at; desc = 91 ∷ rest; items = list })) None ≡ f (record { at = at; desc = 91 ∷ rest; items = list }) =
-      rw (wanted_items program ok.order item (91 ∷ rest) (a.wants rest over)) refl in
+      rw (wanted_items program ok.links.order item (91 ∷ rest) (a.wants rest over)) refl in
       subst Done (sym chosen)
       (done at rest list (record { there = there; are = a.are rest over; reads = λ w f. a.reads rest w over f; all = all })))
 

@@ -156,20 +156,20 @@ module _ (program : Program) (typing : Typing) (ok : IsTypedProgram program typi
 
   -- the classes behind the built-in ones
   abbrev more_listed : List ListedClass
-  more_listed = filter_map class_declared ok.listed.said
+  more_listed = filter_map class_declared ok.links.listed.said
 
   listed_is : listed_classes ≡ built_in_classes ++ more_listed
-  listed_is = ap (λ l. l.classes) ok.listed.listed
+  listed_is = ap (λ l. l.classes) ok.links.listed.listed
 
   pub built_in_known : (name : Name) → is_known built_in_classes name ≡ true → is_known listed_classes name ≡ true
   built_in_known name e =
       subst (λ (classes : List ListedClass). is_known classes name ≡ true) (sym listed_is)
       (any_front (λ (k : ListedClass). bytes_eq k.name name) built_in_classes more_listed e)
 
-  declared_closed : (before after : List Declaration) (c : ListedClass) → ok.listed.said ≡ before ++ Class c ∷ after
+  declared_closed : (before after : List Declaration) (c : ListedClass) → ok.links.listed.said ≡ before ++ Class c ∷ after
       → is_closed (built_in_classes ++ more_listed) c ≡ true
   declared_closed before after c e =
-      let named = ok.listed.named before after (Class c) e in
+      let named = ok.links.listed.named before after (Class c) e in
       let front : List ListedClass = built_in_classes ++ filter_map class_declared before in
       let a = and_parts (is_known front c.parent) (list_all (is_known front) c.interfaces) named in
       let closed : is_closed front c ≡ true = and_from _ _ (or_right (bytes_eq c.name object) _ a.0) a.1 in
@@ -180,7 +180,7 @@ module _ (program : Program) (typing : Typing) (ok : IsTypedProgram program typi
       subst (λ (classes : List ListedClass). is_closed classes c ≡ true) (sym split)
       (closed_front front (filter_map class_declared (Class c ∷ after)) c closed)
 
-  declared_all : (before after : List Declaration) → ok.listed.said ≡ before ++ after
+  declared_all : (before after : List Declaration) → ok.links.listed.said ≡ before ++ after
       → list_all (is_closed (built_in_classes ++ more_listed)) (filter_map class_declared after) ≡ true
   declared_all before [] e = refl
   declared_all before (Class c ∷ after) e =
@@ -197,7 +197,7 @@ module _ (program : Program) (typing : Typing) (ok : IsTypedProgram program typi
       (all_both (is_closed (built_in_classes ++ more_listed)) built_in_classes more_listed
       (all_more (is_closed built_in_classes) (is_closed (built_in_classes ++ more_listed)) built_in_classes
       (λ c e. closed_front built_in_classes more_listed c e) built_in_closed)
-      (declared_all [] ok.listed.said refl))
+      (declared_all [] ok.links.listed.said refl))
 
   -- ---- what is found by a name
 
@@ -281,7 +281,7 @@ module _ (program : Program) (typing : Typing) (ok : IsTypedProgram program typi
         | inr up ↦
             elim l.above [
               | inl top ↦
-                  let one : above ≡ object = ok.order.top above
+                  let one : above ≡ object = ok.links.order.top above
                   (subst (λ (name : Name). is_below program name above ≡ true) top (up_below (suc n) class above less e)) in
                   subst (λ (name : Name). is_known listed_classes name ≡ true) (sym one) (built_in_known object object_built_in)
               | inr parent ↦ later l.class.parent parent up
@@ -300,10 +300,10 @@ module _ (program : Program) (typing : Typing) (ok : IsTypedProgram program typi
   -- ---- given classes
 
   pub sound_class : (own : ℕ) (class : LinkedClass) → slice_get program.classes own ≡ Some class → IsSoundClass class
-  sound_class own class there = all_get IsSoundClass program.classes own class ok.sound.classes there
+  sound_class own class there = all_get IsSoundClass program.classes own class ok.links.sound.classes there
 
   pub given_unlisted : (own : ℕ) (class : LinkedClass) → slice_get program.classes own ≡ Some class → is_known listed_classes class.name ≡ true → ⊥
-  given_unlisted own class there known = false≢true (sym (ok.linked.standing own class there).unlisted ∙ known)
+  given_unlisted own class there known = false≢true (sym (ok.links.linked.standing own class there).unlisted ∙ known)
 
   same_index : (i j : ℕ) (x y : LinkedClass) → slice_get program.classes i ≡ Some x → slice_get program.classes j ≡ Some y → i ≡ j → x ≡ y
   same_index i j x y e f same = some_is x y (sym e ∙ ap (slice_get program.classes) same ∙ f)
@@ -311,7 +311,7 @@ module _ (program : Program) (typing : Typing) (ok : IsTypedProgram program typi
   -- no other class has its name
   pub given_once : (own other : ℕ) (class found : LinkedClass) → slice_get program.classes own ≡ Some class → slice_get program.classes other ≡ Some found
       → found.name ≡ class.name → found ≡ class
-  given_once own other class found e f named = same_index other own found class f e ((ok.linked.standing own class e).once other found f named)
+  given_once own other class found e f named = same_index other own found class f e ((ok.links.linked.standing own class e).once other found f named)
 
   pub given_found : (own : ℕ) (class : LinkedClass) → slice_get program.classes own ≡ Some class → class_given program class.name ≡ Some class
   given_found own class there =
@@ -352,18 +352,18 @@ module _ (program : Program) (typing : Typing) (ok : IsTypedProgram program typi
   pub own_head : (own : ℕ) (class : LinkedClass) → slice_get program.classes own ≡ Some class
       → class_named (map (λ (c : LinkedClass). head_of c.file) program.classes) class.name ≡ Some (head_of class.file)
   own_head own class there =
-      heads_named program.classes class.name ok.sound.classes ∙ ap (option_map (λ (c : LinkedClass). head_of c.file)) (given_found own class there)
+      heads_named program.classes class.name ok.links.sound.classes ∙ ap (option_map (λ (c : LinkedClass). head_of c.file)) (given_found own class there)
 
   pub not_known_found : (name : Name) → is_known listed_classes name ≡ false
       → class_named (classes_of program) name ≡ option_map (λ (c : LinkedClass). head_of c.file) (class_given program name)
   not_known_found name e =
       named_behind (map (λ (c : LinkedClass). head_of c.file) program.classes) name listed_classes (find_none (λ (c : ListedClass). bytes_eq c.name name) listed_classes e)
-      ∙ heads_named program.classes name ok.sound.classes
+      ∙ heads_named program.classes name ok.links.sound.classes
 
   pub given_head : (own : ℕ) (class : LinkedClass) → slice_get program.classes own ≡ Some class
       → class_named (classes_of program) class.name ≡ Some (head_of class.file)
   given_head own class there =
-      not_known_found class.name (ok.linked.standing own class there).unlisted
+      not_known_found class.name (ok.links.linked.standing own class there).unlisted
       ∙ ap (option_map (λ (c : LinkedClass). head_of c.file)) (given_found own class there)
 
   pub given_parent : (own : ℕ) (class : LinkedClass) → slice_get program.classes own ≡ Some class → (head_of class.file).parent ≡ class.parent
@@ -376,7 +376,7 @@ module _ (program : Program) (typing : Typing) (ok : IsTypedProgram program typi
   given_apart own class there =
       elim (cases_Bool (is_array class.name)) [
         | inl is ↦
-            let both : ◌≡◌ {A = Option ListedClass} None (Some (head_of class.file)) = sym (ok.order.no_arrays class.name is) ∙ given_head own class there in
+            let both : ◌≡◌ {A = Option ListedClass} None (Some (head_of class.file)) = sym (ok.links.order.no_arrays class.name is) ∙ given_head own class there in
             absurd cc
         | inr apart ↦ apart
       ]
@@ -385,6 +385,6 @@ module _ (program : Program) (typing : Typing) (ok : IsTypedProgram program typi
   known_apart name known =
       let l = listed name known in
       elim (cases_Bool (is_array name)) [
-        | inl is ↦ let both : ◌≡◌ {A = Option ListedClass} None (Some l.class) = sym (ok.order.no_arrays name is) ∙ l.found in absurd cc
+        | inl is ↦ let both : ◌≡◌ {A = Option ListedClass} None (Some l.class) = sym (ok.links.order.no_arrays name is) ∙ l.found in absurd cc
         | inr apart ↦ apart
       ]

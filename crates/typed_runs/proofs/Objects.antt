@@ -65,14 +65,14 @@ module _ (program : Program) (typing : Typing) (ok : IsTypedProgram program typi
 
   not_an_array : (name item : List ℕ) → is_array name ≡ false → assignable program (types.Ref name) (types.Ref (91 ∷ item)) ≡ true → ⊥
   not_an_array name item apart e =
-      let a = only_arrays program ok.order name item e in
+      let a = only_arrays program ok.links.order name item e in
       false≢true (sym apart ∙ ap is_array a.1)
 
   in_array : (at : ℕ) (item : List ℕ) (object : Object) → slice_get heap at ≡ Some object → ObjectFits program heap object
       → assignable program (types.Ref (class_of_object object)) (types.Ref (91 ∷ item)) ≡ true → ArrayOf item (values.Ref at)
   in_array at item (objects.Plain class fields target thread) there f e = absurd (not_an_array class item f.0 e)
   in_array at item (objects.Array desc list) there f e =
-      let a = only_arrays program ok.order desc item e in
+      let a = only_arrays program ok.links.order desc item e in
       an_array at a.0 list refl (there ∙ ap (λ (d : List ℕ). Some (objects.Array d list)) a.1) a.2
       (subst (λ (d : List ℕ). AllByRecursion (λ (w : Value). fits_made program heap w (type_described (drop 1 d)) ≡ true) list) a.1 f.1)
   in_array at item (objects.Text text) there f e = absurd (not_an_array string item refl e)
@@ -106,7 +106,7 @@ module _ (program : Program) (typing : Typing) (ok : IsTypedProgram program typi
   -- the items fit what the items of the other array are
   pub items_over : (rest item : List ℕ) (w : Value) → component_fits program rest item ≡ true → fits_made program heap w (type_described rest) ≡ true
       → fits_made program heap w (type_described item) ≡ true
-  items_over rest item w e h = made_over program ok.order heap w (type_described rest) (type_described item) (item_over program ok.order rest item e) h
+  items_over rest item w e h = made_over program ok.links.order heap w (type_described rest) (type_described item) (item_over program ok.links.order rest item e) h
 
   -- ---- objects of given classes
 

@@ -143,7 +143,7 @@ module _ (program : Program) (typing : Typing) (ok : IsTypedProgram program typi
   arguments_met class method (desc ∷ descs) (t ∷ on) [] e p = absurd p
   arguments_met class method (desc ∷ descs) (t ∷ on) (v ∷ vs) e p =
       let a = and_parts (to_described program desc t) (all_met (map (to_described program) descs) on) e in
-      (described_over program ok.order heap class method v t desc a.0 p.0, arguments_met class method descs on vs a.1 p.1)
+      (described_over program ok.links.order heap class method v t desc a.0 p.0, arguments_met class method descs on vs a.1 p.1)
 
   many_met : (descs : List Descriptor) (on : List VType) → all_met (map (to_described program) descs) on ≡ true → length on ≡ length descs
   many_met [] [] e = refl

@@ -158,9 +158,9 @@ module _ (program : Program) (typing : Typing) (ok : IsTypedProgram program typi
       → is_result_of (Some k) type ≡ true → option_map_or (λ (r : VType). assignable program t r) type false ≡ true
       → fits_type program heap class method v t ≡ true → ResultFits program heap type (Some v) × (fits k v ≡ true)
   result_by heap class method kinds.Int (Some types.Int) v t e f h =
-      let number = type_fits_over program ok.order heap class method v t types.Int f h in (number, number)
+      let number = type_fits_over program ok.links.order heap class method v t types.Int f h in (number, number)
   result_by heap class method kinds.Reference (Some (types.Ref name)) v t e f h =
-      let is = type_fits_over program ok.order heap class method v t (types.Ref name) f h in
+      let is = type_fits_over program ok.links.order heap class method v t (types.Ref name) f h in
       (is, wanted_reference program heap class method v (types.Ref name) is refl)
   result_by heap class method k type v t e f h = absurd cc
 

@@ -141,7 +141,7 @@ module _ (program : Program) (typing : Typing) (ok : IsTypedProgram program typi
   -- ---- classes and methods
 
   pub class_sound : (own : ℕ) (class : LinkedClass) → slice_get program.classes own ≡ Some class → IsSoundClass class
-  class_sound own class there = all_get IsSoundClass program.classes own class ok.sound.classes there
+  class_sound own class there = all_get IsSoundClass program.classes own class ok.links.sound.classes there
 
   pub method_sound : (own index : ℕ) (class : LinkedClass) (method : Method) → slice_get program.classes own ≡ Some class
       → slice_get class.methods index ≡ Some method → IsSoundMethod method
@@ -149,7 +149,7 @@ module _ (program : Program) (typing : Typing) (ok : IsTypedProgram program typi
 
   pub method_stands : (own index : ℕ) (class : LinkedClass) (method : Method) → slice_get program.classes own ≡ Some class
       → slice_get class.methods index ≡ Some method → IsStanding program class method
-  method_stands own index class method there here = all_get (IsStanding program class) class.methods index method (ok.linked.standing own class there).methods here
+  method_stands own index class method there here = all_get (IsStanding program class) class.methods index method (ok.links.linked.standing own class there).methods here
 
   begins_so : (own index : ℕ) (class : LinkedClass) (method : Method) (insn : Insn) (o : Option FrameType) → slice_get method.insns 0 ≡ Some insn
       → frame_of (frames_in class.methods (frames_told typing own) index) 0 ≡ o
@@ -196,7 +196,7 @@ module _ (program : Program) (typing : Typing) (ok : IsTypedProgram program typi
     insn_is = rw (s.there, s.here, s.next, ref_there) refl
 
     pub names : Names program s.class s.insn (stands_at s).ref
-    names = ok.linked.named frame.class frame.method frame.at s.class s.method s.insn (stands_at s).ref s.there s.here s.next ref_there
+    names = ok.links.linked.named frame.class frame.method frame.at s.class s.method s.insn (stands_at s).ref s.there s.here s.next ref_there
 
     pub goes_to : (to : ℕ) → Contains (successors frame.at s.insn) to → GoesTo program typing frame s to
     goes_to to has =

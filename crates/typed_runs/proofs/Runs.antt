@@ -123,7 +123,7 @@ module _ (program : Program) (typing : Typing) (ok : IsTypedProgram program typi
     made law step enabled =
         let fits = all_get (ThreadFits program typing machine.heap) machine.threads step.thread enabled.thread m.threads enabled.there in
         is_mapped (λ (change : Change). (applied step.thread machine change, change.event)) (changed program machine step)
-        (law program machine step ok.linked.standing enabled (able step.thread enabled.thread fits enabled.thread.doing fits.frames step.choice enabled.may))
+        (law program machine step ok.links.linked.standing enabled (able step.thread enabled.thread fits enabled.thread.doing fits.frames step.choice enabled.may))
 
   -- ---- every run
 

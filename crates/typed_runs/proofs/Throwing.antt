@@ -113,7 +113,7 @@ module _ (program : Program) (typing : Typing) where
           let c = caught_by program typing ok frame s handler has (covered_by frame.at class handler e) in
           let a = and_parts (is_alone (class_caught handler) c.type.stack) (locals_fit program (local_caught s.type.locals) 0 c.type.locals) c.takes in
           let weaker : (j : ℕ) → Widens of (type_at s.type.locals j) (type_at c.type.locals j) =
-          λ j x h. locals_widen program ok.order heap s.class s.method (local_caught s.type.locals) c.type.locals a.1 j x
+          λ j x h. locals_widen program ok.links.order heap s.class s.method (local_caught s.type.locals) c.type.locals a.1 j x
           (fits_thrown program heap s.class s.method x (type_at s.type.locals j) h) in (
             record {
               stands = moved_stands s handler.at c.type c.insn c.told c.next frame.locals (v ∷ []);

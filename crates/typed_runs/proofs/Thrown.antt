@@ -69,15 +69,15 @@ module _ (program : Program) (typing : Typing) (ok : IsTypedProgram program typi
   abbrev heads : List ListedClass
   heads = map (λ (c : LinkedClass). head_of c.file) program.classes
 
-  listing_is : program.listing.classes ≡ built_in_classes ++ filter_map class_declared ok.listed.said
-  listing_is = ap (λ (l : Listing). l.classes) ok.listed.listed
+  listing_is : program.listing.classes ≡ built_in_classes ++ filter_map class_declared ok.links.listed.said
+  listing_is = ap (λ (l : Listing). l.classes) ok.links.listed.listed
 
-  classes_are : classes_of program ≡ built_in_classes ++ (filter_map class_declared ok.listed.said ++ heads)
-  classes_are = ap (λ (l : List ListedClass). l ++ heads) listing_is ∙ append_assoc built_in_classes (filter_map class_declared ok.listed.said) heads
+  classes_are : classes_of program ≡ built_in_classes ++ (filter_map class_declared ok.links.listed.said ++ heads)
+  classes_are = ap (λ (l : List ListedClass). l ++ heads) listing_is ∙ append_assoc built_in_classes (filter_map class_declared ok.links.listed.said) heads
 
   pub built_in_thrown : (name : Name) → Contains thrown_names name → IsTrue (may_throw program name)
   built_in_thrown name has =
-      let said = filter_map class_declared ok.listed.said in
+      let said = filter_map class_declared ok.links.listed.said in
       and_from (is_known program.listing.classes name) (is_below program name throwable)
       (subst (λ (cs : List ListedClass). is_known cs name ≡ true) (sym listing_is) (among (IsKnown said) thrown_names name (all_known said) has))
       (subst (λ (cs : List ListedClass). goes_up cs name ≡ true) (sym classes_are)

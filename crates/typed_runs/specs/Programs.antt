@@ -10,7 +10,8 @@ use Rattle.bytecode_model.specs.Sound.{IsSound}
 use Rattle.bytecode_model.specs.Standing.{IsLinkedOf}
 use Rattle.bytecode_model.specs.Typed.{IsTyped}
 
-pub record IsTypedProgram (program : Program) (typing : Typing) : Type 0 where
+-- Class files link to the program, over a listing that was read.
+pub record IsLinkedProgram (program : Program) : Type 0 where
   pub side : Side
   pub main : List ℕ
   pub text : List ℕ
@@ -18,4 +19,8 @@ pub record IsTypedProgram (program : Program) (typing : Typing) : Type 0 where
   pub linked : IsLinkedOf side program.listing main program
   pub sound : IsSound program
   pub order : IsInOrder program
+
+-- It is such a program, and the typing meets the rules.
+pub record IsTypedProgram (program : Program) (typing : Typing) : Type 0 where
+  pub links : IsLinkedProgram program
   pub typed : IsTyped program typing

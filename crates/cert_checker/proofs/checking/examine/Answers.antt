@@ -59,14 +59,16 @@ laws_here c = record {
   begin = c.typed_is_closed.ensures.begin;
   next = c.typed_is_closed.ensures.next;
   caught = c.typed_is_closed.ensures.caught;
+  formed = c.events_are_well_formed.ensures.formed;
+  words = c.sees_numbers_in_range.ensures.locals;
 }
 
 given_here : (c : goal.After-sites_of) → IsGiven c.args.program.now c.args.policy.now
 given_here c = record {
-  sound = c.requires.sound;
+  linked = c.requires.linked;
   good = c.requires.policy;
   named = c.requires.named;
-  listed = c.requires.listed;
+  told = c.requires.told;
 }
 
 pub returns-clause-secure : goal.returns-clause-secure

@@ -9,4 +9,4 @@ returns-clause-allowed c = λ ok. record {
 }
 
 pub returns-clause-secure : goal.returns-clause-secure
-returns-clause-secure c = λ ok formed. c.in_ok-accepted.ensures.secure refl (c.in_ok-judge_races.ensures.race refl) formed
+returns-clause-secure c = λ ok. c.in_ok-accepted.ensures.secure refl (c.in_ok-judge_races.ensures.race refl)

@@ -20,14 +20,14 @@ returns-in-Err-clause-plans c =
 
 pub rewoven-requires-clause-policy : goal.rewoven-requires-clause-policy
 rewoven-requires-clause-policy c =
-    let of = made_of c.args.inputs c.in_ok-client.client c.in_ok-given.given c.in_ok-given.ensures.gathered c.kinds_are_told.ensures.arguments c.kinds_are_told.ensures.results c.requires (inline_named c.args.words.now)
+    let of = made_of c.args.inputs c.in_ok-client.client c.in_ok-given.given c.in_ok-given.ensures.gathered c.policies_tell_types.ensures.tell c.kinds_are_told.ensures.arguments c.kinds_are_told.ensures.results c.requires (inline_named c.args.words.now)
     (sym c.in_ok-client.ensures.is) c.in_ok-client.ensures.sound c.in_ok-client.ensures.links c.in_ok-client.ensures.listing (c.in_ok-given.ensures.sound c.args.inputs.listing c.requires.policy.sound)
     c.in-Ok.made c.in-Ok.ensures.exact in
     of.kept
 
 pub rewoven-requires-clause-expected : goal.rewoven-requires-clause-expected
 rewoven-requires-clause-expected c =
-    let of = made_of c.args.inputs c.in_ok-client.client c.in_ok-given.given c.in_ok-given.ensures.gathered c.kinds_are_told.ensures.arguments c.kinds_are_told.ensures.results c.requires (inline_named c.args.words.now)
+    let of = made_of c.args.inputs c.in_ok-client.client c.in_ok-given.given c.in_ok-given.ensures.gathered c.policies_tell_types.ensures.tell c.kinds_are_told.ensures.arguments c.kinds_are_told.ensures.results c.requires (inline_named c.args.words.now)
     (sym c.in_ok-client.ensures.is) c.in_ok-client.ensures.sound c.in_ok-client.ensures.links c.in_ok-client.ensures.listing (c.in_ok-given.ensures.sound c.args.inputs.listing c.requires.policy.sound)
     c.in-Ok.made c.in-Ok.ensures.exact in
     let typed = client_typed c.args.inputs c.in_ok-client.client c.in_ok-given.given c.in_ok-given.ensures.gathered
@@ -52,7 +52,7 @@ returns-clause-planned c =
     let client = c.in_ok-client.client in
     let given = c.in_ok-given.given in
     let gathered = c.in_ok-given.ensures.gathered in
-    let of = made_of c.args.inputs c.in_ok-client.client c.in_ok-given.given c.in_ok-given.ensures.gathered c.kinds_are_told.ensures.arguments c.kinds_are_told.ensures.results c.requires (inline_named c.args.words.now)
+    let of = made_of c.args.inputs c.in_ok-client.client c.in_ok-given.given c.in_ok-given.ensures.gathered c.policies_tell_types.ensures.tell c.kinds_are_told.ensures.arguments c.kinds_are_told.ensures.results c.requires (inline_named c.args.words.now)
     (sym c.in_ok-client.ensures.is) c.in_ok-client.ensures.sound c.in_ok-client.ensures.links c.in_ok-client.ensures.listing (c.in_ok-given.ensures.sound c.args.inputs.listing c.requires.policy.sound)
     c.in-Ok.made c.in-Ok.ensures.exact in
     let so = typed_so (inline_named c.args.words.now) c.args.inputs c.in_ok-client.client c.in_ok-client.ensures.is c.in_ok-given.given c.in_ok-given.ensures.gathers in

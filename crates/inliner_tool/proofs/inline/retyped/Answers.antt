@@ -3,7 +3,6 @@ use Rattle.bytecode_model.specs.declared.program.Program.{Program}
 use Rattle.bytecode_model.specs.Files.{unlinked}
 use Rattle.bytecode_model.specs.Sound.{IsSound}
 use Rattle.block_logic.specs.Accepted.{IsAccepted}
-use Rattle.block_logic.specs.Formed.{RunsAreFormed}
 use Rattle.cert_checker.specs.Judging.{IsAllowed, judged}
 use Rattle.cert_checker.specs.Secure.{Secure}
 use Rattle.cert_format.specs.declared.certificate.Certificate.{Certificate}
@@ -17,6 +16,7 @@ use Rattle.cert_maker.specs.Told.{FitsTyping}
 use Rattle.cert_format.specs.declared.typing.Typing.{Typing}
 use Rattle.cert_maker.specs.Noting.{certificate_of}
 use Rattle.cert_maker.specs.Told.{told}
+use Rattle.typed_runs.specs.Programs.{IsLinkedProgram}
 use Rattle.woven_typing.specs.Framing.{typing_of}
 use Rattle.inliner_tool.specs.declared.inline.Given.{Given}
 use Rattle.inliner_tool.specs.declared.inline.Ready.{Ready}
@@ -31,15 +31,10 @@ told_so : (given : Given) (program : Program) (typing : Typing) → typing ≡ t
 told_so given program typing is certificate made =
     made ∙ ap (λ (t : Typing). certificate_of given.client.classes given.policy given.mode (told program t)) is
 
-pub judged-ready-requires-clause-sound : goal.judged-ready-requires-clause-sound
-judged-ready-requires-clause-sound c =
+pub judged-ready-requires-clause-linked : goal.judged-ready-requires-clause-linked
+judged-ready-requires-clause-linked c =
     let same : c.in_ok-program.program ≡ woven_program c.args.given c.args.made = c.in_ok-program.ensures.program in
-    subst IsSound (sym same) c.requires.expected.sound
-
-pub judged-ready-requires-clause-formed : goal.judged-ready-requires-clause-formed
-judged-ready-requires-clause-formed c =
-    let same : c.in_ok-program.program ≡ woven_program c.args.given c.args.made = c.in_ok-program.ensures.program in
-    subst (λ (p : Program). RunsAreFormed p c.args.given.policy) (sym same) c.requires.expected.formed
+    subst IsLinkedProgram (sym same) c.requires.expected.linked
 
 -- what is woven is allowed
 allowed_so : (given : Given) (program : Program) → IsAccepted program given.policy (certificate_for given program) → (given.mode ≡ modes.Release → IsFreeOfRaces given.policy) → IsAllowed program given.policy (certificate_for given program)
@@ -81,7 +76,7 @@ returns-clause-rewoven c =
     let links : woven_links c.args.made.files given.client.listing c.args.words.now.main.now ≡ Ok program = expected.links ∙ ap (λ (p : Program). Ok p) (sym same) in
     let is : c.in_ok-program.certificate ≡ certificate_for given program = told_so c.args.given program c.args.typing c.requires.typing c.in_ok-program.certificate c.in_ok-program.ensures.certificate in
     let back = subst (λ (p : Program). unlinked p ≡ c.args.made.files) (sym same) expected.back in
-    let sound = subst IsSound (sym same) expected.sound in
+    let sound = subst IsSound (sym same) expected.linked.sound in
     let spells = subst (λ (p : Program). FitsTyping (certificate_for given p).typing → is_written (certificate_for given p) ≡ true → CanSpell (length given.policy.vars) (certificate_for given p)) (sym same) expected.spells in
     known_rewoven (inline_named c.args.words.now) given c.args.made program links back sound
     (allowed_here c)

@@ -1,7 +1,7 @@
 use Rattle.std.proofs.Common.{subst, sym}
 use Rattle.api_listing.specs.declared.types.Listing.{Listing}
+use Rattle.api_listing.specs.Listing.{SpellsListing}
 use Rattle.bytecode_model.specs.Standing.{IsLinkedOf}
-use Rattle.input_files.specs.Named.{IsListed}
 use Rattle.inliner_tool.proofs.programs.linked.Goals as goal
 
 pub new-requires : goal.new-requires
@@ -19,7 +19,8 @@ returns-in_ok-new-in-Ok-clause-linked c =
     (record {
       side = c.args.side;
       main = c.args.main.now;
-      listed = subst IsListed (sym c.in-Ok.ensures.named.listing_is) c.requires.listed;
+      text = c.requires.listed.text;
+      listed = subst (SpellsListing c.requires.listed.text) (sym c.in-Ok.ensures.named.listing_is) c.requires.listed.spells;
       linked = subst (λ (l : Listing). IsLinkedOf c.args.side l c.args.main.now c.in-Ok.program) (sym c.in-Ok.ensures.named.listing_is) c.in-Ok.ensures.named;
       sound = c.in-Ok.ensures.sound;
       order = c.in-Ok.ensures.order c.requires.listed.text c.requires.listed.spells;
