@@ -1,0 +1,6 @@
+pub mod Asking
+pub mod Fused
+pub mod Plain
+pub mod Scripted
+pub mod Shelf
+pub mod Telling
