@@ -1,4 +1,4 @@
--- What a call makes of the devices that it may go to. (docs/DEVICES.md)
+-- What a call makes of the devices that it may go to. (docs/RUNS.md)
 use Rattle.std.specs.Prelude.{◌≡◌, ◌≢◌, ◌∷◌, [], ℕ, List, slice_get, Option, Some, None, Result, Ok, Err}
 use Rattle.mon_store.specs.Store.{Rose}
 use Rattle.api_listing.specs.declared.events.ApiAnswer.{ApiAnswer}

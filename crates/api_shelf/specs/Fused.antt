@@ -1,4 +1,4 @@
--- What a device that fails after some calls is seen as. (docs/DEVICES.md)
+-- What a device that fails after some calls is seen as. (docs/RUNS.md)
 use Rattle.std.specs.Prelude.{ℕ}
 
 -- How many more calls it answers, and how many faults there were.

@@ -1,4 +1,5 @@
 pub mod Asking
+pub mod Console
 pub mod Fused
 pub mod Plain
 pub mod Scripted

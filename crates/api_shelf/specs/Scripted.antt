@@ -1,4 +1,4 @@
--- What a device that gives the answers it was given is seen as, and what it answers. (docs/DEVICES.md)
+-- What a device that gives the answers it was given is seen as, and what it answers. (docs/RUNS.md)
 use Rattle.std.specs.Prelude.{List, length, slice_get, unwrap_or}
 use Rattle.api_listing.specs.declared.events.ApiAnswer.{ApiAnswer}
 use Rattle.api_listing.specs.declared.events.ApiCall.{ApiCall}

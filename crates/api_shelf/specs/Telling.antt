@@ -1,4 +1,4 @@
--- What a device tells of the calls that it answered. (docs/DEVICES.md)
+-- What a device tells of the calls that it answered. (docs/RUNS.md)
 use Rattle.std.specs.Prelude.{◌≡◌, List, [], ◌∷◌, ◌++◌, Option, Some, None, option_map}
 use Rattle.api_listing.specs.declared.events.ApiAnswer.{ApiAnswer}
 use Rattle.api_listing.specs.declared.events.ApiCall.{ApiCall}
