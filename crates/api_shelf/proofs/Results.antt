@@ -1,0 +1,127 @@
+-- The result's text in a descriptor, and the plain answer by it.
+use Rattle.std.proofs.Common.{◌≡◌, ◌≢◌, ℕ, zero, suc, Bool, true, false, cond, eqb, ◌&&◌, ◌||◌, List, [], ◌∷◌, ◌++◌, Option, Some, None, refl, sym, ap, ◌∙◌, append_assoc, arith, inl, inr, ◌⊎◌}
+use Rattle.std.specs.Prelude.{bytes_eq, codes, replicate}
+use Rattle.std.specs.List.{list_all, list_any, flat_map, onto_first}
+use Rattle.std.proofs.lemmas.Bool.{false≢true, ne_eqb}
+use Rattle.std.proofs.lemmas.Bool.Decides.{eqb_tells}
+use Rattle.std.proofs.lemmas.List.Splits.{slice_split-cons_yes, slice_split-cons_no}
+use Rattle.api_listing.specs.declared.descriptor.Element.{Element}
+use Rattle.api_listing.specs.declared.descriptor.Element.TheVariants.{Boolean, Byte, Char, Short, Int, Class}
+use Rattle.api_listing.specs.declared.descriptor.FieldType.{FieldType}
+use Rattle.api_listing.specs.declared.descriptor.MethodType.{MethodType}
+use Rattle.api_listing.specs.declared.events.ApiCall.{ApiCall}
+use Rattle.api_listing.specs.Words.{pieces, is_name_byte, is_segment, is_class_name}
+use Rattle.api_listing.specs.Descriptor.{class_spelled, element_spelled, type_spelled, result_spelled, is_element, is_type, is_result, class_described, SpellsDescriptor}
+use Rattle.api_listing.proofs.DescriptorLaws.{both, class_descriptor_again}
+use Rattle.api_shelf.specs.Plain.{plain_answer, plain_for, plain_spelled, plain_named, result_text}
+
+-- ---- names have no `)`
+
+abbrev closes : ℕ → Bool
+closes b = eqb b 41
+
+abbrev has_bracket : List ℕ → Bool
+has_bracket text = list_any closes text
+
+abbrev all_pieces : List (List ℕ) → Bool
+all_pieces parts = list_all (list_all is_name_byte) parts
+
+segments : (parts : List (List ℕ)) → list_all is_segment parts ≡ true → all_pieces parts ≡ true
+segments [] e = refl
+segments ([] ∷ parts) e = absurd (false≢true e)
+segments ((b ∷ bytes) ∷ parts) e =
+    let p = both (is_segment (b ∷ bytes)) (list_all is_segment parts) e in
+    rw (p.0, segments parts p.1) refl
+
+name_byte : (b : ℕ) → is_name_byte b ≡ true → closes b ≡ false
+name_byte b named = by (eqb_tells b 41) where
+  by : ((eqb b 41 ≡ true) × (b ≡ 41)) ⊎ ((eqb b 41 ≡ false) × (b ≢ 41)) → eqb b 41 ≡ false
+  by (inl p) = absurd (false≢true (sym (ap is_name_byte p.1) ∙ named))
+  by (inr p) = p.0
+
+first_part : (b : ℕ) (parts : List (List ℕ)) → all_pieces (onto_first b parts) ≡ true → (is_name_byte b ≡ true) × (all_pieces parts ≡ true)
+first_part b [] e = ((both (is_name_byte b) true (both (is_name_byte b && true) true e).0).0, refl)
+first_part b (part ∷ parts) e =
+    let p = both (is_name_byte b && list_all is_name_byte part) (all_pieces parts) e in
+    let q = both (is_name_byte b) (list_all is_name_byte part) p.0 in
+    (q.0, rw (q.1, p.1) refl)
+
+none_next : (b : ℕ) (bytes : List ℕ) → (all_pieces (pieces 47 bytes) ≡ true → has_bracket bytes ≡ false) → all_pieces (pieces 47 (b ∷ bytes)) ≡ true → has_bracket (b ∷ bytes) ≡ false
+none_next b bytes others e = by (eqb_tells b 47) where
+  by : ((eqb b 47 ≡ true) × (b ≡ 47)) ⊎ ((eqb b 47 ≡ false) × (b ≢ 47)) → has_bracket (b ∷ bytes) ≡ false
+  by (inl p) =
+      let rest : all_pieces (pieces 47 bytes) ≡ true = sym (ap all_pieces (slice_split-cons_yes (λ x. eqb x 47) b bytes p.0)) ∙ e in
+      rw (p.1, others rest) refl
+  by (inr p) =
+      let q = first_part b (pieces 47 bytes) (sym (ap all_pieces (slice_split-cons_no (λ x. eqb x 47) b bytes p.0)) ∙ e) in
+      rw (name_byte b q.0, others q.1) refl
+
+none_in : (name : List ℕ) → all_pieces (pieces 47 name) ≡ true → has_bracket name ≡ false
+none_in [] e = refl
+none_in (b ∷ bytes) e = none_next b bytes (none_in bytes) e
+
+-- ---- nor have types
+
+-- what is before the bracket is passed over
+past_next : (b : ℕ) (bytes behind : List ℕ) → (has_bracket bytes ≡ false → result_text (bytes ++ behind) ≡ result_text behind) → has_bracket (b ∷ bytes) ≡ false → result_text (b ∷ (bytes ++ behind)) ≡ result_text behind
+past_next b bytes behind others none = by (closes b) refl none where
+  by : (here : Bool) → closes b ≡ here → (here || has_bracket bytes) ≡ false → result_text (b ∷ (bytes ++ behind)) ≡ result_text behind
+  by true is h = absurd (false≢true (sym h))
+  by false is h = rw is (others h)
+
+past : (text behind : List ℕ) → has_bracket text ≡ false → result_text (text ++ behind) ≡ result_text behind
+past [] behind none = refl
+past (b ∷ bytes) behind none = past_next b bytes behind (past bytes behind) none
+
+past_class : (name behind : List ℕ) → is_class_name name ≡ true → result_text ((76 ∷ (name ++ 59 ∷ [])) ++ behind) ≡ result_text behind
+past_class name behind named =
+    ap result_text (ap (λ (t : List ℕ). 76 ∷ t) (append_assoc name (59 ∷ []) behind))
+    ∙ past name (59 ∷ behind) (none_in name (segments (pieces 47 name) named))
+
+past_element : (e : Element) (behind : List ℕ) → is_element e ≡ true → result_text (element_spelled e ++ behind) ≡ result_text behind
+past_element Boolean behind good = refl
+past_element Byte behind good = refl
+past_element Char behind good = refl
+past_element Short behind good = refl
+past_element Int behind good = refl
+past_element (Class name) behind good = past_class name behind good
+
+past_dimensions : (n : ℕ) (e : Element) (behind : List ℕ) → is_element e ≡ true → result_text ((replicate n 91 ++ element_spelled e) ++ behind) ≡ result_text behind
+past_dimensions zero e behind good = past_element e behind good
+past_dimensions (suc n) e behind good = past_dimensions n e behind good
+
+past_types : (ts : List FieldType) (behind : List ℕ) → list_all is_type ts ≡ true → result_text (flat_map type_spelled ts ++ behind) ≡ result_text behind
+past_types [] behind good = refl
+past_types (t ∷ ts) behind good =
+    let p = both (is_type t) (list_all is_type ts) good in
+    ap result_text (append_assoc (type_spelled t) (flat_map type_spelled ts) behind)
+    ∙ past_dimensions t.dimensions t.element (flat_map type_spelled ts ++ behind) p.0
+    ∙ past_types ts behind p.1
+
+result_text_is : (desc : List ℕ) (m : MethodType) → SpellsDescriptor desc m → result_text desc ≡ result_spelled m.result
+result_text_is desc m s = ap result_text s.spelled ∙ past_types m.arguments (41 ∷ result_spelled m.result) s.arguments
+
+-- ---- the answer
+
+named_is : (call : ApiCall) (name : List ℕ) → is_class_name name ≡ true → plain_spelled call (class_spelled name) ≡ plain_for call (Some (record { dimensions = 0; element = Class name }))
+named_is call name named =
+    let found : class_described (class_spelled name) ≡ Some name = class_descriptor_again (class_spelled name) name (record { spelled = refl; named = named }) in
+    ap (plain_named call) found
+
+type_is : (call : ApiCall) (n : ℕ) (e : Element) → is_element e ≡ true → plain_spelled call (replicate n 91 ++ element_spelled e) ≡ plain_for call (Some (record { dimensions = n; element = e }))
+type_is call (suc n) e good =
+    let deep : eqb (suc n) 0 ≡ false = ne_eqb (suc n) 0 (λ is. omega arith) in
+    rw deep refl
+type_is call zero Boolean good = refl
+type_is call zero Byte good = refl
+type_is call zero Char good = refl
+type_is call zero Short good = refl
+type_is call zero Int good = refl
+type_is call zero (Class name) good = named_is call name good
+
+result_is : (call : ApiCall) (r : Option FieldType) → is_result r ≡ true → plain_spelled call (result_spelled r) ≡ plain_for call r
+result_is call None good = refl
+result_is call (Some t) good = type_is call t.dimensions t.element good
+
+pub plain_is : (call : ApiCall) (m : MethodType) → SpellsDescriptor call.method.desc m → plain_answer call ≡ plain_for call m.result
+plain_is call m s = ap (plain_spelled call) (result_text_is call.method.desc m s) ∙ result_is call m.result s.result
