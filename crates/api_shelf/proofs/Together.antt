@@ -1,6 +1,6 @@
 -- What asking one device makes of what all of them tell.
 use Rattle.std.proofs.Common.{◌≡◌, ◌≢◌, ℕ, ◌-◌, ◌<◌, ◌≤◌, length, Bool, true, false, cond, eqb, List, [], ◌∷◌, ◌++◌, Option, Some, None, refl, sym, ap, subst, ◌∙◌, arith, slice_set, slice_index_or, inl, inr, ◌⊎◌}
-use Rattle.std.specs.Prelude.{slice_get, map, filter, bytes_eq, option_map}
+use Rattle.std.specs.Prelude.{slice_get, map, bytes_eq, option_map}
 use Rattle.std.specs.List.{position_from}
 use Rattle.std.specs.Option.{option_map_or}
 use Rattle.std.proofs.lemmas.Bool.{false≢true}
@@ -18,7 +18,7 @@ use Rattle.api_shelf.specs.declared.device.DeviceFault.TheVariants.{Failed}
 use Rattle.api_shelf.specs.Asking.{pair_of, told_after, OnlyAt, FirstTells, CountRose}
 use Rattle.api_shelf.specs.declared.shelf.SlotOf.{SlotOf}
 use Rattle.api_shelf.specs.Shelf.{View, view_of, views, first_of, is_first, pairs_of, share_of, AllTell, AllAreSilent, count_of, IsLater}
-use Rattle.api_shelf.specs.Telling.{Log, Tells, with_pair}
+use Rattle.api_shelf.specs.Telling.{Log, Tells}
 use Rattle.api_shelf.proofs.Places.{passes_at, position_from-map, slice_get-set_here, slice_get-set_other, map-set, set_same}
 
 -- The device in this place was asked, the first of the call's class.

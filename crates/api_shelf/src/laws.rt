@@ -29,6 +29,7 @@ pub fn devices_tell()
     ensures alone { (class : List ℕ) (log pairs : Log) (faults : ℕ)
         → AllTell pairs (record { class = class; told = Some log; faults = faults } ∷ []) → log ≡ pairs_of class pairs }
     ensures second { (class : List ℕ) (first log pairs : Log) (faults more : ℕ)
-        → AllTell pairs (record { class = class; told = Some first; faults = faults } ∷ record { class = class; told = Some log; faults = more } ∷ [])
+        → AllTell pairs (record { class = class; told = Some first; faults = faults }
+        ∷ record { class = class; told = Some log; faults = more } ∷ [])
         → log ≡ [] }
 {}
