@@ -1,7 +1,6 @@
 -- What a call makes of the devices that it may go to. (docs/RUNS.md)
-use Rattle.std.specs.Prelude.{◌≡◌, ◌≢◌, ◌∷◌, [], ℕ, List, slice_get, Option, Some, None, Result, Ok, Err}
+use Rattle.std.specs.Prelude.{◌≡◌, ◌≢◌, ◌∷◌, [], ℕ, List, slice_get, Option, Some}
 use Rattle.mon_store.specs.Store.{Rose}
-use Rattle.api_listing.specs.declared.events.ApiAnswer.{ApiAnswer}
 use Rattle.api_listing.specs.declared.events.ApiCall.{ApiCall}
 use Rattle.api_shelf.specs.declared.asking.Asked.{Asked}
 use Rattle.api_shelf.specs.declared.asking.Asked.TheVariants.{Nobody, Answered, Refused}

@@ -1,5 +1,5 @@
 -- Devices by classes: what is seen of them, which one a call goes to, and what they tell together. (docs/RUNS.md)
-use Rattle.std.specs.Prelude.{◌≡◌, ◌≤◌, ◌==◌, ℕ, Bool, false, List, [], ◌∷◌, map, filter, slice_get, bytes_eq, Option, Some, None, if◌then◌else◌}
+use Rattle.std.specs.Prelude.{◌≡◌, ◌≤◌, ◌==◌, ℕ, Bool, false, List, [], map, filter, slice_get, bytes_eq, Option, Some, None, if◌then◌else◌}
 use Rattle.std.specs.List.{position_from}
 use Rattle.std.specs.Option.{option_map_or}
 use Rattle.api_shelf.specs.declared.shelf.SlotOf.{SlotOf}

@@ -6,7 +6,7 @@ ghost use Rattle.mon_store.specs.Store.{Rose};
 ghost use Rattle.api_shelf.specs.Asking.{pair_of, told_after, OnlyAt, FirstTells, CountRose};
 ghost use Rattle.api_shelf.specs.Plain.{plain_answer};
 ghost use Rattle.api_shelf.specs.Shelf.{views, first_of, AllTell, IsLater};
-ghost use Rattle.api_shelf.specs.Telling.{Log, with_pair};
+ghost use Rattle.api_shelf.specs.Telling.{Log};
 ghost use Rattle.api_listing.specs.declared.events.ApiAnswer.{ApiAnswer};
 
 use crate::device::{ApiDevice, DeviceFault};

@@ -1,8 +1,7 @@
 //! A device that gives the answers it was given.
 
-ghost use Rattle.std.specs.Prelude.{◌≡◌, ◌++◌, ◌∷◌, [], ◌≤◌, Some, IfOk, OnErr, IsErrOf};
+ghost use Rattle.std.specs.Prelude.{◌≡◌, ◌++◌, ◌∷◌, [], Some, IfOk, OnErr, IsErrOf};
 ghost use Rattle.api_shelf.specs.Scripted.{next_answer};
-ghost use Rattle.api_shelf.specs.declared.device.DeviceFault.TheVariants.{Memory};
 
 use crate::copying::{copy_answer, copy_call};
 use crate::device::{ApiDevice, DeviceFault};

@@ -1,4 +1,4 @@
-//! Tests of what no command shows: stores and sinks in memory, copies of class files, and records that are written; and the bytes
+//! Tests of what no command shows: stores and sinks in memory, copies of class files, devices, and records that are written; and the bytes
 //! that they begin with, as tests write them.
 #![tactic(auto)]
 

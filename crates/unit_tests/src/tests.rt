@@ -1,5 +1,6 @@
 //! A module for each crate that is tested.
 
 mod class_files;
+mod devices;
 mod records;
 mod stores;

@@ -1,7 +1,7 @@
-use Rattle.std.proofs.Common.{◌≡◌, ◌≢◌, Some, None, ℕ, refl, sym, slice_set, ◌∙◌}
+use Rattle.std.proofs.Common.{refl, sym, slice_set, ◌∙◌}
 use Rattle.std.proofs.lemmas.Option.{none-some}
 use Rattle.api_shelf.specs.declared.asking.Asked.TheVariants.{Answered}
-use Rattle.api_shelf.specs.Shelf.{views, first_of}
+use Rattle.api_shelf.specs.Shelf.{views}
 use Rattle.api_shelf.proofs.Together.{asked_slot, asked_tells, count_rose, first_of_views, first_tells, is_later, others_same, unasked}
 use Rattle.api_shelf.proofs.asking.ask_first.Goals as goal
 
