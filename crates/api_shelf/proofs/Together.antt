@@ -18,7 +18,7 @@ use Rattle.api_shelf.specs.declared.device.DeviceFault.TheVariants.{Failed}
 use Rattle.api_shelf.specs.Asking.{pair_of, told_after, OnlyAt, FirstTells, CountRose}
 use Rattle.api_shelf.specs.declared.shelf.SlotOf.{SlotOf}
 use Rattle.api_shelf.specs.Shelf.{View, view_of, views, first_of, is_first, pairs_of, share_of, AllTell, AllAreSilent, count_of, IsLater}
-use Rattle.api_shelf.specs.Telling.{Log, HasLog, with_pair}
+use Rattle.api_shelf.specs.Telling.{Log, HasLog}
 use Rattle.api_shelf.proofs.Places.{passes_at, position_from-map, slice_get-set_here, slice_get-set_other, map-set, set_same}
 
 -- The device in this place was asked, the first of the call's class.
