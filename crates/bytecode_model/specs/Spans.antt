@@ -1,5 +1,5 @@
 -- The handlers of an exception table, found by spans of 64 instructions. (docs/LINKING.md)
-use Rattle.std.specs.Prelude.{◌≡◌, ℕ, ◌/◌, ◌⊎◌, false, List, [], ◌∷◌, ◌++◌, get_or, slice_get, filter, filter_map}
+use Rattle.std.specs.Prelude.{◌≡◌, ℕ, ◌/◌, ◌^◌, ◌<◌, ◌⊎◌, length, false, List, [], ◌∷◌, ◌++◌, get_or, slice_get, filter, filter_map}
 use Rattle.bytecode_model.specs.declared.program.Handler.{Handler}
 use Rattle.bytecode_model.specs.Rules.{covers}
 
@@ -14,6 +14,11 @@ handlers_at table places = filter_map (slice_get table) places
 -- Near each instruction all handlers are listed that cover it, in the table's order.
 abbrev pub AreListed : List (List ℕ) → List Handler → Type 0
 AreListed spans table = (at : ℕ) → filter (covers at) (handlers_at table (places_near spans at)) ≡ filter (covers at) table
+
+-- A place has 32 bits.
+pub record IsTable (spans : List (List ℕ)) (table : List Handler) : Type 0 where
+  pub few : length table < 2 ^ 32
+  pub listed : AreListed spans table
 
 -- The place of a handler is listed behind the others near each instruction that it covers.
 abbrev pub IsAdded : Handler → ℕ → List (List ℕ) → List (List ℕ) → Type 0

@@ -1,7 +1,7 @@
 //! The exception table of a method, in which the handlers near an instruction are found without a search.
 //! (The Java Virtual Machine Specification, section 4.7.3.)
 
-ghost use Rattle.std.specs.Prelude.{◌≡◌, ◌+◌, ◌≤◌, ◌∷◌, ◌++◌, ◌&&◌, [], ℕ, Contains, IfOk, MatchOption, OnOk};
+ghost use Rattle.std.specs.Prelude.{◌≡◌, ◌+◌, ◌≤◌, ◌<◌, ◌^◌, length, ◌∷◌, ◌++◌, ◌&&◌, [], ℕ, Contains, IfOk, MatchOption, OnOk};
 ghost use Rattle.std.specs.Prelude.{filter, get_or, if◌then◌else◌, nat_le, nat_lt, option_copied, vec_len};
 ghost use Rattle.bytecode_model.specs.Rules.{covers};
 ghost use Rattle.bytecode_model.specs.Spans.{AreListed, IsAdded, handlers_at, places_near};
@@ -30,11 +30,11 @@ impl Model for Handlers {
 
     ghost Value = { List Handler };
 
-    ghost use Rattle.bytecode_model.specs.Spans.{AreListed};
+    ghost use Rattle.bytecode_model.specs.Spans.{IsTable};
 
     ghost view = { λ h. h.list };
 
-    ghost invariant = { λ h. AreListed h.spans.items h.list };
+    ghost invariant = { λ h. IsTable h.spans.items h.list };
 }
 
 impl Handlers {
@@ -50,6 +50,7 @@ impl Handlers {
 
     /// The table of these handlers.
     pub fn new(alloc: Global, list: List<Handler>) -> Result<Handlers, NoMemory>
+        requires { length list < 2 ^ 32 }
         ensures { IfOk result (λ table. table ≡ list) }
     {
         let spans = spans_of(alloc, list.as_slice())?;
@@ -138,25 +139,16 @@ fn places_near(spans: &[List<u32>], at: u32) -> &[u32]
 
 /// For each span of instructions the places of the handlers that cover one of them.
 fn spans_of(alloc: Global, table: &[Handler]) -> Result<Vec<List<u32>>, NoMemory>
+    requires { length table.now < 2 ^ 32 }
     ensures { IfOk result (λ spans. AreListed spans.items table.now) }
 {
     let mut spans = Vec::new(alloc);
     let mut place: u32 = 0;
     for handler in table {
         add_handler(alloc, &mut spans, handler, place)?;
-        place = next_place(place)?;
+        place += 1;
     }
     Ok(spans)
-}
-
-/// The next place, if a number of 32 bits holds it.
-pub fn next_place(index: u32) -> Result<u32, NoMemory>
-    ensures { IfOk result (λ n. n ≡ index + 1) }
-{
-    match index.checked_add(1) {
-        Some(n) => Ok(n),
-        None => Err(NoMemory),
-    }
 }
 
 /// Adds the handler's place to each span that has an instruction which the handler covers.

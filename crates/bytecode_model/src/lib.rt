@@ -28,7 +28,7 @@ mod text;
 pub use arrays::{is_array, push_described};
 pub use by_name::{ByName, note, noted};
 pub use copying::{copy_classes, copy_insn, copy_keys};
-pub use exception_table::{Handlers, NearHandlers, next_place};
+pub use exception_table::{Handlers, NearHandlers};
 pub use files::unlink;
 pub use flags::{is_abstract, is_interface, is_native, is_public, is_static, is_synchronized};
 pub use heads::head_of;

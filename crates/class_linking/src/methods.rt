@@ -234,6 +234,7 @@ fn table_linked(
 ) -> Result<Handlers, LinkFault>
     requires short { len_from 0 insns.now ≤ 65535 }
     requires count { length insns.now ≤ 65535 }
+    requires table { length entries.now < 2 ^ 16 }
     ensures { Answers LinkFault.Memory result
         (handlers_linked index.now.files index.now.listing class.now pool.now method (length insns.now) (starts_of insns.now) entries.now) }
 {

@@ -3,6 +3,7 @@ use Rattle.std.proofs.Common.{◌≡◌, ℕ, ◌+◌, ◌*◌, ◌^◌, ◌≤�
 use Rattle.std.specs.Prelude.{slice_index}
 use Rattle.std.specs.List.{AllByRecursion}
 use Rattle.std.proofs.lemmas.List.{length-append, length-map}
+use Rattle.bytecode_model.specs.declared.program.Handler.{Handler}
 use Rattle.class_codec.specs.declared.tree.Const.{Const}
 use Rattle.insn_codec.specs.declared.insn.Insn.{Insn}
 use Rattle.insn_codec.specs.declared.insn.Insn.TheVariants as insns
@@ -13,7 +14,7 @@ use Rattle.offset_patch.specs.declared.block.BlockInsn.{BlockInsn}
 use Rattle.offset_patch.specs.declared.block.BlockInsn.TheVariants.{Plain, Byte, Short, Local, Want, Jump, Call}
 use Rattle.offset_patch.specs.Fits.{IsSite}
 use Rattle.offset_patch.specs.Length.{size_in, part_end, end_from, length_of}
-use Rattle.offset_patch.specs.Splicing.{part_of, aimed, put, parts_from, fronts_of, spliced, count_of}
+use Rattle.offset_patch.specs.Splicing.{part_of, aimed, put, parts_from, fronts_of, spliced, count_of, handlers_by, handlers_with, own_handlers, site_handlers, at_fronts}
 
 -- ---- sizes of single instructions
 
@@ -105,3 +106,24 @@ pub parts_few : (sites : List (Option Block)) → AllByRecursion IsSite sites �
 parts_few [] all = omega arith
 parts_few (None ∷ sites) all = omega (arith, parts_few sites all.1)
 parts_few (Some block ∷ sites) all = omega (arith, all.0.few, parts_few sites all.1)
+
+-- ---- how many handlers there are
+
+site_few : (begin : ℕ) (site : Option Block) → IsSite site → length (site_handlers begin site) ≤ length (part_of site)
+site_few begin None is = omega arith
+site_few begin (Some block) is = by block.handler where
+  by : (handler : Option ℕ) → length (handlers_by begin block.insns handler) ≤ length block.insns
+  by None = omega arith
+  by (Some place) = omega (arith, is.some)
+
+own_few : (begin : ℕ) (sites : List (Option Block)) → AllByRecursion IsSite sites → length (own_handlers begin sites) ≤ count_of sites
+own_few begin [] all = omega arith
+own_few begin (site ∷ sites) all =
+    let next = begin + length (part_of site) in
+    omega (arith, length-append (site_handlers begin site) (own_handlers next sites), site_few begin site all.0, own_few next sites all.1)
+
+pub handlers_few : (sites : List (Option Block)) (handlers : List Handler) → AllByRecursion IsSite sites
+    → length (handlers_with sites handlers) ≤ count_of sites + length handlers
+handlers_few sites handlers all =
+    let moved = map (at_fronts (fronts_of sites)) handlers in
+    omega (arith, length-append (own_handlers 0 sites) moved, own_few 0 sites all, length-map handlers (at_fronts (fronts_of sites)))

@@ -58,6 +58,7 @@ pub fn splice(
     requires sites { AllByRecursion IsSite sites.now }
     requires room { code.now.max_stack + 3 < 2 ^ 16 }
     requires slots { code.now.max_locals + locals < 2 ^ 16 }
+    requires handlers { length method.now.handlers < 2 ^ 16 }
     ensures is { Answers SpliceFault.Memory result
         (splice state class.now number (grown entries.old sites.now) method.now code.now locals sites.now) }
     ensures pool { OnOk result (entries.new ≡ grown entries.old sites.now) }
@@ -103,6 +104,7 @@ fn method_put(
     requires pool { length entries.old < 2 ^ 16 }
     requires there { AllByRecursion (IsThere entries.old) (wants_of sites.now) }
     requires length { length_of method.now.insns sites.now < 2 ^ 16 }
+    requires handlers { length method.now.handlers < 2 ^ 16 }
     ensures is { AnswersAs SpliceFault.Memory (λ made. made.code) result
         (bytes_spliced class.now number entries.old method.now code.now locals sites.now) }
     ensures made { IfOk result (λ made. made ≡ as_spliced state entries.old method.now sites.now made.code) }
@@ -153,6 +155,7 @@ fn own_and_moved(
     requires count { count_of sites.now < 2 ^ 16 }
     requires sites { AllByRecursion IsSite sites.now }
     requires fronts { fronts.now ≡ fronts_of sites.now }
+    requires handlers { length method.now.handlers < 2 ^ 16 }
     ensures { IfOk result (λ handlers. handlers ≡ handlers_with sites.now method.now.handlers) }
 {
     let list = handlers_with(alloc, fronts, sites, method.handlers.as_slice())?;

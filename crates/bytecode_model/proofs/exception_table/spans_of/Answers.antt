@@ -18,7 +18,7 @@ loop-handler-preserved c =
     let more : take i table ++ handler ∷ [] ≡ take (i + 1) table =
     ap (λ (h : Handler). take i table ++ h ∷ []) c.handler-item.is ∙ sym (take_more table i handler c.loop-handler-test.true) in
     record {
-      place = c.in_ok-place.ensures ∙ ap (λ n. n + 1) before.place;
+      place = ap (λ n. n + 1) before.place;
       listed = λ at.
           one_more (covers at) table (take i table) handler c.loop-handler.place (places_near c.loop-handler.spans.items at) (places_near c.add_handler.new.spans.items at) there
           (c.in_ok-add_handler.ensures at) (before.listed at)
