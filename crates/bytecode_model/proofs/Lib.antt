@@ -10,5 +10,6 @@ pub mod Passing
 pub mod Picking
 pub mod Placing
 pub mod Staying
+mod Texts
 pub mod Upwards
 mod ShapedUses

@@ -1,5 +1,5 @@
 -- Places of classes and names in a map: of each name the first counts. (docs/LINKING.md)
-use Rattle.std.specs.Prelude.{◌≡◌, ℕ, List, bytes_eq, Option, Vec}
+use Rattle.std.specs.Prelude.{◌≡◌, ℕ, ◌<◌, ◌^◌, length, List, bytes_eq, Option, Vec}
 use Rattle.std.specs.List.{position_from}
 use Rattle.std.specs.BTreeMap.{BTreeMap}
 use Rattle.std.specs.Global.{Global}
@@ -21,3 +21,8 @@ ClassesPlaced places classes = (q : List ℕ) → noted places q ≡ class_place
 -- The map has the place of each name.
 abbrev pub NamesPlaced : BTreeMap (Vec ℕ Global) ℕ → List (List ℕ) → Type 0
 NamesPlaced places names = (q : List ℕ) → noted places q ≡ name_place names q
+
+-- So it is of texts whose places have 32 bits.
+pub record AreTexts (places : BTreeMap (Vec ℕ Global) ℕ) (texts : List (List ℕ)) : Type 0 where
+  pub placed : NamesPlaced places texts
+  pub few : length texts < 2 ^ 32

@@ -1,7 +1,8 @@
 //! The string constants of a program, each text once.
 
-ghost use Rattle.std.specs.Prelude.{◌≡◌, IfOk, OnOk, option_copied};
-ghost use Rattle.std.specs.List.{fold, flat_map, filter_map};
+ghost use Rattle.std.specs.Prelude.{◌≡◌, ◌≤◌, IfOk, OnOk, length, option_copied};
+ghost use Rattle.std.specs.List.{AllByRecursion, fold, flat_map, filter_map};
+ghost use Rattle.class_codec.specs.Fits.{CanSpell};
 ghost use Rattle.bytecode_model.specs.Places.{NamesPlaced};
 ghost use Rattle.bytecode_model.specs.Operands.{literals_of, strings_in, place_of, text_of_string};
 ghost use Rattle.bytecode_model.specs.SearchOrder.{with_name};
@@ -22,18 +23,21 @@ pub struct Literals {
 
 impl Model for Literals {
     ghost use Rattle.std.specs.Prelude.{ℕ, List};
-    ghost use Rattle.bytecode_model.specs.Places.{NamesPlaced};
+    ghost use Rattle.bytecode_model.specs.Places.{AreTexts};
 
     ghost Value = { List (List ℕ) };
 
     ghost view = { λ l. l.texts };
 
-    ghost invariant = { λ l. NamesPlaced l.places l.texts };
+    ghost invariant = { λ l. AreTexts l.places l.texts };
 }
 
 impl Literals {
     /// The texts of the string constants of the files, in order.
+    #[tactic(auto, using(crate::proofs::Texts::literals_few))]
     pub fn new(alloc: Global, files: &[ClassFile]) -> Result<Literals, NoMemory>
+        requires count { length files.now ≤ 1001 }
+        requires fits { AllByRecursion CanSpell files.now }
         ensures { IfOk result (λ literals. literals ≡ literals_of files.now) }
     {
         let mut texts = List::new(alloc);
@@ -43,11 +47,11 @@ impl Literals {
     }
 
     /// The place of a text.
-    pub fn place(&self, text: &Bytes) -> usize
+    pub fn place(&self, text: &Bytes) -> u32
         ensures { result ≡ place_of self.now text.now }
     {
         match noted(&self.places, text.as_slice()) {
-            Some(place) => place,
+            Some(place) => place as u32,
             None => 0,
         }
     }

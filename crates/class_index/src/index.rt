@@ -251,15 +251,11 @@ impl<'a> Index<'a> {
         is_of_library(self.listing, &self.library.methods, id)
     }
 
-    /// The place of a text among the literals. No memory holds more texts than a number of 32 bits counts.
-    pub fn literal(&self, text: &Bytes) -> Result<u32, NoMemory>
-        ensures { IfOk result (λ place. place ≡ place_of (literals_of self.now.files) text.now) }
+    /// The place of a text among the literals.
+    pub fn literal(&self, text: &Bytes) -> u32
+        ensures { result ≡ place_of (literals_of self.now.files) text.now }
     {
-        let place = self.literals.place(text);
-        match u32::try_from(place) {
-            Ok(place) => Ok(place),
-            Err(_) => Err(NoMemory),
-        }
+        self.literals.place(text)
     }
 }
 

@@ -197,8 +197,7 @@ fn loaded(
         Const::Integer(n) => Ok(Target::Number(*n)),
         Const::Str(text) => {
             let text = copy_text(alloc, pool, *text)?;
-            let place = index.literal(&text)?;
-            Ok(Target::Literal(place))
+            Ok(Target::Literal(index.literal(&text)))
         }
         Const::Class(name) => {
             let name = copy_text(alloc, pool, *name)?;
