@@ -451,15 +451,16 @@ pub fn block(
 }
 
 /// How many locals the block of a method uses.
-pub fn locals_used(policy: &Policy, method: u32) -> usize
+pub fn locals_used(policy: &Policy, method: u32) -> u32
+    requires { IsPolicy policy.now }
     ensures { result ≡ locals_used policy.now method }
 {
     let arguments = match clause_at(policy, method, Phase::Before) {
-        Some(clause) => clause.args.len(),
+        Some(clause) => clause.args.len() as u32,
         None => 0,
     };
     let results = match clause_at(policy, method, Phase::After) {
-        Some(clause) => kept(clause.result) as usize,
+        Some(clause) => kept(clause.result),
         None => 0,
     };
     arguments.max(results)

@@ -58,7 +58,7 @@ impl<'a> Planner for PolicyPlan<'a> {
         }
     }
 
-    fn locals(&self, target: &Target) -> usize {
+    fn locals(&self, target: &Target) -> u32 {
         match target {
             Target::ApiMethod(method) => locals_used(self.policy, *method),
             _ => 0,

@@ -86,7 +86,7 @@ fn blocks_put<P: Planner>(
         (sites_of (P.plan planner.now) code.now.max_locals method.now)) }
     ensures pool { OnOk result (length entries.new < 2 ^ 16) }
 {
-    let locals = most_locals(planner, method.refs.as_slice())?;
+    let locals = most_locals(planner, method.refs.as_slice());
     room(alloc, class, number, code, locals)?;
     let sites = sites_of(alloc, planner, code.max_locals, method.refs.as_slice())?;
     with_blocks(
@@ -128,26 +128,17 @@ fn with_blocks(
     )
 }
 
-/// The greatest number of locals that a block uses. No memory holds more than a number of 32 bits counts.
-pub fn most_locals<P: Planner>(planner: &P, refs: &[Target]) -> Result<u32, NoMemory>
-    ensures { IfOk result (λ most. most ≡ most_locals (P.plan planner.now) refs.now) }
+/// The greatest number of locals that a block uses.
+pub fn most_locals<P: Planner>(planner: &P, refs: &[Target]) -> u32
+    ensures { result ≡ most_locals (P.plan planner.now) refs.now }
 {
     let mut most: u32 = 0;
     let mut left = refs;
     while let [target, rest @ ..] = left {
-        most = most.max(count(planner.locals(target))?);
+        most = most.max(planner.locals(target));
         left = rest;
     }
-    Ok(most)
-}
-
-fn count(n: usize) -> Result<u32, NoMemory>
-    ensures { IfOk result (λ count. count ≡ n) }
-{
-    match u32::try_from(n) {
-        Ok(count) => Ok(count),
-        Err(_) => Err(NoMemory),
-    }
+    most
 }
 
 /// For each instruction its block, if it has one. For calls of one method it is made once, and copied.

@@ -19,7 +19,7 @@ pub trait Planner {
         ensures { result ≡ (plan self.now).has_block target.now };
 
     /// How many locals that block uses.
-    fn locals(&self, target: &Target) -> usize
+    fn locals(&self, target: &Target) -> u32
         ensures { result ≡ (plan self.now).locals target.now };
 
     /// The block of the instruction, in a method whose own locals end at `base`.
