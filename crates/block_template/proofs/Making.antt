@@ -1,5 +1,5 @@
 -- Items of blocks in a map: of each method that a clause names, those of its block.
-use Rattle.std.proofs.Common.{◌≡◌, ℕ, Bool, true, false, cond, eqb, List, [], ◌∷◌, Option, Some, None, refl, sym, ap, ◌∙◌, ◌||◌, arith}
+use Rattle.std.proofs.Common.{◌≡◌, ℕ, ◌<◌, ◌^◌, length, Bool, true, false, cond, eqb, List, [], ◌∷◌, Option, Some, None, refl, sym, ap, ◌∙◌, ◌||◌, arith}
 use Rattle.std.specs.BTreeMap.{BTreeMap, get, is_at}
 use Rattle.std.specs.List.{list_any}
 use Rattle.std.specs.Map.{lookup}
@@ -11,9 +11,11 @@ use Rattle.cert_format.specs.declared.certificate.Mode.{Mode}
 use Rattle.conspec_automaton.specs.declared.policy.Clause.{Clause}
 use Rattle.conspec_automaton.specs.declared.policy.Policy.{Policy}
 use Rattle.conspec_automaton.specs.Next.{has_clauses}
+use Rattle.conspec_automaton.specs.Sound.{IsPolicy}
 use Rattle.block_template.specs.declared.item.Item.{Item}
 use Rattle.block_template.specs.Blocks.{bools_of, clauses_of, items}
 use Rattle.block_template.specs.Made.{known_items}
+use Rattle.block_template.proofs.Policies.{short_items}
 
 is_method : (a b : ℕ) → eqb a b ≡ true → a ≡ b
 is_method a b e = grind (arith, nat_tests)
@@ -54,3 +56,10 @@ is_known policy mode method found e = by (has_clauses policy method) e
         → (b ≡ true) × (found ≡ items mode (bools_of policy) 0 (clauses_of policy method))
     by true e = (refl, cc)
     by false e = absurd cc
+
+-- They are few.
+pub known_short : (policy : Policy) (mode : Mode) (method : ℕ) (found : List Item) → IsPolicy policy → Some found ≡ known_items policy mode policy.clauses method
+    → length found < 2 ^ 16
+known_short policy mode method found read e =
+    let short = short_items policy mode method read in
+    rw (is_known policy mode method found e).1 short

@@ -6,6 +6,7 @@ use Rattle.std.specs.List.{AllByRecursion}
 use Rattle.std.specs.Option.{option_map_or}
 use Rattle.std.proofs.lemmas.Bool.{and_parts}
 use Rattle.std.proofs.lemmas.Option.{slice_get_within}
+use Rattle.cert_format.specs.declared.certificate.Mode.{Mode}
 use Rattle.conspec_tree.specs.declared.types.Atom.{Atom}
 use Rattle.conspec_tree.specs.declared.types.Base.{Base}
 use Rattle.conspec_tree.specs.declared.types.Base.TheVariants as bases
@@ -21,10 +22,11 @@ use Rattle.conspec_automaton.specs.declared.policy.Branch.{Branch}
 use Rattle.conspec_automaton.specs.declared.policy.Clause.{Clause}
 use Rattle.conspec_automaton.specs.declared.policy.Policy.{Policy}
 use Rattle.conspec_automaton.specs.Sound.{IsBranchIn, IsClauseIn, IsPolicy}
-use Rattle.block_template.specs.Blocks.{clause_at, clauses_of, is_phase, kept, locals_used}
+use Rattle.block_template.specs.Blocks.{bools_of, clause_at, clauses_of, items, is_phase, kept, locals_used}
 use Rattle.block_template.specs.Parts.{asks_size, branches_size, updates_size}
 use Rattle.block_template.specs.Room.{HasLocal, HasLocals, IsRoomy, IsShort}
 use Rattle.block_template.proofs.Pigeonhole.{Into, OneToOne, pigeonhole}
+use Rattle.block_template.proofs.Sizes.{HasFewArguments, items_short}
 
 -- ---- what is found
 
@@ -226,9 +228,17 @@ policy_roomy policy method base read few =
 
 -- ---- a block that begins at local 0
 
-few_before : (policy : Policy) (o : Option Clause) → IfSome o (IsOf policy Before) → option_map_or (λ (c : Clause). length c.args) o 0 ≤ 255
-few_before policy None is = omega arith
-few_before policy (Some clause) is = is.fits.few_args
+-- Its clauses have few arguments.
+pub few_arguments : (policy : Policy) (method : ℕ) (phase : Phase) → IsPolicy policy → HasFewArguments (clause_at policy method phase)
+few_arguments policy method phase read = by (clause_at policy method phase) (clause_is policy method phase read)
+  where
+    by : (o : Option Clause) → IfSome o (IsOf policy phase) → HasFewArguments o
+    by None is = tt
+    by (Some clause) is = is.fits.few_args
+
+few_before : (o : Option Clause) → HasFewArguments o → option_map_or (λ (c : Clause). length c.args) o 0 ≤ 255
+few_before None few = omega arith
+few_before (Some clause) few = few
 
 few_result : (kind : Option Kind) → kept kind ≤ 1
 few_result None = omega arith
@@ -241,4 +251,9 @@ few_after (Some clause) = few_result clause.result
 -- Its locals are few.
 pub few_locals : (policy : Policy) (method : ℕ) → IsPolicy policy → 0 + locals_used policy method < 65536
 few_locals policy method is =
-    omega (arith, few_before policy (clause_at policy method Before) (clause_is policy method Before is), few_after (clause_at policy method After))
+    omega (arith, few_before (clause_at policy method Before) (few_arguments policy method Before is), few_after (clause_at policy method After))
+
+-- Its block is short.
+pub short_items : (policy : Policy) (mode : Mode) (method : ℕ) → IsPolicy policy → length (items mode (bools_of policy) 0 (clauses_of policy method)) < 2 ^ 16
+short_items policy mode method is =
+    items_short mode (bools_of policy) 0 (clauses_of policy method) (policy_roomy policy method 0 is (few_locals policy method is)) (few_arguments policy method Before is)

@@ -16,8 +16,8 @@ use Rattle.insn_codec.specs.declared.opcodes.TheConstants.{GOTO}
 use Rattle.block_template.specs.declared.item.Item.{Item}
 use Rattle.block_template.specs.declared.item.Role.TheVariants as roles
 use Rattle.block_template.specs.Pushing.{store}
-use Rattle.block_template.specs.Blocks.{Clauses, behind, called, catches, caught, checked, front, lets_pass, handler, kept, leave, released, rethrow, with_handler}
-use Rattle.block_template.specs.Room.{IsShort}
+use Rattle.block_template.specs.Blocks.{Clauses, behind, called, catches, caught, checked, from_call, front, items, lets_pass, handler, kept, leave, released, rethrow, with_handler}
+use Rattle.block_template.specs.Room.{IsRoomy, IsShort}
 use Rattle.block_template.specs.Parts.{
   asks,
   asks_size,
@@ -225,13 +225,13 @@ front_short Hold bools base None few short = omega arith
 front_short Release bools base (Some clause) few short = omega (arith, front_length Release bools base clause, short.size)
 front_short Hold bools base (Some clause) few short = omega (arith, front_length Hold bools base clause, short.size)
 
-pub behind_short : (mode : Mode) (bools : List Bool) (base at : ℕ) (o : Option Clause) → IfSome o (IsShort base) → length (behind mode bools base at o) < 2 ^ 21
+pub behind_short : (mode : Mode) (bools : List Bool) (base at : ℕ) (o : Option Clause) → IfSome o (IsShort base) → length (behind mode bools base at o) < 2 ^ 14
 behind_short Release bools base at None short = omega arith
 behind_short Hold bools base at None short = omega arith
 behind_short Release bools base at (Some clause) short = omega (arith, behind_length Release bools base at clause, kept_few clause.result, short.size)
 behind_short Hold bools base at (Some clause) short = omega (arith, behind_length Hold bools base at clause, kept_few clause.result, short.size)
 
-pub handler_short : (mode : Mode) (bools : List Bool) (base at : ℕ) (o : Option Clause) → IfSome o (IsShort base) → length (handler mode bools base at o) < 2 ^ 21
+pub handler_short : (mode : Mode) (bools : List Bool) (base at : ℕ) (o : Option Clause) → IfSome o (IsShort base) → length (handler mode bools base at o) < 2 ^ 14
 handler_short Release bools base at None short = omega arith
 handler_short Hold bools base at None short = omega arith
 handler_short Release bools base at (Some clause) short = omega (arith, handler_length Release bools base at clause, short.size)
@@ -252,9 +252,46 @@ rest mode bools base at clauses =
     behind mode bools base (at + 1) clauses.after ++ caught mode bools base (at + length (called mode bools base at clauses)) clauses
 
 pub caught_short : (mode : Mode) (bools : List Bool) (base at : ℕ) (clauses : Clauses) → IfSome clauses.exceptional (IsShort base)
-    → length (caught mode bools base at clauses) < 2 ^ 22
+    → length (caught mode bools base at clauses) < 2 ^ 15
 caught_short mode bools base at clauses short = by (catches mode clauses.exceptional)
   where
-    by : (b : Bool) → length (if b then with_handler mode bools base (at + 1) clauses else []) < 2 ^ 22
+    by : (b : Bool) → length (if b then with_handler mode bools base (at + 1) clauses else []) < 2 ^ 15
     by true = omega (arith, with_handler_length mode bools base (at + 1) clauses, handler_short mode bools base (at + 1) clauses.exceptional short)
     by false = omega arith
+
+-- ---- the whole block
+
+-- A clause has at most 255 arguments.
+abbrev pub HasFewArguments : Option Clause → Type 0
+HasFewArguments o = IfSome o (λ clause. length clause.args ≤ 255)
+
+front_few : (mode : Mode) (bools : List Bool) (base : ℕ) (o : Option Clause) → HasFewArguments o → IfSome o (IsShort base)
+    → length (front mode bools base o) < 2 ^ 14
+front_few Release bools base None few short = omega arith
+front_few Hold bools base None few short = omega arith
+front_few Release bools base (Some clause) few short = omega (arith, front_length Release bools base clause, short.size, few)
+front_few Hold bools base (Some clause) few short = omega (arith, front_length Hold bools base clause, short.size, few)
+
+from_call_short : (mode : Mode) (bools : List Bool) (base at : ℕ) (clauses : Clauses) → IsRoomy base clauses
+    → length (from_call mode bools base at clauses) < 2 ^ 15 + 2 ^ 14 + 1
+from_call_short mode bools base at clauses room =
+    let made = called mode bools base at clauses in
+    omega (
+      arith,
+      length-append made (caught mode bools base (at + length made) clauses),
+      behind_short mode bools base (at + 1) clauses.after room.after,
+      caught_short mode bools base (at + length made) clauses room.exceptional,
+    )
+
+pub items_short : (mode : Mode) (bools : List Bool) (base : ℕ) (clauses : Clauses) → IsRoomy base clauses → HasFewArguments clauses.before
+    → length (items mode bools base clauses) < 2 ^ 16
+items_short mode bools base clauses room few =
+    let first = front mode bools base clauses.before in
+    let later = from_call mode bools base (length first) clauses in
+    omega (
+      arith,
+      length-append first (if_reached (lets_pass clauses.before) later),
+      reached_length (lets_pass clauses.before) later,
+      front_few mode bools base clauses.before few room.before,
+      from_call_short mode bools base (length first) clauses room,
+    )

@@ -29,7 +29,7 @@ HasLocals base branch = AllByRecursion (λ (a : Atom). HasLocal base a.base) bra
 
 -- A check is short, and what it asks stands in locals.
 pub record IsShort (base : ℕ) (clause : Clause) : Type 0 where
-  pub size : branches_size clause.branches < 2 ^ 20
+  pub size : branches_size clause.branches < 2 ^ 13
   pub locals : AllByRecursion (HasLocals base) clause.branches
 
 -- So it is of each clause of a method. The arguments that are kept stand in locals, and so does the result.

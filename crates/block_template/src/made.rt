@@ -1,6 +1,6 @@
 //! The blocks of a policy as lists of items, each of which is made once.
 
-ghost use Rattle.std.specs.Prelude.{◌≡◌, ◌==◌, ℕ, None, Some, IfOk, OnOk, if◌then◌else◌};
+ghost use Rattle.std.specs.Prelude.{◌≡◌, ◌<◌, ◌^◌, ◌==◌, ℕ, None, Some, IfOk, IfSome, OnOk, if◌then◌else◌, length};
 ghost use Rattle.std.specs.BTreeMap.{get};
 ghost use Rattle.std.specs.Option.{option_copied, option_or};
 ghost use Rattle.std.specs.Ordering.{nat_cmp};
@@ -27,6 +27,7 @@ pub struct PolicyItems<'a> {
 }
 
 impl<'a> Model for PolicyItems<'a> {
+    ghost use Rattle.conspec_automaton.specs.Sound.{IsPolicy};
     ghost use Rattle.block_template.specs.Blocks.{Planned};
     ghost use Rattle.block_template.specs.Made.{HasItems};
 
@@ -34,7 +35,7 @@ impl<'a> Model for PolicyItems<'a> {
 
     ghost view = { λ p. record { policy = p.policy.now; mode = p.mode } };
 
-    ghost invariant = { λ p. HasItems p.policy.now p.mode p.made };
+    ghost invariant = { λ p. IsPolicy p.policy.now × HasItems p.policy.now p.mode p.made };
 }
 
 impl<'a> PolicyItems<'a> {
@@ -56,7 +57,8 @@ impl<'a> PolicyItems<'a> {
 
     /// The items of the block of this method, where a clause names it.
     pub fn of(&self, method: u32) -> Option<&[Item]>
-        ensures { option_copied result ≡ known_items self.now.policy self.now.mode self.now.policy.clauses method }
+        ensures is { option_copied result ≡ known_items self.now.policy self.now.mode self.now.policy.clauses method }
+        ensures few { IfSome result (λ items. length items.now < 2 ^ 16) }
     {
         match self.made.get(&method) {
             Some(items) => Some(items.as_slice()),

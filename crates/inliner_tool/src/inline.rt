@@ -331,6 +331,7 @@ fn unfit(fault: SpliceFault) -> Refusal
 
 /// What is woven, as the program that it links to, with its certificate, which is accepted.
 fn rewoven(alloc: Global, words: &InlineWords, given: Given, made: Woven) -> Result<Ready, Refusal>
+    requires sound { IsSound given.client }
     requires few { IsFew given.client.listing }
     requires listed { IsListed given.client.listing }
     requires policy { IsSoundFor given.client.listing given.policy }

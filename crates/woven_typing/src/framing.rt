@@ -1,7 +1,8 @@
 //! The frames of a method with its blocks.
 
-ghost use Rattle.std.specs.Prelude.{◌≡◌, ◌+◌, ◌++◌, IfOk, None, OnOk, length, map};
+ghost use Rattle.std.specs.Prelude.{◌≡◌, ◌+◌, ◌<◌, ◌^◌, ◌++◌, IfOk, None, OnOk, length, map};
 ghost use Rattle.std.specs.Option.{option_copied};
+ghost use Rattle.bytecode_model.specs.Sound.{IsSoundMethod};
 ghost use Rattle.offset_patch.specs.Splicing.{fronts_of, part_of};
 ghost use Rattle.block_template.specs.Blocks.{block, clauses_of, plan_of};
 ghost use Rattle.block_template.specs.declared.item.Item.{Item as SpecItem};
@@ -47,31 +48,29 @@ pub struct Weaving<'a> {
 // ---- where instructions stand
 
 /// How many instructions stand for one whose operand names this. A block has as many wherever its locals begin.
-fn part_size(items: &PolicyItems, target: &Target) -> Result<u32, NoMemory>
-    ensures { IfOk result (λ n. n ≡ length (part_of ((plan_of items.now.policy items.now.mode).block 0 target.now))) }
+fn part_size(items: &PolicyItems, target: &Target) -> u32
+    ensures is { result ≡ length (part_of ((plan_of items.now.policy items.now.mode).block 0 target.now)) }
+    ensures few { result < 2 ^ 16 }
 {
     match target {
         Target::ApiMethod(callee) => block_size(items, *callee),
-        _ => Ok(1),
+        _ => 1,
     }
 }
 
-fn block_size(items: &PolicyItems, callee: u32) -> Result<u32, NoMemory>
-    ensures { IfOk result (λ n. n ≡ length (part_of (block items.now.policy items.now.mode callee 0))) }
+fn block_size(items: &PolicyItems, callee: u32) -> u32
+    ensures is { result ≡ length (part_of (block items.now.policy items.now.mode callee 0)) }
+    ensures few { result < 2 ^ 16 }
 {
     match items.of(callee) {
-        None => Ok(1),
-        Some(block) => {
-            match u32::try_from(block.len()) {
-                Ok(n) => Ok(n),
-                Err(_) => Err(NoMemory),
-            }
-        }
+        None => 1,
+        Some(block) => block.len() as u32,
     }
 }
 
 /// The fronts of the parts, and where the last one ends.
 fn fronts_of(alloc: Global, items: &PolicyItems, refs: &[Target]) -> Result<List<u32>, NoMemory>
+    requires { length refs.now < 2 ^ 16 }
     ensures { IfOk result (λ made. made ≡ fronts_of (map ((plan_of items.now.policy items.now.mode).block 0) refs.now)) }
 {
     let mut fronts = List::with_room(alloc, refs.len().saturating_add(1))?;
@@ -81,6 +80,7 @@ fn fronts_of(alloc: Global, items: &PolicyItems, refs: &[Target]) -> Result<List
 
 /// Appends the fronts of the parts, and where the last one ends.
 fn put_fronts(fronts: &mut List<u32>, items: &PolicyItems, refs: &[Target]) -> Result<(), NoMemory>
+    requires { length refs.now < 2 ^ 16 }
     ensures { OnOk result (fronts.new ≡ fronts.old
         ++ fronts_of (map ((plan_of items.now.policy items.now.mode).block 0) refs.now)) }
 {
@@ -88,20 +88,10 @@ fn put_fronts(fronts: &mut List<u32>, items: &PolicyItems, refs: &[Target]) -> R
     let mut left = refs;
     while let [target, rest @ ..] = left {
         fronts.push(at)?;
-        at = sum(at, part_size(items, target)?)?;
+        at += part_size(items, target);
         left = rest;
     }
     fronts.push(at)
-}
-
-/// No code has more instructions than a number of 32 bits counts.
-fn sum(a: u32, b: u32) -> Result<u32, NoMemory>
-    ensures { IfOk result (λ n. n ≡ a + b) }
-{
-    match a.checked_add(b) {
-        Some(n) => Ok(n),
-        None => Err(NoMemory),
-    }
 }
 
 // ---- a method
@@ -148,6 +138,7 @@ impl<'a> Client<'a> {
         class: &'a LinkedClass,
         method: &'a Method,
     ) -> Result<Client<'a>, NoMemory>
+        requires { IsSoundMethod method.now }
         ensures { IfOk result (λ made. made ≡ client_of weaving.now.program.now
             weaving.now.items.now.policy weaving.now.items.now.mode own class.now method.now) }
     {
@@ -326,6 +317,7 @@ fn parts_framed(
     refs: &[Target],
     frames: &[Option<FrameType>],
 ) -> Result<Frames, NoMemory>
+    requires { length insns.now < 2 ^ 32 }
     ensures { IfOk result (λ made. made ≡ parts_framed client.now 0 insns.now refs.now frames.now) }
 {
     let mut out = List::with_room(alloc, client.fronts.end())?;
@@ -342,6 +334,7 @@ fn put_parts(
     refs: &[Target],
     frames: &[Option<FrameType>],
 ) -> Result<(), NoMemory>
+    requires { length insns.now < 2 ^ 32 }
     ensures { OnOk result (out.new ≡ out.old ++ parts_framed client.now 0 insns.now refs.now frames.now) }
 {
     let mut at: u32 = 0;
@@ -356,7 +349,7 @@ fn put_parts(
             return Ok(());
         };
         put_insn(alloc, out, client, at, insn, target, frame)?;
-        at = sum(at, 1)?;
+        at += 1;
         insns = later;
         refs = others;
         frames = rest;
@@ -370,6 +363,7 @@ pub fn frames_woven(
     client: &Client,
     frames: &[Option<FrameType>],
 ) -> Result<Frames, NoMemory>
+    requires { IsSoundMethod client.now.method }
     ensures { IfOk result (λ made. made ≡ frames_woven client.now frames.now) }
 {
     let method = client.method;

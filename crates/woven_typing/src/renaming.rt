@@ -34,17 +34,15 @@ fn front(fronts: &[u32], at: usize) -> u32
     }
 }
 
-/// By how much the code has grown. No code has more instructions than a number of 32 bits counts.
-fn growth(last: u32, count: usize) -> Result<u32, NoMemory>
-    ensures { IfOk result (λ more. more ≡ last - count) }
+/// By how much the code has grown.
+fn growth(last: u32, count: usize) -> u32
+    ensures { result ≡ last - count }
 {
-    match u32::try_from(count) {
-        Ok(count) => Ok(last.saturating_sub(count)),
-        Err(_) => Ok(0),
-    }
+    (last as usize).saturating_sub(count) as u32
 }
 
-/// Where what stands at the index stands now.
+/// Where what stands at the index stands now. An index in a typing may be any of 32 bits: that those of a typed method stand in
+/// its code is not among what is known of typings, so one far behind the code is answered as want of memory.
 fn moved(fronts: &Fronts, at: u32) -> Result<u32, NoMemory>
     ensures { IfOk result (λ to. to ≡ moved_by fronts.now.list fronts.now.count at) }
 {
@@ -52,7 +50,7 @@ fn moved(fronts: &Fronts, at: u32) -> Result<u32, NoMemory>
     if (at as usize) < fronts.count {
         return Ok(front(list, at as usize));
     }
-    let more = growth(front(list, fronts.count), fronts.count)?;
+    let more = growth(front(list, fronts.count), fronts.count);
     match at.checked_add(more) {
         Some(to) => Ok(to),
         None => Err(NoMemory),

@@ -1,6 +1,8 @@
 //! The typing of a woven program.
 
-ghost use Rattle.std.specs.Prelude.{◌≡◌, ◌++◌, IfOk, OnOk};
+ghost use Rattle.std.specs.Prelude.{◌≡◌, ◌≤◌, ◌++◌, length, IfOk, OnOk};
+ghost use Rattle.std.specs.List.{AllByRecursion};
+ghost use Rattle.bytecode_model.specs.Sound.{IsSound, IsSoundClass, IsSoundMethod};
 ghost use Rattle.conspec_automaton.specs.Sound.{IsPolicy};
 ghost use Rattle.bytecode_model.specs.Typed.{list_at};
 ghost use Rattle.woven_typing.specs.Framing.{
@@ -29,6 +31,7 @@ fn method_framed(
     method: &Method,
     told: &[Frames],
 ) -> Result<Frames, NoMemory>
+    requires { IsSoundMethod method.now }
     ensures { IfOk result (λ made. made
         ≡ frames_woven (client_of weaving.now.program.now weaving.now.items.now.policy weaving.now.items.now.mode
         own class.now method.now) (list_at told.now 0)) }
@@ -46,6 +49,7 @@ fn methods_framed(
     methods: &[Method],
     told: &[Frames],
 ) -> Result<List<Frames>, NoMemory>
+    requires { AllByRecursion IsSoundMethod methods.now }
     ensures { IfOk result (λ made. made
         ≡ methods_framed weaving.now.program.now weaving.now.items.now.policy weaving.now.items.now.mode
         own class.now methods.now told.now) }
@@ -65,6 +69,7 @@ fn put_methods(
     methods: &[Method],
     told: &[Frames],
 ) -> Result<(), NoMemory>
+    requires { AllByRecursion IsSoundMethod methods.now }
     ensures { OnOk result (made.new ≡ made.old
         ++ methods_framed weaving.now.program.now weaving.now.items.now.policy weaving.now.items.now.mode
         own class.now methods.now told.now) }
@@ -89,6 +94,8 @@ fn classes_framed(
     classes: &[LinkedClass],
     told: &[List<Frames>],
 ) -> Result<List<List<Frames>>, NoMemory>
+    requires few { length classes.now ≤ 1001 }
+    requires sound { AllByRecursion IsSoundClass classes.now }
     ensures { IfOk result (λ made. made
         ≡ classes_framed weaving.now.program.now weaving.now.items.now.policy weaving.now.items.now.mode
         0 classes.now told.now) }
@@ -106,6 +113,8 @@ fn put_classes(
     classes: &[LinkedClass],
     told: &[List<Frames>],
 ) -> Result<(), NoMemory>
+    requires few { length classes.now ≤ 1001 }
+    requires sound { AllByRecursion IsSoundClass classes.now }
     ensures { OnOk result (made.new ≡ made.old
         ++ classes_framed weaving.now.program.now weaving.now.items.now.policy weaving.now.items.now.mode
         0 classes.now told.now) }
@@ -117,10 +126,7 @@ fn put_classes(
         let methods = class.methods.as_slice();
         let one = methods_framed(alloc, weaving, own, class, methods, list_at(told, 0))?;
         made.push(one)?;
-        let Some(next) = own.checked_add(1) else {
-            return Err(NoMemory);
-        };
-        own = next;
+        own += 1;
         classes = later;
         told = behind_first(told);
     }
@@ -135,7 +141,8 @@ pub fn typing_of(
     mode: Mode,
     typing: &Typing,
 ) -> Result<Typing, NoMemory>
-    requires { IsPolicy policy.now }
+    requires sound { IsSound program.now }
+    requires policy { IsPolicy policy.now }
     ensures { IfOk result (λ made. made ≡ typing_of program.now policy.now mode typing.now) }
 {
     let items = PolicyItems::new(alloc, policy, mode)?;
