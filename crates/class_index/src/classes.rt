@@ -90,7 +90,8 @@ impl Classes {
     }
 }
 
-/// How many interfaces the classes name. No memory holds more than a number of 64 bits counts.
+/// How many interfaces the classes name. What is known of a listing bounds its classes, and not the interfaces that each names, so
+/// more than a number of 64 bits counts is answered as want of memory.
 fn count_interfaces(classes: &[ListedClass]) -> Result<u64, NoMemory>
     ensures { IfOk result (λ count. count ≡ length (interfaces_of classes.now)) }
 {

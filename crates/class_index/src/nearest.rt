@@ -101,7 +101,7 @@ fn no_versions(alloc: Global, numbers: &Numbers) -> Result<Versions, NoMemory>
     let mut nodes = List::new(alloc);
     nodes.push(Halves { even: 0, odd: 0 })?;
     Ok(Versions {
-        depth: depth_of(numbers.len())?,
+        depth: depth_of(numbers.len()),
         nodes,
         places: BTreeMap::new(alloc),
     })

@@ -14,21 +14,21 @@ pub struct Halves {
     pub odd: usize,
 }
 
-/// How often so many items can be halved until one is left. No memory holds more than a number of 64 bits counts.
-pub fn depth_of(count: usize) -> Result<usize, NoMemory>
-    ensures { IfOk result (λ depth. count ≤ 2 ^ depth) }
+/// How often so many items can be halved until one is left.
+pub fn depth_of(count: usize) -> usize
+    ensures { count ≤ 2 ^ result }
 {
     let mut size: usize = 1;
     for depth in 0..63 {
         if count <= size {
-            return Ok(depth);
+            return depth;
         }
         let Some(double) = size.checked_mul(2) else {
-            return Err(NoMemory);
+            return 64;
         };
         size = double;
     }
-    Err(NoMemory)
+    64
 }
 
 /// The item of this number.
