@@ -5,7 +5,6 @@ use Rattle.cert_format.specs.declared.note.Phase8.{Phase8}
 use Rattle.cert_format.specs.declared.note.Phase8.TheVariants as sites
 use Rattle.cert_format.specs.declared.note.Site.{Site}
 use Rattle.conspec_tree.specs.declared.types.Kind.{Kind}
-use Rattle.conspec_tree.specs.declared.types.Kind.TheVariants as kinds
 use Rattle.conspec_tree.specs.declared.types.Phase.{Phase}
 use Rattle.conspec_tree.specs.declared.types.Phase.TheVariants as phases
 use Rattle.conspec_automaton.specs.declared.policy.Clause.{Clause}
@@ -35,11 +34,3 @@ clause_for policy method = find (λ (c : Clause). c.method == method) policy.cla
 -- what a method gives that the policy has a clause for; each of its clauses tells the same
 abbrev pub result_kind : Policy → ℕ → Option Kind
 result_kind policy method = option_and_then (λ (c : Clause). c.result) (clause_for policy method)
-
-abbrev pub is_number : Kind → Bool
-is_number kinds.Object = false
-is_number kinds.Int = true
-is_number kinds.Bool = true
-is_number kinds.Byte = true
-is_number kinds.Short = true
-is_number kinds.Char = true

@@ -1,6 +1,6 @@
 -- What a note means for the machine: what its thread owns, what stands on its stack, what it is granted and owes.
 -- (docs/CERTIFICATES.md)
-use Rattle.std.specs.Prelude.{◌≡◌, ◌⊎◌, ◌&&◌, not, ℕ, zero, suc, ◌+◌, ◌+ℤ◌, ◌<◌, ◌≤◌, ℤ, pos, Bool, true, false, if◌then◌else◌, is_some, IfSome, List, [], ◌∷◌, ◌++◌, length, map, reverse, Option, Some, None, option_map, option_and_then, slice_get}
+use Rattle.std.specs.Prelude.{◌≡◌, ◌⊎◌, ◌&&◌, not, ℕ, zero, suc, ◌+◌, ◌+ℤ◌, ◌<◌, ◌≤◌, ℤ, pos, Bool, true, false, if◌then◌else◌, IfSome, List, [], ◌∷◌, ◌++◌, length, map, reverse, Option, Some, None, option_map, option_and_then, slice_get}
 use Rattle.std.specs.List.{AllByRecursion}
 use Rattle.std.specs.Option.{option_map_or}
 use Rattle.api_listing.specs.declared.events.Event.{Event}
@@ -27,7 +27,7 @@ use Rattle.conspec_automaton.specs.declared.policy.Branch.{Branch}
 use Rattle.conspec_automaton.specs.declared.policy.Clause.{Clause}
 use Rattle.conspec_automaton.specs.declared.policy.Policy.{Policy}
 use Rattle.conspec_automaton.specs.Next.{Values, argument, holds, is_taken, moment, returned}
-use Rattle.conspec_automaton.specs.Events.{number_range}
+use Rattle.conspec_tree.specs.Kinds.{is_number}
 use Rattle.conspec_automaton.specs.Obeys.{is_return}
 use Rattle.conspec_automaton.specs.Racing.{IsRaceFreeFor, Pairs}
 use Rattle.conspec_automaton.specs.Sight.{sight_of}
@@ -120,7 +120,7 @@ pub record IsEventOf (site : Site) (event : Event) : Type 0 where
 -- What is known of an argument is told. Where the lock is not held round each call, and where a number is to be, one may be told where
 -- none is known.
 abbrev pub TellsOne : Bool → Kind → Option ℤ → Option ℤ → Type 0
-TellsOne strict kind known told = (known ≡ told) ⊎ ((strict ≡ false) × (known ≡ None) × (is_some (number_range kind) ≡ true))
+TellsOne strict kind known told = (known ≡ told) ⊎ ((strict ≡ false) × (known ≡ None) × (is_number kind ≡ true))
 
 -- the locals from the base on hold the numbers of a call's arguments
 pub record TellsArguments (strict : Bool) (base : ℕ) (kinds : List Kind) (locals : List Value) (event : Event) : Type 0 where

@@ -22,10 +22,11 @@ use Rattle.conspec_automaton.specs.declared.policy.Clause.{Clause}
 use Rattle.conspec_automaton.specs.declared.policy.Policy.{Policy}
 use Rattle.block_logic.specs.Annotations.{holds_round}
 use Rattle.block_logic.specs.declared.held_calls.HeldCalls.{HeldCalls}
-use Rattle.block_logic.specs.Clauses.{clause_at, clause_of, is_number, needs, result_kind}
+use Rattle.block_logic.specs.Clauses.{clause_at, clause_of, needs, result_kind}
 use Rattle.block_logic.specs.Operands.{adds, calls, compared, enters, goes, is_way_out, leaves, loaded, loaded_number, number_pushed, pushes, pushes_null, pushes_state, reads_static, stored, throws, variable_named, writes_static}
 use Rattle.block_logic.specs.Standing.{asks_kept, begun, branches_of, is_after, is_before, is_done, in_phase}
 use Rattle.block_logic.specs.Terms.{base_term, same_term, same_terms}
+use Rattle.conspec_tree.specs.Kinds.{is_number}
 
 -- what the rules are told besides: of which methods the lock is held round each call, the policy, and the number of the class that
 -- holds its variables

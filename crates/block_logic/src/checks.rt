@@ -12,7 +12,6 @@ ghost use Rattle.block_logic.specs.Rows.{tests, with_terms, writes, writing_row}
 ghost use Rattle.block_logic.specs.Standing.{is_done};
 ghost use Rattle.block_logic.specs.Terms.{same_terms};
 
-use crate::clauses::is_number;
 use crate::lent::{AskedRef, CheckRef, HeldRef, NoteRef, RowRef, TermsRef, WideTerm, gives, leads};
 use crate::operands::{
     adds, compared, goes, leaves, loaded_number, number_pushed, pushes_state, reads_static,
@@ -24,7 +23,7 @@ use crate::terms::{base_term, last_but_one, last_term, same_term, same_terms, wi
 use bytecode_model::Target;
 use cert_format::{Site, Term};
 use conspec_automaton::{Clause, Policy};
-use conspec_tree::{Atom, Rel};
+use conspec_tree::{Atom, Rel, is_number};
 use insn_codec::{Relation, Shape};
 
 // ---- what is pushed

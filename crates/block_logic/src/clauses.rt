@@ -1,7 +1,7 @@
 //! What a policy tells of a site: its clause, and the arguments and the result of its method.
 
 ghost use Rattle.std.specs.Prelude.{◌≡◌, option_copied};
-ghost use Rattle.block_logic.specs.Clauses.{clause_at, clause_of, is_number, is_of_phase, needs, result_kind, clause_for};
+ghost use Rattle.block_logic.specs.Clauses.{clause_at, clause_of, is_of_phase, needs, result_kind, clause_for};
 
 use cert_format::{Phase8, Site};
 use conspec_automaton::{Clause, Policy};
@@ -61,11 +61,4 @@ fn clause_for(policy: &Policy, method: u32) -> Option<&Clause>
         .as_slice()
         .iter()
         .find(|clause| clause.method == method)
-}
-
-/// Whether values of the kind are numbers.
-pub fn is_number(kind: Kind) -> bool
-    ensures { result ≡ is_number kind }
-{
-    !matches!(kind, Kind::Object)
 }

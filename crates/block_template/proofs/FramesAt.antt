@@ -1,38 +1,5 @@
 -- The types before a call and behind it, at the roles of a block.
-use Rattle.std.proofs.Common.{
-  ◌≡◌,
-  ◌≢◌,
-  ℕ,
-  zero,
-  suc,
-  ◌+◌,
-  ◌-◌,
-  ◌<◌,
-  ◌≤◌,
-  Bool,
-  true,
-  false,
-  cond,
-  List,
-  [],
-  ◌∷◌,
-  ◌++◌,
-  length,
-  map,
-  drop,
-  replicate,
-  Option,
-  Some,
-  None,
-  refl,
-  sym,
-  ap,
-  subst,
-  ◌∙◌,
-  append-nil,
-  arith,
-  length-append,
-}
+use Rattle.std.proofs.Common.{◌≡◌, ℕ, zero, suc, ◌+◌, ◌-◌, ◌<◌, ◌≤◌, Bool, true, false, cond, List, [], ◌∷◌, ◌++◌, length, map, drop, replicate, Option, Some, None, refl, sym, ap, subst, ◌∙◌, append-nil, arith, length-append}
 use Rattle.std.specs.Prelude.{◌==◌, IfSome, is_some, option_and_then, slice_get}
 use Rattle.std.specs.Option.{option_map_or}
 use Rattle.std.proofs.lemmas.Bool.{and_parts}
@@ -99,24 +66,25 @@ use Rattle.block_template.proofs.Types.{
   topmost_there,
   type_right,
 }
+use Rattle.conspec_tree.specs.Kinds.{is_number}
 
 -- ---- kinds
 
-pub is_number : (t : VType) → of_kind operands.Int t ≡ true → t ≡ types.Int
-is_number types.Int e = refl
-is_number types.Top e = absurd cc
-is_number types.Null e = absurd cc
-is_number (types.Ref name) e = absurd cc
-is_number types.UninitThis e = absurd cc
-is_number (types.Uninit i) e = absurd cc
+pub is_int : (t : VType) → of_kind operands.Int t ≡ true → t ≡ types.Int
+is_int types.Int e = refl
+is_int types.Top e = absurd cc
+is_int types.Null e = absurd cc
+is_int (types.Ref name) e = absurd cc
+is_int types.UninitThis e = absurd cc
+is_int (types.Uninit i) e = absurd cc
 
-pub holds_number : (kind : Kind) (t : VType) → kind ≢ kinds.Object → kept_kind kind t ≡ true → t ≡ types.Int
-holds_number kinds.Object t other e = absurd (other refl)
-holds_number kinds.Int t other e = is_number t e
-holds_number kinds.Bool t other e = is_number t e
-holds_number kinds.Byte t other e = is_number t e
-holds_number kinds.Short t other e = is_number t e
-holds_number kinds.Char t other e = is_number t e
+pub holds_number : (kind : Kind) (t : VType) → is_number kind ≡ true → kept_kind kind t ≡ true → t ≡ types.Int
+holds_number kinds.Object t number e = absurd cc
+holds_number kinds.Int t number e = is_int t e
+holds_number kinds.Bool t number e = is_int t e
+holds_number kinds.Byte t number e = is_int t e
+holds_number kinds.Short t number e = is_int t e
+holds_number kinds.Char t number e = is_int t e
 
 pub held_at : (args : List Kind) (ts : List VType) (n : ℕ) (kind : Kind) → all_met (map kept_kind args) ts ≡ true
     → slice_get args n ≡ Some kind → kept_kind kind (type_at ts n) ≡ true

@@ -56,7 +56,6 @@ use Rattle.conspec_tree.specs.declared.types.Atom.{Atom}
 use Rattle.conspec_tree.specs.declared.types.Base.{Base}
 use Rattle.conspec_tree.specs.declared.types.Base.TheVariants as bases
 use Rattle.conspec_tree.specs.declared.types.Kind.{Kind}
-use Rattle.conspec_tree.specs.declared.types.Kind.TheVariants as kinds
 use Rattle.conspec_tree.specs.declared.types.Phase.{Phase}
 use Rattle.conspec_tree.specs.declared.types.Phase.TheVariants.{Before, After, Exceptional}
 use Rattle.conspec_tree.specs.declared.types.Update.{Update}
@@ -133,6 +132,7 @@ use Rattle.block_template.proofs.Types.{
   type_left,
   type_right,
 }
+use Rattle.conspec_tree.specs.Kinds.{is_number}
 
 kept_one : (o : Option Kind) → is_some o ≡ true → kept o ≡ 1
 kept_one None e = absurd cc
@@ -538,7 +538,7 @@ module _ (mode : Mode) (bools : List Bool) (vars : List Var) (maxint : ℤ) (cla
   asks_of phase n m atom None e f = absurd cc
   asks_of phase n m atom (Some clause) e f = asks_in phase m atom clause n e (slice_get clause.branches n) refl f
 
-  number_of : (o : Option Kind) → IsNumber o → (kind : Kind) × (o ≡ Some kind) × (kind ≢ kinds.Object)
+  number_of : (o : Option Kind) → IsNumber o → (kind : Kind) × (o ≡ Some kind) × (is_number kind ≡ true)
   number_of None n = absurd n
   number_of (Some kind) n = (kind, refl, n)
 

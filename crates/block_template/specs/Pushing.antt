@@ -5,7 +5,6 @@ use Rattle.std.specs.Option.{option_map_or}
 use Rattle.conspec_tree.specs.declared.types.Base.{Base}
 use Rattle.conspec_tree.specs.declared.types.Base.TheVariants as bases
 use Rattle.conspec_tree.specs.declared.types.Kind.{Kind}
-use Rattle.conspec_tree.specs.declared.types.Kind.TheVariants as kinds
 use Rattle.conspec_tree.specs.declared.types.Rel.{Rel}
 use Rattle.conspec_tree.specs.declared.types.Rel.TheVariants as relations
 use Rattle.conspec_tree.specs.declared.types.Var.{Var}
@@ -38,6 +37,7 @@ use Rattle.insn_codec.specs.declared.opcodes.TheConstants.{
   IF_ICMPLE,
   GETSTATIC,
 }
+use Rattle.conspec_tree.specs.Kinds.{is_number}
 
 -- ---- locals
 
@@ -47,13 +47,11 @@ local short op slot = if nat_lt slot 4 then Plain (short + slot) else Local op s
 
 -- istore, and astore for a class or an array
 abbrev pub store : Kind → ℕ → BlockInsn
-store kinds.Object slot = local ASTORE_0 ASTORE slot
-store number slot = local ISTORE_0 ISTORE slot
+store kind slot = if is_number kind then local ISTORE_0 ISTORE slot else local ASTORE_0 ASTORE slot
 
 -- iload, and aload
 abbrev pub load : Kind → ℕ → BlockInsn
-load kinds.Object slot = local ALOAD_0 ALOAD slot
-load number slot = local ILOAD_0 ILOAD slot
+load kind slot = if is_number kind then local ILOAD_0 ILOAD slot else local ALOAD_0 ALOAD slot
 
 -- ---- numbers
 

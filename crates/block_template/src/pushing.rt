@@ -4,7 +4,7 @@ ghost use Rattle.std.specs.Prelude.{◌≡◌, ◌<◌};
 ghost use Rattle.block_template.specs.Pushing.{bools_in, field, load, local, negated, push, push_base, store};
 ghost use Rattle.block_template.specs.Room.{HasLocal};
 
-use conspec_tree::{Base, Kind, Rel, Var};
+use conspec_tree::{Base, Kind, Rel, Var, is_number};
 use insn_codec::opcodes::{
     ALOAD, ALOAD_0, ASTORE, ASTORE_0, GETSTATIC, ICONST_0, ICONST_1, ICONST_2, ICONST_3, ICONST_4,
     ICONST_5, ICONST_M1, IF_ICMPEQ, IF_ICMPGE, IF_ICMPGT, IF_ICMPLE, IF_ICMPLT, IF_ICMPNE, ILOAD,
@@ -16,9 +16,10 @@ use offset_patch::{BlockInsn, PoolWant};
 pub fn store(kind: Kind, slot: u16) -> BlockInsn
     ensures { result ≡ store kind slot }
 {
-    match kind {
-        Kind::Object => local(ASTORE_0, ASTORE, slot),
-        _ => local(ISTORE_0, ISTORE, slot),
+    if is_number(kind) {
+        local(ISTORE_0, ISTORE, slot)
+    } else {
+        local(ASTORE_0, ASTORE, slot)
     }
 }
 
@@ -26,9 +27,10 @@ pub fn store(kind: Kind, slot: u16) -> BlockInsn
 pub fn load(kind: Kind, slot: u16) -> BlockInsn
     ensures { result ≡ load kind slot }
 {
-    match kind {
-        Kind::Object => local(ALOAD_0, ALOAD, slot),
-        _ => local(ILOAD_0, ILOAD, slot),
+    if is_number(kind) {
+        local(ILOAD_0, ILOAD, slot)
+    } else {
+        local(ALOAD_0, ALOAD, slot)
     }
 }
 

@@ -25,7 +25,6 @@ use Rattle.conspec_tree.specs.declared.types.Atom.{Atom}
 use Rattle.conspec_tree.specs.declared.types.Base.{Base}
 use Rattle.conspec_tree.specs.declared.types.Base.TheVariants as bases
 use Rattle.conspec_tree.specs.declared.types.Kind.{Kind}
-use Rattle.conspec_tree.specs.declared.types.Kind.TheVariants as kinds
 use Rattle.conspec_tree.specs.declared.types.Phase.{Phase}
 use Rattle.conspec_tree.specs.declared.types.Phase.TheVariants.{Before, After, Exceptional}
 use Rattle.conspec_tree.specs.declared.types.Update.{Update}
@@ -42,7 +41,6 @@ use Rattle.block_template.specs.Flow.{branches_of as branches_told, held as held
 use Rattle.block_template.specs.Pushing.{field, local, negated, push, push_base}
 use Rattle.block_template.specs.Steps.{ask_size, ask_steps, step_insn, update_size, update_steps}
 use Rattle.block_template.proofs.CheckFlows.{base_stays, push_stays}
-use Rattle.block_logic.specs.Clauses.{is_number}
 use Rattle.block_logic.specs.Operands.{calls}
 use Rattle.block_logic.specs.Rows as rows
 use Rattle.block_logic.specs.Rows.{Asked, Given, Row, gives, is_addend, term_pushed}
@@ -56,6 +54,7 @@ use Rattle.cert_maker.proofs.Roles.{IsNoted, done_wide, held_noted, loading_arri
 use Rattle.cert_maker.proofs.Rows.{held_adds, held_goes, held_pushes, held_tests, held_writes, argument_pushed, result_pushed, tested, variable_pushed}
 use Rattle.cert_maker.proofs.Shapes.{compares, named, number_loaded, placed, pushed}
 use Rattle.cert_maker.proofs.Updates.{unchanged, update_made, variable_there}
+use Rattle.conspec_tree.specs.Kinds.{is_number}
 
 module _ (b : Blocked) (pool : List Const) (fronts : List ℕ) (begin : ℕ) (own : Insn) (ref : Target) where
   abbrev Is : Role → BlockInsn → Type 0
@@ -85,17 +84,9 @@ module _ (b : Blocked) (pool : List Const) (fronts : List ℕ) (begin : ℕ) (ow
     abbrev rows_of : ℕ → List Term → List Term → Shape → Target → Option Row
     rows_of holding map list s t = rows.row (rules b) (notes.Held (site b p) n holding list map) s t
 
-    number_is : (kind : Kind) → kind ≢ kinds.Object → is_number kind ≡ true
-    number_is kinds.Object other = absurd (other refl)
-    number_is kinds.Int other = refl
-    number_is kinds.Bool other = refl
-    number_is kinds.Byte other = refl
-    number_is kinds.Short other = refl
-    number_is kinds.Char other = refl
-
     number_of : (o : Option Kind) → IsNumber o → (kind : Kind) × (o ≡ Some kind) × (is_number kind ≡ true)
     number_of None e = absurd e
-    number_of (Some kind) e = (kind, refl, number_is kind e)
+    number_of (Some kind) e = (kind, refl, e)
 
     -- The base of an atom is pushed.
     record IsPushed (asks : Base) : Type 0 where

@@ -25,7 +25,7 @@ use Rattle.conspec_tree.specs.declared.types.Rel.TheVariants as relations
 use Rattle.conspec_automaton.specs.declared.policy.Branch.{Branch}
 use Rattle.conspec_automaton.specs.declared.policy.Clause.{Clause}
 use Rattle.block_logic.specs.Annotations.{holds_round}
-use Rattle.block_logic.specs.Clauses.{clause_of, is_number, needs, result_kind}
+use Rattle.block_logic.specs.Clauses.{clause_of, needs, result_kind}
 use Rattle.block_logic.specs.Operands.{leaves, loaded, pushes_state, stored}
 use Rattle.block_logic.specs.Rows as rows
 use Rattle.block_logic.specs.Rows.{Given, Nothing, Open, Row, Rules, asks_atom, gives, is_addend, leads, may_keep, may_leave, may_push, returned, term_pushed, thrown}
@@ -33,6 +33,7 @@ use Rattle.block_logic.specs.Standing.{asks_kept, begun, is_after, is_before}
 use Rattle.block_logic.specs.Terms.{base_term}
 use Rattle.cert_maker.proofs.Same.{same_bool, same_number, term_itself}
 use Rattle.cert_maker.proofs.Shapes.{negation}
+use Rattle.conspec_tree.specs.Kinds.{is_number}
 
 pub and_false : (b : Bool) → (b && false) ≡ false
 and_false true = refl

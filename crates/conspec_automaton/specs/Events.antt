@@ -1,33 +1,16 @@
 -- The events that a running program can make: a number is passed where a method takes one, and a result is in the range of
 -- its type. (docs/POLICIES.md)
-use Rattle.std.specs.Prelude.{◌≡◌, ℕ, ℤ, pos, ◌-ℤ◌, true, Option, Some, None, option_and_then, slice_get}
+use Rattle.std.specs.Prelude.{◌≡◌, ℕ, ℤ, true, Option, Some, None, slice_get}
 use Rattle.api_listing.specs.declared.events.ApiValue.{ApiValue}
 use Rattle.api_listing.specs.declared.events.ApiValue.TheVariants as api
 use Rattle.api_listing.specs.declared.events.Event.{Event}
 use Rattle.api_listing.specs.declared.events.Event.TheVariants as events
 use Rattle.conspec_tree.specs.declared.types.Kind.{Kind}
-use Rattle.conspec_tree.specs.declared.types.Kind.TheVariants as kinds
+use Rattle.conspec_tree.specs.Kinds.{number_range, passed_range}
 use Rattle.conspec_automaton.specs.declared.policy.Clause.{Clause}
 use Rattle.conspec_automaton.specs.declared.policy.Policy.{Policy}
 use Rattle.conspec_automaton.specs.Next.{clause_of}
 use Rattle.conspec_automaton.specs.Range.{is_between}
-
--- ---- the numbers of a type
-
--- the least and the greatest number of the type; an object is no number
-abbrev pub number_range : Kind → Option (ℤ × ℤ)
-number_range kinds.Int = Some (pos 0 -ℤ pos 2147483648, pos 2147483647)
-number_range kinds.Bool = Some (pos 0, pos 1)
-number_range kinds.Byte = Some (pos 0 -ℤ pos 128, pos 127)
-number_range kinds.Short = Some (pos 0 -ℤ pos 32768, pos 32767)
-number_range kinds.Char = Some (pos 0, pos 65535)
-number_range kinds.Object = None
-
--- Code can pass any number of 32 bits, for a narrow type too.
-abbrev pub passed_range : Kind → Option (ℤ × ℤ)
-passed_range kind = option_and_then (λ own. number_range kinds.Int) (number_range kind)
-
--- ---- events
 
 -- The value is a number of the range. Where there is none, it may be any.
 abbrev pub IsNumberOf : Option (ℤ × ℤ) → Option ApiValue → Type 0

@@ -21,7 +21,7 @@ use Rattle.conspec_tree.specs.Updates.{target}
 use Rattle.conspec_automaton.specs.declared.policy.Branch.{Branch}
 use Rattle.conspec_automaton.specs.declared.policy.Clause.{Clause}
 use Rattle.conspec_automaton.specs.declared.policy.Policy.{Policy}
-use Rattle.conspec_automaton.specs.Events.{number_range, passed_range}
+use Rattle.conspec_tree.specs.Kinds.{number_range, passed_range}
 use Rattle.conspec_automaton.specs.Next.{Values}
 use Rattle.conspec_automaton.specs.Range.{is_between}
 

@@ -22,7 +22,7 @@ use Rattle.conspec_tokens.specs.Front.{front_at, is_next, is_name}
 use Rattle.conspec_parse.specs.Forms.{taken}
 use Rattle.conspec_tree.specs.Variables.{variable_from}
 use Rattle.conspec_parse.specs.Scope.{Scope, base_named}
-use Rattle.conspec_tree.specs.Kinds.{is_truth, is_object}
+use Rattle.conspec_tree.specs.Kinds.{is_truth, is_number}
 use Rattle.conspec_parse.specs.Guards.{next_rel, truth_value, negative_at, positive_at, constant_at, atom_at, next_atom, no_atoms, atoms_at, conj_at, next_conj, conjs_at}
 use Rattle.conspec_tree.specs.Kinds.{is_equality}
 use Rattle.conspec_tree.specs.Updates.{target, is_updated, range_atoms, all_range_atoms}
@@ -136,7 +136,7 @@ atom_again scope room written atom tokens words free is e =
     let found : Base × Kind = (atom.base, is.kind) in
     gets _ (name_again written.name tokens (rel_spelled written.rel ∷ (constant_spelled written.constant ++ words)) e) λ rest one.
     there (base_named scope written.name) found (WrongName (front_at tokens)) _ is.named (
-    holds (not (is_object is.kind)) (WrongKind (front_at tokens)) _ (ap not is.asked) (
+    holds (is_number is.kind) (WrongKind (front_at tokens)) _ is.asked (
     holds room (Limit (front_at tokens)) _ free (
     gets _ (rel_again written.rel rest (constant_spelled written.constant ++ words) one) λ value two.
     holds (not (is_truth is.kind) || is_equality written.rel) (WrongKind (front_at rest)) _ (equal_is (is_truth is.kind) (is_equality written.rel) is.equal) (

@@ -17,7 +17,7 @@ use Rattle.conspec_tokens.specs.Front.{front_at, is_next, is_name}
 use Rattle.conspec_parse.specs.Head.{header_at, truth_at, count_at, first_at}
 use Rattle.conspec_tree.specs.Variables.{variable_from}
 use Rattle.conspec_parse.specs.Scope.{Scope, base_named}
-use Rattle.conspec_tree.specs.Kinds.{is_truth, is_object}
+use Rattle.conspec_tree.specs.Kinds.{is_truth, is_number}
 use Rattle.conspec_parse.specs.Guards.{next_rel, truth_value, negative_at, positive_at, constant_at, atom_at, next_atom, no_atoms, atoms_at, conj_at, next_conj, conjs_at}
 use Rattle.conspec_tree.specs.Kinds.{is_equality}
 use Rattle.conspec_tree.specs.Updates.{is_updated, all_range_atoms}
@@ -91,7 +91,7 @@ unfolding atom_at
 atom_alike {c = c} {t = t} scope room here =
     naming _ _ here λ name more.
     given (base_named scope name) _ _ _ _ (told Name unknown here (omega arith) tt) λ base is.
-    tested (not (is_object base.1)) _ _ _ _ (told Kind of_kind here (omega arith) tt) λ number.
+    tested (is_number base.1) _ _ _ _ (told Kind of_kind here (omega arith) tt) λ number.
     tested room _ _ _ _ (told Limit limit here (omega arith) tt) λ few.
     onward (omega arith) tt (
     taking next_rel _ _ (λ x t u. refl) (rel_goes_on (drop 1 t)) more λ rel e after_it.

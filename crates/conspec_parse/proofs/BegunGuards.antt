@@ -15,7 +15,7 @@ use Rattle.conspec_parse.specs.declared.fault.PolicyFault.TheVariants as faults
 use Rattle.conspec_tokens.specs.Front.{front_at, is_next, is_name}
 use Rattle.conspec_tree.specs.Variables.{variable_from}
 use Rattle.conspec_parse.specs.Scope.{Scope, base_named}
-use Rattle.conspec_tree.specs.Kinds.{is_truth, is_object}
+use Rattle.conspec_tree.specs.Kinds.{is_truth, is_number}
 use Rattle.conspec_parse.specs.Guards.{next_rel, truth_value, negative_at, positive_at, constant_at, atom_at, next_atom, no_atoms, atoms_at, conj_at, next_conj, conjs_at}
 use Rattle.conspec_tree.specs.Kinds.{is_equality}
 use Rattle.conspec_tree.specs.Updates.{is_updated, all_range_atoms}
@@ -85,7 +85,7 @@ atom_leads Next tail {t = t} scope room at goes =
     let rest : List Lexeme = rel_spelled rels.Eq ∷ Number 0 ∷ tail in
     then _ (naming (Name [] ∷ rest) at (goes (record { name = []; rel = rels.Eq; constant = Natural 0 }))) λ name named.
     then _ (given (base_named scope name.0) (faults.Name (front_at t)) refl) λ base is.
-    tested (not (is_object base.1)) (faults.Kind (front_at t)) _ refl (
+    tested (is_number base.1) (faults.Kind (front_at t)) _ refl (
     tested room (faults.Limit (front_at t)) _ refl (
     then _ (taking (next_rel name.1) rel_spelled rest named (goes (record { name = name.0; rel = rels.Eq; constant = Natural 0 })) (rel_goes_on name.1) (rel_found name.1)) λ rel related.
     tested (not (is_truth base.1) || is_equality rel.0) (faults.Kind (front_at name.1)) _ refl (

@@ -26,7 +26,8 @@ use Rattle.conspec_parse.specs.Written.{Element, WrittenType, WrittenParam, led,
 use Rattle.conspec_parse.specs.Written.Element.{Void, Int, Boolean, Byte, Short, Char, Class}
 use Rattle.conspec_parse.specs.Meaning.{EachIs, AreShort, below, element_desc, element_kind, type_desc, kind_in, type_kind, param_of, element_names, optional, names_of_param, param_names, AreParams, lexemes}
 use Rattle.conspec_parse.proofs.Made.{Makes, done, then, tested, either, failed, given, taken_makes, said, each_makes}
-use Rattle.conspec_parse.proofs.Sound.{all_more, no_pairs, neither, is_not}
+use Rattle.conspec_parse.proofs.Sound.{all_more, no_pairs}
+use Rattle.std.proofs.lemmas.Bool.{not-true, or_parts}
 
 -- ---- spelled parts
 
@@ -270,7 +271,7 @@ all_joined P (x ∷ xs) ys a b = (a.0, all_joined P xs ys a.1 b)
 no_parameter : (written : List WrittenParam) (name : List ℕ) → is_parameter (map param_of written) name ≡ false → AllByRecursion (λ other. other ≢ name) (param_names written)
 no_parameter [] name none = tt
 no_parameter (p ∷ written) name none =
-    let parts = neither (is_named p.name name) (is_parameter (map param_of written) name) none in
+    let parts = or_parts (is_named p.name name) (is_parameter (map param_of written) name) none in
     by p.name parts.0 (no_parameter written name parts.1)
   where
     by : (given : Option (List ℕ)) → is_named given name ≡ false → AllByRecursion (λ other. other ≢ name) (param_names written)
@@ -295,7 +296,7 @@ given_found vars params tokens =
     then _ (name_found tokens) λ name one.
     tested (not true || is_free vars params name.0) (Twice (front_at tokens)) _ λ once.
     tested (not true || is_short name.0) (Limit (front_at tokens)) _ λ short.
-    let free = neither (is_variable vars name.0) (is_parameter params name.0) (is_not _ once) in
+    let free = or_parts (is_variable vars name.0) (is_parameter params name.0) (not-true _ once) in
     done name (one, (free.0, free.1, short))
 
 parameter_name_found : (vars : List Var) (params : List Param) (tokens : List Token)

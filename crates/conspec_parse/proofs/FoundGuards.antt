@@ -2,7 +2,7 @@
 use Rattle.std.proofs.Common.{◌≡◌, ⊎_elim, ℕ, ◌+◌, ◌<◌, ◌≤◌, ℤ, pos, neg_ℤ, Bool, true, false, List, [], ◌∷◌, ◌++◌, length, drop, Option, Some, None, refl, sym, ap, subst, ◌∙◌, arith, append_assoc}
 use Rattle.std.specs.Prelude.{◌≤ℤ◌, not, codes, bytes_eq, nat_lt, nat_le, int_le, ◌||◌, ◌&&◌, ◌==◌}
 use Rattle.std.specs.List.{flat_map}
-use Rattle.std.proofs.lemmas.Bool.{leb-true, ltb-true}
+use Rattle.std.proofs.lemmas.Bool.{leb-true, ltb-true, and_parts, not-true}
 use Rattle.std.proofs.lemmas.Int.{ints}
 use Rattle.std.proofs.lemmas.List.{append-nil}
 use Rattle.std.proofs.lemmas.Slice.Eq.{bytes_eq-Decides}
@@ -20,7 +20,7 @@ use Rattle.conspec_parse.specs.declared.fault.PolicyFault.TheVariants.{Name as W
 use Rattle.conspec_tokens.specs.Front.{front_at, is_next, is_name}
 use Rattle.conspec_tree.specs.Variables.{variable_from}
 use Rattle.conspec_parse.specs.Scope.{Scope, base_named}
-use Rattle.conspec_tree.specs.Kinds.{is_truth, is_object}
+use Rattle.conspec_tree.specs.Kinds.{is_truth, is_number}
 use Rattle.conspec_parse.specs.Guards.{next_rel, truth_value, negative_at, positive_at, constant_at, atom_at, next_atom, no_atoms, atoms_at, conj_at, next_conj, conjs_at}
 use Rattle.conspec_tree.specs.Kinds.{is_equality}
 use Rattle.conspec_tree.specs.Updates.{target, is_updated, all_range_atoms}
@@ -32,7 +32,7 @@ use Rattle.conspec_parse.specs.Written.Constant.{Truth, Natural, Minus}
 use Rattle.conspec_parse.specs.Written.Right.{Value, Sum}
 use Rattle.conspec_parse.specs.Meaning.{EachIs, value_of, IsConstant, IsAtom, IsRight, IsUpdate, IsGuard, IsOtherwise, AreGuards}
 use Rattle.conspec_parse.proofs.Made.{Makes, done, then, tested, either, given, said, together, each_makes}
-use Rattle.conspec_parse.proofs.Sound.{both, is_not, all_asked, asks_all, conjs_sound}
+use Rattle.conspec_parse.proofs.Sound.{all_asked, asks_all, conjs_sound}
 use Rattle.conspec_parse.proofs.SoundUpdates.{block_sound}
 use Rattle.conspec_parse.proofs.SoundClauses.{longest_low, all_short, body_sound}
 use Rattle.conspec_parse.proofs.Found.{Took, joins, nothing, spelled_as, Found, led_more, all_more_words, each_more, next_is, behind_found, taken_found, name_found, number_found, which}
@@ -83,7 +83,7 @@ negative_found truth tokens is =
     done (neg_ℤ (pos number.0), number.1) (record {
       written = Minus number.0;
       took = joins (next_is (codes "-") tokens is) one;
-      says = (subst (λ (b : Bool). IsConstant b (Minus number.0)) (sym (is_not truth fits)) low, refl);
+      says = (subst (λ (b : Bool). IsConstant b (Minus number.0)) (sym (not-true truth fits)) low, refl);
     })
 
 positive_found : (truth : Bool) (tokens : List Token) → Makes (positive_at truth tokens) (Found constant_spelled (IsValue truth) tokens)
@@ -97,7 +97,7 @@ positive_found truth tokens =
     done (pos number.0, number.1) (record {
       written = Natural number.0;
       took = one;
-      says = (subst (λ (b : Bool). IsConstant b (Natural number.0)) (sym (is_not truth fits)) low, refl);
+      says = (subst (λ (b : Bool). IsConstant b (Natural number.0)) (sym (not-true truth fits)) low, refl);
     })
 
 constant_found : (truth : Bool) (tokens : List Token) → Makes (constant_at truth tokens) (Found constant_spelled (IsValue truth) tokens)
@@ -116,7 +116,7 @@ unfolding atom_at
 atom_found scope room tokens =
     then _ (name_found tokens) λ name one.
     then _ (given (base_named scope name.0) (WrongName (front_at tokens))) λ base named.
-    tested (not (is_object base.1)) (WrongKind (front_at tokens)) _ λ asked.
+    tested (is_number base.1) (WrongKind (front_at tokens)) _ λ number.
     tested room (Limit (front_at tokens)) _ λ few.
     then _ (taken_found (next_rel name.1) (λ r. rel_spelled r) name.1 (rel_found name.1)) λ rel two.
     tested (not (is_truth base.1) || is_equality rel.0) (WrongKind (front_at name.1)) _ λ fits.
@@ -127,7 +127,7 @@ atom_found scope room tokens =
       says = record {
         kind = base.1;
         named = named;
-        asked = is_not _ asked;
+        asked = number;
         related = refl;
         equal = implied (is_truth base.1) (is_equality rel.0) fits;
         fits = three.says.0;
@@ -222,7 +222,7 @@ unfolding set_at
 set_found maxint name var truth tokens =
     then _ (constant_found truth tokens) λ value one.
     tested (int_le (pos 0) value.0 && int_le value.0 maxint) (Range (front_at tokens)) _ λ ranged.
-    let r = both (int_le (pos 0) value.0) (int_le value.0 maxint) ranged in
+    let r = and_parts (int_le (pos 0) value.0) (int_le value.0 maxint) ranged in
     done (Set var value.0, value.1) (record {
       written = Value one.written;
       took = one.took;
@@ -243,7 +243,7 @@ sum_found maxint room name var truth tokens =
     done (Add var (signed sign.0 addend.0), addend.1) (record {
       written = Sum same.0 sign.0 addend.0;
       took = joins one (joins two three);
-      says = record { of = refl; right = record { own = (bytes_eq-Decides same.0 name).0 own; number = is_not truth fits; by_is = refl; high = leb-true _ _ ranged } };
+      says = record { of = refl; right = record { own = (bytes_eq-Decides same.0 name).0 own; number = not-true truth fits; by_is = refl; high = leb-true _ _ ranged } };
     })
 
 right_found : (maxint : ℤ) (room : Bool) (name : List ℕ) (var : ℕ × Bool) (tokens : List Token)

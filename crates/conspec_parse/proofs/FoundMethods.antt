@@ -2,7 +2,7 @@
 use Rattle.std.proofs.Common.{◌≡◌, ◌≢◌, ℕ, ◌≤◌, Bool, true, false, List, [], ◌∷◌, ◌++◌, length, map, drop, Option, Some, None, Ok, Err, refl, sym, ap, subst, ◌∙◌, arith, append_assoc}
 use Rattle.std.specs.Prelude.{not, codes, nat_le, IsTrue}
 use Rattle.std.specs.List.{flat_map}
-use Rattle.std.proofs.lemmas.Bool.{leb-true}
+use Rattle.std.proofs.lemmas.Bool.{leb-true, not-true}
 use Rattle.std.proofs.lemmas.Grind.{flat_map-append}
 use Rattle.std.proofs.lemmas.List.{append-nil, length-map}
 use Rattle.mon_base.proofs.Reading.{ok_is}
@@ -29,7 +29,7 @@ use Rattle.conspec_parse.specs.Written.{WrittenParam, MethodName, dotted, method
 use Rattle.conspec_parse.specs.Written.MethodName.{Constructor, Plain}
 use Rattle.conspec_parse.specs.Meaning.{AreShort, below, joined, param_of, AreParams, method_bytes, method_names, IsMethodIn}
 use Rattle.conspec_parse.proofs.Made.{Makes, done, then, tested, either, failed, any, given, said, each_makes}
-use Rattle.conspec_parse.proofs.Sound.{all_more, is_not}
+use Rattle.conspec_parse.proofs.Sound.{all_more}
 use Rattle.conspec_parse.proofs.Loose.{signature_loose}
 use Rattle.conspec_parse.proofs.Found.{Took, joins, spelled_as, Found, all_more_words, next_is, behind_found, judged_found, AreParamsOf, parameters_found}
 
@@ -93,7 +93,7 @@ step_found start parts tokens before =
     then _ (behind_found (codes ".") tokens) λ dot one.
     then _ (part_found dot) λ part two.
     done (record { class = Some (class_under parts.class parts.name); name = part.0; is_last = is_next init dot }, part.1)
-    (by before.written.method refl (is_not _ below) dot part.0 part.1 one two)
+    (by before.written.method refl (not-true _ below) dot part.0 part.1 one two)
   where
     by : (m : MethodName) → before.written.method ≡ m → parts.is_last ≡ false → (dot : List Token) (name : List ℕ) (rest : List Token) → Took tokens (Quoted (codes ".") ∷ []) dot
         → Found one_method (λ n word. IsPart n (is_next init dot) word) dot (name, rest)
@@ -203,7 +203,7 @@ index_found methods clauses phase at signature desc =
     then _ (given (declared_in methods signature.path.name desc signature.path.class) (NoMethod at)) λ method found.
     tested (nat_le (length signature.params) 255) (NoMethod at) _ λ narrow.
     tested (not (has_clause clauses phase method)) (Twice at) _ λ once.
-    done method (record { listed = found; client = is_not _ client; narrow = leb-true _ _ narrow; once = is_not _ once })
+    done method (record { listed = found; client = not-true _ client; narrow = leb-true _ _ narrow; once = not-true _ once })
 
 ok_same : {X : Type 0} (x y : X) (read : Parsed X) (a b : List Token) → read ≡ Ok (x, a) → read ≡ Ok (y, b) → x ≡ y
 ok_same {X = X} x y read a b p q = ap (λ (r : X × List Token). r.0) (ok_is PolicyFault (x, a) (y, b) (sym p ∙ q))

@@ -6,7 +6,7 @@ use Rattle.std.specs.Option.{option_map_or}
 use Rattle.std.specs.List.{prefix_len}
 use Rattle.std.specs.Char.{is_ascii_digit}
 use Rattle.api_listing.specs.Words.{is_name_start, is_name_byte}
-use Rattle.std.proofs.lemmas.Bool.{leb-true}
+use Rattle.std.proofs.lemmas.Bool.{leb-true, and_parts, not-true}
 use Rattle.std.proofs.lemmas.List.{append-nil}
 use Rattle.api_listing.specs.declared.types.ListedMethod.{ListedMethod}
 use Rattle.api_listing.specs.declared.types.Listing.{Listing}
@@ -39,7 +39,6 @@ use Rattle.conspec_parse.specs.Policy.{policy_at, reading}
 use Rattle.conspec_parse.specs.Written.{WrittenType, WrittenClause, WrittenVar, Written, phase_spelled, result_spelled, clause_spelled, first_spelled, variable_word, variable_spelled, header_spelled, policy_spelled}
 use Rattle.conspec_parse.specs.Meaning.{EachIs, type_desc, type_kind, param_of, AreGuards, IsResult, MayName, IsMethodIn, IsClause, IsFirst, IsVar, lexemes, SpellsPolicy}
 use Rattle.conspec_parse.proofs.Made.{Makes, done, then, tested, either, failed, given, said, together, each_makes}
-use Rattle.conspec_parse.proofs.Sound.{both, is_not}
 use Rattle.conspec_parse.proofs.SoundClauses.{policy_at_sound}
 use Rattle.conspec_parse.proofs.Found.{Took, joins, nothing, spelled_as, Found, all_more_words, each_more, next_is, behind_found, name_found, number_found, which, IsType, type_found}
 use Rattle.conspec_parse.proofs.FoundMethods.{WrittenSignature, IsListed, method_found}
@@ -81,14 +80,14 @@ given_result_found vars kind tokens =
     tested (not (is_variable vars name.0)) (Twice (front_at tokens)) _ λ once.
     tested (is_short name.0) (Limit (front_at tokens)) _ λ short.
     then _ (behind_found (codes "=") name.1) λ equals two.
-    done (name.0, equals) (joins one two, record { at_return = refl; given = some_kind kind valued; own = is_not _ once; short = short })
+    done (name.0, equals) (joins one two, record { at_return = refl; given = some_kind kind valued; own = not-true _ once; short = short })
 
 result_found : (vars : List Var) (phase : Phase) (kind : Option Kind) (tokens : List Token)
     → Makes (result_name_at vars phase kind tokens) (Found result_spelled (IsNamed vars phase kind) tokens)
 result_found vars phase kind tokens =
     either (is_after phase && is_assigned tokens) _ _
     (λ holds. then _ (given_result_found vars kind tokens) λ name is.
-    let at_return = after_is phase (both (is_after phase) (is_assigned tokens) holds).0 in
+    let at_return = after_is phase (and_parts (is_after phase) (is_assigned tokens) holds).0 in
     done (Some name.0, name.1) (record {
       written = Some name.0;
       took = is.0;
@@ -175,7 +174,7 @@ header_found tokens =
     then _ (behind_found (codes "Session") scope) λ session d.
     then _ (behind_found (codes "SECURITY") session) λ security e.
     then _ (behind_found (codes "STATE") security) λ state f.
-    let r = both (nat_le 1 maxint.0) (nat_le maxint.0 1000000000) ranged in
+    let r = and_parts (nat_le 1 maxint.0) (nat_le maxint.0 1000000000) ranged in
     done (pos maxint.0, state) (record { written = maxint.0; took = joins a (joins b (joins c (joins d (joins e f)))); is = refl; low = leb-true _ _ r.0; high = leb-true _ _ r.1 })
 
 -- ---- variables

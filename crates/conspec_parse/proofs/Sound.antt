@@ -3,7 +3,7 @@ use Rattle.std.proofs.Common.{◌≡◌, ◌≢◌, ℕ, zero, suc, ◌+◌, ◌
 use Rattle.std.specs.Prelude.{◌≤ℤ◌, not, bytes_eq, codes, nat_lt, nat_le, int_le, slice_get, AllPairs, ◌||◌, ◌&&◌}
 use Rattle.std.specs.List.{AllByRecursion}
 use Rattle.std.specs.Option.{option_or, option_map}
-use Rattle.std.proofs.lemmas.Bool.{ltb-true}
+use Rattle.std.proofs.lemmas.Bool.{ltb-true, and_parts, not-true, or_parts}
 use Rattle.std.proofs.lemmas.Bool.Decides.{nat_tests, not_from_Decides}
 use Rattle.std.proofs.lemmas.Int.{ints}
 use Rattle.std.proofs.lemmas.Option.{slice_get_within}
@@ -23,7 +23,7 @@ use Rattle.conspec_parse.specs.Head.{header_at, truth_at, count_at, first_at, be
 use Rattle.conspec_tree.specs.Variables.{variable_from, is_variable}
 use Rattle.conspec_parse.specs.Methods.{is_named}
 use Rattle.conspec_parse.specs.Scope.{Scope, as_variable, argument_from, result_named, base_named}
-use Rattle.conspec_tree.specs.Kinds.{is_truth, is_object}
+use Rattle.conspec_tree.specs.Kinds.{is_truth, is_number}
 use Rattle.conspec_parse.specs.Guards.{next_rel, constant_at, atom_at, next_atom, no_atoms, atoms_at, conj_at, next_conj, conjs_at}
 use Rattle.conspec_tree.specs.Kinds.{is_equality}
 use Rattle.conspec_tree.specs.Tree.{IsInRange, Askable, IsNumber, IsBase, AreAtoms}
@@ -37,18 +37,6 @@ all_more P (y ∷ xs) x all is = (all.0, all_more P xs x all.1 is)
 
 pub no_pairs : {X : Type 0} (R : X → X → Type 0) → AllPairs R []
 no_pairs R i j d lt within = absurd (omega arith)
-
-pub neither : (a b : Bool) → (a || b) ≡ false → (a ≡ false) × (b ≡ false)
-neither true b e = absurd cc
-neither false b e = (refl, e)
-
-pub both : (a b : Bool) → (a && b) ≡ true → (a ≡ true) × (b ≡ true)
-both true b e = (refl, e)
-both false b e = absurd cc
-
-pub is_not : (a : Bool) → not a ≡ true → a ≡ false
-is_not true e = absurd cc
-is_not false e = refl
 
 some_is : {A : Type 0} (x y : A) → Some x ≡ Some y → x ≡ y
 some_is x y e = cc
@@ -65,7 +53,7 @@ IsMaxint maxint = (pos 1 ≤ℤ maxint) × (maxint ≤ℤ pos 1000000000)
 
 maxint_is : (n : ℕ) → (nat_le 1 n && nat_le n 1000000000) ≡ true → IsMaxint (pos n)
 maxint_is n ranged =
-    let r = both (nat_le 1 n) (nat_le n 1000000000) ranged in
+    let r = and_parts (nat_le 1 n) (nat_le n 1000000000) ranged in
     let low = r.0 in
     let high = r.1 in
     (grind (arith, nat_tests, ints), grind (arith, nat_tests, ints))
@@ -108,16 +96,16 @@ pub record AreVars (maxint : ℤ) (vars : List Var) : Type 0 where
 unnamed : (vars : List Var) (name : List ℕ) → is_variable vars name ≡ false → (k : ℕ) (d : Var) → k < length vars → (get_or vars k d).name ≢ name
 unnamed [] name fails k d lt = absurd (omega arith)
 unnamed (v ∷ vars) name fails zero d lt =
-    not_from_Decides _ (bytes_eq-Decides v.name name) (neither (bytes_eq v.name name) (is_variable vars name) fails).0
+    not_from_Decides _ (bytes_eq-Decides v.name name) (or_parts (bytes_eq v.name name) (is_variable vars name) fails).0
 unnamed (v ∷ vars) name fails (suc k) d lt =
-    unnamed vars name (neither (bytes_eq v.name name) (is_variable vars name) fails).1 k d (omega arith)
+    unnamed vars name (or_parts (bytes_eq v.name name) (is_variable vars name) fails).1 k d (omega arith)
 
 more_vars : (maxint : ℤ) (vars : List Var) (v : Var) → nat_lt (length vars) 16 ≡ true → not (is_variable vars v.name) ≡ true
     → IsInRange maxint v.is_bool v.first → AreVars maxint vars → AreVars maxint (vars ++ v ∷ [])
 more_vars maxint vars v few once ranged are = record {
   few = room_for_one vars v 16 few;
   ranged = all_more (λ (v : Var). IsInRange maxint v.is_bool v.first) vars v are.ranged ranged;
-  names = all_pairs_push (λ (v w : Var). v.name ≢ w.name) vars v are.names (unnamed vars v.name (is_not _ once));
+  names = all_pairs_push (λ (v w : Var). v.name ≢ w.name) vars v are.names (unnamed vars v.name (not-true _ once));
 }
 
 variable_sound : (maxint : ℤ) (vars : List Var) (tokens : List Token) → AreVars maxint vars → Makes (variable_at maxint vars tokens) (λ r. AreVars maxint r.0)
@@ -173,11 +161,6 @@ all_asked scope = record { args = map (λ (p : Param). p.kind) scope.args; resul
 pub asks_all : (scope : Scope) → Asks scope (all_asked scope)
 asks_all scope = record { args = refl; result = λ name has. refl }
 
-no_object : (kind : Kind) → is_object kind ≡ false → IsNumber (Some kind)
-no_object kind fails = λ object.
-    let is : is_object kind ≡ true = ap is_object object in
-    absurd cc
-
 base_of_variable : (vars : ℕ) (askable : Askable) (found : ℕ × Bool) → found.0 < vars → IsBase vars askable (as_variable found).0
 base_of_variable vars askable found lt = by found.1 where
   by : (b : Bool) → IsBase vars askable (as_variable (found.0, b)).0
@@ -207,13 +190,13 @@ argument_there i (p ∷ params) name found e = by (is_named p.name name) e (argu
 abbrev pub IsFound : Scope → Askable → Base × Kind → Type 0
 IsFound scope askable found = IsBase (length scope.vars) askable found.0
 
-pub base_sound : (scope : Scope) (askable : Askable) (name : List ℕ) (found : Base × Kind) → Asks scope askable → is_object found.1 ≡ false
+pub base_sound : (scope : Scope) (askable : Askable) (name : List ℕ) (found : Base × Kind) → Asks scope askable → is_number found.1 ≡ true
     → base_named scope name ≡ Some found → IsFound scope askable found
 base_sound scope askable name found asks numeric e = by (variable_from 0 scope.vars name) refl (argument_from 0 scope.args name) refl e where
-  argument : (a : Base × Kind) → is_object a.1 ≡ false → IsArgument scope.args 0 a → IsFound scope askable a
+  argument : (a : Base × Kind) → is_number a.1 ≡ true → IsArgument scope.args 0 a → IsFound scope askable a
   argument a number is =
       let there : slice_get askable.args is.index ≡ Some a.1 = rw asks.args is.there in
-      let asked : IsNumber (slice_get askable.args is.index) = rw there (no_object a.1 number) in
+      let asked : IsNumber (slice_get askable.args is.index) = rw there number in
       let first : 0 + is.index ≡ is.index = omega arith in
       rw (is.base, first) asked
 
@@ -221,7 +204,7 @@ base_sound scope askable name found asks numeric e = by (variable_from 0 scope.v
   named true has is =
       let made : Base × Kind = (bases.Result, scope.kind) in
       let one : made ≡ found = some_is made found is in
-      let asked : IsNumber askable.result = rw has (no_object scope.kind (ap (λ (x : Base × Kind). is_object x.1) one ∙ numeric)) in
+      let asked : IsNumber askable.result = rw has (ap (λ (x : Base × Kind). is_number x.1) one ∙ numeric) in
       subst (IsFound scope askable) one asked
   named false has is = absurd cc
 
@@ -238,7 +221,7 @@ base_sound scope askable name found asks numeric e = by (variable_from 0 scope.v
       subst (IsFound scope askable) (some_is (as_variable v) found is) (base_of_variable (length scope.vars) askable v (omega arith))
   by None read (Some a) other is =
       let one : a ≡ found = some_is a found is in
-      subst (IsFound scope askable) one (argument a (ap (λ (x : Base × Kind). is_object x.1) one ∙ numeric) (argument_there 0 scope.args name a other))
+      subst (IsFound scope askable) one (argument a (ap (λ (x : Base × Kind). is_number x.1) one ∙ numeric) (argument_there 0 scope.args name a other))
   by None read None other is = result scope.returned refl is
 
 -- ---- atoms and branches
@@ -257,12 +240,12 @@ module _ (scope : Scope) (askable : Askable) (asks : Asks scope askable) where
   atom_sound room tokens =
       then _ (any (name_at tokens)) λ name a.
       then _ (given (base_named scope name.0) (Name (front_at tokens))) λ base named.
-      tested (not (is_object base.1)) (WrongKind (front_at tokens)) _ λ number.
+      tested (is_number base.1) (WrongKind (front_at tokens)) _ λ number.
       tested room (Limit (front_at tokens)) _ λ few.
       then _ (any (taken (next_rel name.1) name.1)) λ rel b.
       tested (not (is_truth base.1) || is_equality rel.0) (WrongKind (front_at name.1)) _ λ fits.
       then _ (any (constant_at (is_truth base.1) rel.1)) λ value c.
-      done (record { base = base.0; rel = rel.0; value = value.0 }, value.1) (few, base_sound scope askable name.0 base asks (is_not _ number) named)
+      done (record { base = base.0; rel = rel.0; value = value.0 }, value.1) (few, base_sound scope askable name.0 base asks number named)
 
   next_atom_sound : (atoms : List Atom) (tokens : List Token) → IsConj scope askable atoms → Makes (next_atom scope atoms tokens) (λ r. IsConj scope askable r.0)
   unfolding next_atom

@@ -1,11 +1,12 @@
 -- Every policy that is read keeps the limits and ranges, and what its parts name is there: clauses and the whole.
-use Rattle.std.proofs.Common.{◌≡◌, ℕ, zero, suc, ◌+◌, ◌<◌, ◌≤◌, ℤ, Bool, true, false, cond, List, [], ◌∷◌, ◌++◌, length, map, drop, get_or, Option, Some, None, Ok, Err, refl, sym, ap, arith}
+use Rattle.std.proofs.Common.{◌≡◌, ℕ, zero, suc, ◌+◌, ◌<◌, ◌≤◌, ℤ, true, false, List, [], ◌∷◌, ◌++◌, length, map, drop, get_or, Option, Some, None, Ok, Err, refl, sym, ap, arith}
 use Rattle.std.specs.Prelude.{max, is_some, ok_or, not, codes, nat_lt, nat_le, AllPairs, ◌&&◌, ◌==◌}
-use Rattle.std.specs.List.{AllByRecursion, position_from}
-use Rattle.std.proofs.lemmas.Bool.{ltb-true, leb-true, eq-eqb}
+use Rattle.std.specs.List.{AllByRecursion}
+use Rattle.std.proofs.lemmas.Bool.{ltb-true, leb-true, eq-eqb, and_parts, not-true, or_parts}
 use Rattle.std.proofs.lemmas.Bool.Decides.{nat_tests}
 use Rattle.std.proofs.lemmas.List.{length-map}
 use Rattle.std.proofs.lemmas.List.Quantifiers.{all_pairs_push}
+use Rattle.mon_base.proofs.Lists.{position_below}
 use Rattle.api_listing.specs.declared.types.ListedMethod.{ListedMethod}
 use Rattle.api_listing.specs.declared.types.Listing.{Listing}
 use Rattle.conspec_tokens.specs.declared.token.Token.{Token}
@@ -38,7 +39,7 @@ use Rattle.conspec_parse.specs.Policy.{policy_at, reading}
 use Rattle.conspec_tree.specs.Tree.{Askable, asked, AreAtoms, IsGuardIn, IsClauseIn, Differ, IsPolicyTree}
 use Rattle.conspec_parse.proofs.Branches.{branches_more}
 use Rattle.conspec_parse.proofs.Made.{Makes, done, then, tested, either, failed, any, given, each_makes}
-use Rattle.conspec_parse.proofs.Sound.{all_more, no_pairs, neither, both, Asks, is_not, room_for_one, IsConj, conjs_sound, variables_sound, header_sound}
+use Rattle.conspec_parse.proofs.Sound.{all_more, no_pairs, Asks, room_for_one, IsConj, conjs_sound, variables_sound, header_sound}
 use Rattle.conspec_parse.proofs.SoundUpdates.{AreUpdates, block_sound}
 
 -- ---- the longest branch
@@ -116,13 +117,6 @@ body_sound scope askable maxint tokens asks =
 
 -- ---- methods
 
-position_within : {X : Type 0} (test : X → Bool) (i : ℕ) (xs : List X) (r : ℕ) → position_from test i xs ≡ Some r → r < i + length xs
-position_within test i [] r e = absurd cc
-position_within test i (x ∷ xs) r e = by (test x) e (position_within test (i + 1) xs r) where
-  by : (b : Bool) → cond b (Some i) (position_from test (i + 1) xs) ≡ Some r → (position_from test (i + 1) xs ≡ Some r → r < i + 1 + length xs) → r < i + length (x ∷ xs)
-  by true is others = let same : i ≡ r = cc in omega arith
-  by false is others = let later = others is in omega arith
-
 pub record IsMethodOf (methods : List ListedMethod) (clauses : List TreeClause) (phase : Phase) (method : ℕ) (params : List Param) : Type 0 where
   pub listed : method < length methods
   pub few : length params ≤ 255
@@ -136,8 +130,8 @@ index_sound methods clauses phase at signature desc =
     then _ (given (declared_in methods signature.path.name desc signature.path.class) (NoMethod at)) λ method found.
     tested (nat_le (length signature.params) 255) (NoMethod at) _ λ narrow.
     tested (not (has_clause clauses phase method)) (Twice at) _ λ once.
-    let within = position_within (λ (m : ListedMethod). is_method signature.path.class signature.path.name desc m.id) 0 methods method found in
-    done method (record { listed = omega arith; few = leb-true _ _ narrow; once = is_not _ once })
+    let within = position_below (λ (m : ListedMethod). is_method signature.path.class signature.path.name desc m.id) 0 methods method found in
+    done method (record { listed = omega arith; few = leb-true _ _ narrow; once = not-true _ once })
 
 method_sound : (methods : List ListedMethod) (vars : List Var) (clauses : List TreeClause) (phase : Phase) (result : List ℕ) (tokens : List Token)
     → Makes (method_at methods vars clauses phase result tokens) (λ r. IsMethodOf methods clauses phase r.0.0 r.0.1)
@@ -180,7 +174,7 @@ result_sound : (vars : List Var) (phase : Phase) (kind : Option Kind) (tokens : 
 result_sound vars phase kind tokens =
     either (is_after phase && is_assigned tokens) _ _
     (λ holds. then _ (given_result_sound vars kind tokens) λ name given.
-    done (Some name.0, name.1) (λ word is. (at_after phase (both (is_after phase) (is_assigned tokens) holds).0, given)))
+    done (Some name.0, name.1) (λ word is. (at_after phase (and_parts (is_after phase) (is_assigned tokens) holds).0, given)))
     (λ fails. done (None, tokens) (λ word is. absurd cc))
 
 -- What a clause may ask is what its event has.
@@ -199,13 +193,13 @@ unclaimed : (clauses : List TreeClause) (new : TreeClause) → has_clause clause
     → (k : ℕ) (d : TreeClause) → k < length clauses → Differ (get_or clauses k d) new
 unclaimed [] new fails k d lt = absurd (omega arith)
 unclaimed (c ∷ clauses) new fails zero d lt = λ method phase.
-    let differs = (neither (c.method == new.method && phase_number c.phase == phase_number new.phase) (has_clause clauses new.phase new.method) fails).0 in
+    let differs = (or_parts (c.method == new.method && phase_number c.phase == phase_number new.phase) (has_clause clauses new.phase new.method) fails).0 in
     let m : (c.method == new.method) ≡ true = eq-eqb _ _ method in
     let p : (phase_number c.phase == phase_number new.phase) ≡ true = eq-eqb _ _ (ap phase_number phase) in
     let is : (c.method == new.method && phase_number c.phase == phase_number new.phase) ≡ true = rw (m, p) refl in
     absurd cc
 unclaimed (c ∷ clauses) new fails (suc k) d lt =
-    unclaimed clauses new (neither (c.method == new.method && phase_number c.phase == phase_number new.phase) (has_clause clauses new.phase new.method) fails).1 k d (omega arith)
+    unclaimed clauses new (or_parts (c.method == new.method && phase_number c.phase == phase_number new.phase) (has_clause clauses new.phase new.method) fails).1 k d (omega arith)
 
 clause_is : (methods : List ListedMethod) (vars : List Var) (maxint : ℤ) (clauses : List TreeClause) (phase : Phase) (method : ℕ) (params : List Param)
     (result : Option (List ℕ)) (kind : Option Kind) (guards : List Guard) → nat_lt (length clauses) 64 ≡ true → IsMethodOf methods clauses phase method params

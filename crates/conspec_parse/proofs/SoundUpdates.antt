@@ -3,7 +3,7 @@ use Rattle.std.proofs.Common.{◌≡◌, ◌≢◌, ℕ, zero, suc, ◌+◌, ◌
 use Rattle.std.specs.Prelude.{◌≤ℤ◌, not, bytes_eq, codes, nat_lt, nat_le, int_le, slice_get, AllPairs, ◌||◌, ◌&&◌, ◌==◌}
 use Rattle.std.specs.List.{AllByRecursion}
 use Rattle.std.specs.Ordering.{int_eq}
-use Rattle.std.proofs.lemmas.Bool.{ltb-true, leb-true, eqb-true, eq-eqb}
+use Rattle.std.proofs.lemmas.Bool.{ltb-true, leb-true, eqb-true, eq-eqb, and_parts, not-true, or_parts}
 use Rattle.std.proofs.lemmas.Int.{ints}
 use Rattle.std.proofs.lemmas.List.Quantifiers.{all_pairs_push}
 use Rattle.conspec_tokens.specs.declared.token.Token.{Token}
@@ -19,7 +19,7 @@ use Rattle.conspec_tree.specs.Updates.{target, is_updated, range_atoms, all_rang
 use Rattle.conspec_parse.specs.Updates.{set_at, next_sign, signed, sum_at, right_at, update_at, block_at}
 use Rattle.conspec_tree.specs.Tree.{IsInRange, IsUpdateOf, IsUpdateIn}
 use Rattle.conspec_parse.proofs.Made.{Makes, done, then, tested, either, any, given, each_makes}
-use Rattle.conspec_parse.proofs.Sound.{all_more, no_pairs, neither, both, is_not, variable_there}
+use Rattle.conspec_parse.proofs.Sound.{all_more, no_pairs, variable_there}
 
 -- ---- constants
 
@@ -37,7 +37,7 @@ negative_sound truth tokens =
     tested (not truth) (WrongKind (front_at tokens)) _ λ fits.
     then _ (any (number_at (drop 1 tokens))) λ number a.
     tested (nat_le number.0 2147483648) (Range (front_at tokens)) _ λ ranged.
-    done (neg_ℤ (pos number.0), number.1) (λ is. let fails = is_not truth fits in absurd cc)
+    done (neg_ℤ (pos number.0), number.1) (λ is. let fails = not-true truth fits in absurd cc)
 
 positive_sound : (truth : Bool) (tokens : List Token) → Makes (positive_at truth tokens) (λ r. FitsTruth truth r.0)
 unfolding positive_at
@@ -45,7 +45,7 @@ positive_sound truth tokens =
     then _ (any (number_at tokens)) λ number a.
     tested (not truth) (WrongKind (front_at tokens)) _ λ fits.
     tested (nat_lt number.0 2147483648) (Range (front_at tokens)) _ λ ranged.
-    done (pos number.0, number.1) (λ is. let fails = is_not truth fits in absurd cc)
+    done (pos number.0, number.1) (λ is. let fails = not-true truth fits in absurd cc)
 
 constant_sound : (truth : Bool) (tokens : List Token) → Makes (constant_at truth tokens) (λ r. FitsTruth truth r.0)
 constant_sound truth tokens =
@@ -65,11 +65,11 @@ pub record IsRightOf (maxint : ℤ) (v : Var) (var : ℕ) (room : Bool) (update 
 
 in_range : (maxint : ℤ) (truth : Bool) (value : ℤ) → FitsTruth truth value → (int_le (pos 0) value && int_le value maxint) ≡ true → IsInRange maxint truth value
 in_range maxint true value fits ranged =
-    let r = both (int_le (pos 0) value) (int_le value maxint) ranged in
+    let r = and_parts (int_le (pos 0) value) (int_le value maxint) ranged in
     let low = r.0 in
     record { low = grind (arith, ints); high = fits refl }
 in_range maxint false value fits ranged =
-    let r = both (int_le (pos 0) value) (int_le value maxint) ranged in
+    let r = and_parts (int_le (pos 0) value) (int_le value maxint) ranged in
     let low = r.0 in
     let high = r.1 in
     record { low = grind (arith, ints); high = grind (arith, ints) }
@@ -116,7 +116,7 @@ sum_sound maxint v room name var tokens =
     let low : addend.0 ≤ 1000000000 = leb-true _ _ ranged in
     done (Add var (signed sign.0 addend.0), addend.1) (record {
       of = refl;
-      fits = (is_not _ fits, signed_ranged sign.0 addend.0 low);
+      fits = (not-true _ fits, signed_ranged sign.0 addend.0 low);
       one = one_range_atom (Add var (signed sign.0 addend.0));
       none = λ fails. no_range_atom var sign.0 addend.0 (roomless addend.0 room few fails);
     })
@@ -144,10 +144,10 @@ range_atoms_more (w ∷ updates) u = let e = range_atoms_more updates u in omega
 not_yet : (updates : List Update) (var : ℕ) → is_updated updates var ≡ false → (k : ℕ) (d : Update) → k < length updates → target (get_or updates k d) ≢ var
 not_yet [] var fails k d lt = absurd (omega arith)
 not_yet (u ∷ updates) var fails zero d lt = λ same.
-    let differs = (neither (target u == var) (is_updated updates var) fails).0 in
+    let differs = (or_parts (target u == var) (is_updated updates var) fails).0 in
     let is : (target u == var) ≡ true = eq-eqb (target u) var same in
     absurd cc
-not_yet (u ∷ updates) var fails (suc k) d lt = not_yet updates var (neither (target u == var) (is_updated updates var) fails).1 k d (omega arith)
+not_yet (u ∷ updates) var fails (suc k) d lt = not_yet updates var (or_parts (target u == var) (is_updated updates var) fails).1 k d (omega arith)
 
 more_updates : (vars : List Var) (maxint : ℤ) (atoms : ℕ) (updates : List Update) (var : ℕ) (v : Var) (u : Update)
     → slice_get vars var ≡ Some v → is_updated updates var ≡ false
@@ -183,7 +183,7 @@ update_sound vars maxint atoms updates tokens are =
     let there : slice_get vars var.0 ≡ Some found.variable = subst (λ (i : ℕ). slice_get vars i ≡ Some found.variable) same found.there in
     then _ (right_sound maxint found.variable (nat_lt (atoms + all_range_atoms updates) 16) name.0 var equals found.kind) λ update right.
     then _ (any (behind (codes ";") update.1)) λ ended c.
-    done (updates ++ update.0 ∷ [], ended) (more_updates vars maxint atoms updates var.0 found.variable update.0 there (is_not _ once) right are)
+    done (updates ++ update.0 ∷ [], ended) (more_updates vars maxint atoms updates var.0 found.variable update.0 there (not-true _ once) right are)
 
 pub block_sound : (vars : List Var) (maxint : ℤ) (atoms : ℕ) (tokens : List Token) → atoms ≤ 16 → Makes (block_at vars maxint atoms tokens) (λ r. AreUpdates vars maxint atoms r.0)
 unfolding block_at

@@ -5,7 +5,7 @@ use Rattle.conspec_tokens.specs.declared.token.Token.{Token}
 use Rattle.conspec_tree.specs.declared.types.Rel.{Rel}
 use Rattle.conspec_tree.specs.declared.types.Rel.TheVariants as rels
 use Rattle.conspec_tree.specs.declared.types.Atom.{Atom}
-use Rattle.conspec_tree.specs.Kinds.{is_truth, is_object, is_equality}
+use Rattle.conspec_tree.specs.Kinds.{is_truth, is_number, is_equality}
 use Rattle.conspec_parse.specs.declared.fault.PolicyFault.TheVariants.{Name, Kind as WrongKind, Range, Limit}
 use Rattle.conspec_parse.specs.Forms.{Parsed, behind, name_at, number_at, taken, each}
 use Rattle.conspec_tokens.specs.Front.{front_at, is_next}
@@ -57,7 +57,7 @@ unfoldable pub atom_at : Scope → Bool → List Token → Parsed Atom
 atom_at scope room tokens = do
   name ← name_at tokens
   base ← ok_or (base_named scope name.0) (Name (front_at tokens))
-  asked ← need (not (is_object base.1)) (WrongKind (front_at tokens))
+  asked ← need (is_number base.1) (WrongKind (front_at tokens))
   few ← need room (Limit (front_at tokens))
   rel ← taken (next_rel name.1) name.1
   fits ← need (not (is_truth base.1) || is_equality rel.0) (WrongKind (front_at name.1))

@@ -26,7 +26,7 @@ use Rattle.conspec_tree.specs.Variables.{variable_from, is_variable}
 use Rattle.conspec_parse.specs.Methods.{init, desc_of}
 use Rattle.conspec_tree.specs.Kinds.{kind_or_object}
 use Rattle.conspec_parse.specs.Scope.{Scope, base_named}
-use Rattle.conspec_tree.specs.Kinds.{is_truth, is_object}
+use Rattle.conspec_tree.specs.Kinds.{is_truth, is_number}
 use Rattle.conspec_parse.specs.Guards.{}
 use Rattle.conspec_tree.specs.Kinds.{is_equality}
 use Rattle.conspec_tree.specs.Updates.{target, all_range_atoms}
@@ -135,7 +135,7 @@ IsConstant truth other = ⊥
 pub record IsAtom (scope : Scope) (written : WrittenAtom) (atom : Atom) : Type 0 where
   pub kind : Kind
   pub named : base_named scope written.name ≡ Some (atom.base, kind)
-  pub asked : is_object kind ≡ false
+  pub asked : is_number kind ≡ true
   pub related : atom.rel ≡ written.rel
   pub equal : is_truth kind ≡ true → is_equality written.rel ≡ true
   pub fits : IsConstant (is_truth kind) written.constant

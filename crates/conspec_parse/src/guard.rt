@@ -24,7 +24,7 @@ use crate::fault::PolicyFault;
 use crate::forms::{behind, name_at, number_at};
 use crate::scope::Names;
 use conspec_tokens::{Token, front_at, is_next, rest_of};
-use conspec_tree::{Atom, Rel, is_equality, is_object, is_truth};
+use conspec_tree::{Atom, Rel, is_equality, is_number, is_truth};
 use mon_base::List;
 use std::alloc::Global;
 
@@ -140,7 +140,7 @@ fn atom_at<'a>(
             at: front_at(tokens),
         });
     };
-    if is_object(kind) {
+    if !is_number(kind) {
         return Err(PolicyFault::Kind {
             at: front_at(tokens),
         });

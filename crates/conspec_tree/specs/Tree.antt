@@ -7,7 +7,6 @@ use Rattle.conspec_tree.specs.declared.types.Atom.{Atom}
 use Rattle.conspec_tree.specs.declared.types.Base.{Base}
 use Rattle.conspec_tree.specs.declared.types.Base.TheVariants as bases
 use Rattle.conspec_tree.specs.declared.types.Kind.{Kind}
-use Rattle.conspec_tree.specs.declared.types.Kind.TheVariants as kinds
 use Rattle.conspec_tree.specs.declared.types.Phase.{Phase}
 use Rattle.conspec_tree.specs.declared.types.Phase.TheVariants as phases
 use Rattle.conspec_tree.specs.declared.types.Update.{Update}
@@ -18,6 +17,7 @@ use Rattle.conspec_tree.specs.declared.types.TreeClause.{TreeClause}
 use Rattle.conspec_tree.specs.declared.types.PolicyTree.{PolicyTree}
 use Rattle.conspec_tree.specs.Updates.{target, all_range_atoms}
 use Rattle.conspec_tree.specs.Guards.{branches}
+use Rattle.conspec_tree.specs.Kinds.{is_number}
 
 -- the greatest value of a variable: of a bool 1
 abbrev pub greatest : ℤ → Bool → ℤ
@@ -39,10 +39,10 @@ asked phases.Before args result = record { args = args; result = None }
 asked phases.After args result = record { args = []; result = result }
 asked phases.Exceptional args result = record { args = []; result = None }
 
--- There is such a value, and it is a number or a truth value.
+-- There is such a value, and it is a number or a truth value, which is one of two numbers.
 abbrev pub IsNumber : Option Kind → Type 0
 IsNumber None = ⊥
-IsNumber (Some kind) = kind ≢ kinds.Object
+IsNumber (Some kind) = is_number kind ≡ true
 
 -- The base is one of so many variables, or a number or truth value that may be asked.
 abbrev pub IsBase : ℕ → Askable → Base → Type 0

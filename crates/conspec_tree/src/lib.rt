@@ -14,7 +14,7 @@ mod variables;
 
 pub use clauses::{has_clause, is_after};
 pub use guards::{branches, longest};
-pub use kinds::{is_equality, is_object, is_truth, kind_or_object};
+pub use kinds::{is_equality, is_number, is_truth, kind_or_object, number_range, passed_range};
 pub use types::{Atom, Base, Guard, Kind, Phase, PolicyTree, Rel, TreeClause, Update, Var};
 pub use updates::{all_range_atoms, is_updated, target};
 pub use variables::{is_variable, variable_named};

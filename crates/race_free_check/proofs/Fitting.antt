@@ -16,7 +16,8 @@ use Rattle.conspec_tree.specs.declared.types.Var.{Var}
 use Rattle.conspec_tree.specs.Tree.{IsInRange, greatest}
 use Rattle.conspec_automaton.specs.declared.policy.Clause.{Clause}
 use Rattle.conspec_automaton.specs.declared.policy.Policy.{Policy}
-use Rattle.conspec_automaton.specs.Events.{FitsClause, IsNumberOf, IsWellFormed, number_range, passed_range}
+use Rattle.conspec_tree.specs.Kinds.{number_range, passed_range}
+use Rattle.conspec_automaton.specs.Events.{FitsClause, IsNumberOf, IsWellFormed}
 use Rattle.conspec_automaton.specs.Next.{Values, clause_of, is_phase_of, method_of, speaks_of}
 use Rattle.conspec_automaton.specs.Obeys.{is_return}
 use Rattle.conspec_automaton.specs.Points.{arguments_of, each_choice, events_in, events_of, is_named, named_points, near, points_between, points_of, results_of, states_of, thresholds, values_in}

@@ -1,5 +1,5 @@
 -- For each event with a clause, one of those that are tried for the clause is like it.
-use Rattle.std.proofs.Common.{◌≡◌, ◌≢◌, inl, inr, ℕ, ℤ, true, List, [], ◌∷◌, Option, Some, None, refl, sym, subst, arith}
+use Rattle.std.proofs.Common.{◌≡◌, inl, inr, ℕ, ℤ, true, List, [], ◌∷◌, Option, Some, None, refl, sym, subst, arith}
 use Rattle.std.specs.Prelude.{◌==◌, flat_map, length, slice_get}
 use Rattle.std.proofs.lemmas.Bool.{and_parts, eq-eqb, false≢true}
 use Rattle.api_listing.specs.declared.events.ApiValue.{ApiValue}
@@ -9,14 +9,14 @@ use Rattle.conspec_tree.specs.declared.types.Atom.{Atom}
 use Rattle.conspec_tree.specs.declared.types.Base.{Base}
 use Rattle.conspec_tree.specs.declared.types.Base.TheVariants as bases
 use Rattle.conspec_tree.specs.declared.types.Kind.{Kind}
-use Rattle.conspec_tree.specs.declared.types.Kind.TheVariants as kinds
 use Rattle.conspec_tree.specs.declared.types.Phase.{Phase}
 use Rattle.conspec_tree.specs.declared.types.Phase.TheVariants.{Before, After, Exceptional}
 use Rattle.conspec_tree.specs.declared.types.Var.{Var}
 use Rattle.conspec_tree.specs.Tree.{IsBase, IsNumber, asked}
 use Rattle.conspec_automaton.specs.declared.policy.Branch.{Branch}
 use Rattle.conspec_automaton.specs.declared.policy.Clause.{Clause}
-use Rattle.conspec_automaton.specs.Events.{FitsClause, IsNumberOf, number_range, passed_range}
+use Rattle.conspec_tree.specs.Kinds.{number_range, passed_range, is_number}
+use Rattle.conspec_automaton.specs.Events.{FitsClause, IsNumberOf}
 use Rattle.conspec_automaton.specs.Next.{is_phase_of, speaks_of}
 use Rattle.conspec_automaton.specs.Points.{arguments_of, atoms_in, constants_of, each_choice, events_in, events_of, is_same, results_of}
 use Rattle.conspec_automaton.specs.Sound.{IsClauseIn}
@@ -48,7 +48,7 @@ phase_exceptional Exceptional thread method e = refl
 record Asks (o : Option Kind) : Type 0 where
   pub kind : Kind
   pub is : o ≡ Some kind
-  pub number : kind ≢ kinds.Object
+  pub number : is_number kind ≡ true
 
 asks : (o : Option Kind) → IsNumber o → Asks o
 asks None number = absurd number

@@ -13,7 +13,7 @@ use Rattle.conspec_tree.specs.declared.types.Kind.TheVariants as kinds
 use Rattle.conspec_tree.specs.declared.types.Phase.{Phase}
 use Rattle.conspec_tree.specs.declared.types.Phase.TheVariants.{Before, After, Exceptional}
 use Rattle.conspec_automaton.specs.declared.policy.Clause.{Clause}
-use Rattle.conspec_automaton.specs.Events.{number_range}
+use Rattle.conspec_tree.specs.Kinds.{number_range}
 use Rattle.conspec_automaton.specs.Points.{arguments_at, constants_of, each_choice, events_count, events_in, events_of, points_between, results_of, size_of, values_in}
 use Rattle.race_free_check.specs.Choosing.{IsMade, argument_numbers, made, made_in, numbers_between, numbers_in, numbers_of, result_as, result_numbers, value_as, value_in, values_as}
 

@@ -1,6 +1,7 @@
 -- For each event that fits a clause, one of those that are tried passes or gives alike numbers.
-use Rattle.std.proofs.Common.{◌≡◌, ◌≢◌, inl, ℕ, zero, suc, ◌+◌, ℤ, List, [], ◌∷◌, map, Option, Some, None, refl, subst, arith}
-use Rattle.std.specs.Prelude.{option_and_then, slice_get}
+use Rattle.std.proofs.Common.{◌≡◌, inl, ℕ, zero, suc, ◌+◌, ℤ, true, List, [], ◌∷◌, map, Option, Some, None, refl, subst, arith}
+use Rattle.std.specs.Prelude.{is_some, option_and_then, slice_get}
+use Rattle.std.proofs.lemmas.Bool.{false≢true}
 use Rattle.std.specs.List.{enumerate_from}
 use Rattle.api_listing.specs.declared.events.ApiValue.{ApiValue}
 use Rattle.api_listing.specs.declared.events.ApiValue.TheVariants as api
@@ -8,7 +9,8 @@ use Rattle.conspec_tree.specs.declared.types.Base.TheVariants as bases
 use Rattle.conspec_tree.specs.declared.types.Kind.{Kind}
 use Rattle.conspec_tree.specs.declared.types.Kind.TheVariants as kinds
 use Rattle.conspec_automaton.specs.declared.policy.Clause.{Clause}
-use Rattle.conspec_automaton.specs.Events.{IsNumberOf, number_range, passed_range}
+use Rattle.conspec_tree.specs.Kinds.{number_range, passed_range, is_number}
+use Rattle.conspec_automaton.specs.Events.{IsNumberOf}
 use Rattle.conspec_automaton.specs.Next.{number_in}
 use Rattle.conspec_automaton.specs.Points.{arguments_at, constants_of, points_between, results_of, values_in}
 use Rattle.race_free_check.proofs.EachChoice.{Choice}
@@ -52,18 +54,16 @@ record HasRange (kind : Kind) : Type 0 where
   pub range : ℤ × ℤ
   pub is : number_range kind ≡ Some range
 
-has_range : (kind : Kind) → kind ≢ kinds.Object → HasRange kind
-has_range kinds.Int ne = record { range = _; is = refl }
-has_range kinds.Bool ne = record { range = _; is = refl }
-has_range kinds.Byte ne = record { range = _; is = refl }
-has_range kinds.Short ne = record { range = _; is = refl }
-has_range kinds.Char ne = record { range = _; is = refl }
-has_range kinds.Object ne = absurd (ne refl)
+has_range : (kind : Kind) → is_number kind ≡ true → HasRange kind
+has_range kind number = by (number_range kind) refl number where
+  by : (o : Option (ℤ × ℤ)) → number_range kind ≡ o → is_some o ≡ true → HasRange kind
+  by (Some range) is some = record { range = range; is = is }
+  by None is some = absurd (false≢true some)
 
-pub numbers_given : (kind : Kind) (ts : List ℤ) (given tried : Option ApiValue) → kind ≢ kinds.Object → NumbersOf (number_range kind) ts given tried → Numbers ts given tried
+pub numbers_given : (kind : Kind) (ts : List ℤ) (given tried : Option ApiValue) → is_number kind ≡ true → NumbersOf (number_range kind) ts given tried → Numbers ts given tried
 numbers_given kind ts given tried ne n = let r = has_range kind ne in subst (λ (o : Option (ℤ × ℤ)). NumbersOf o ts given tried) r.is n
 
-pub numbers_passed : (kind : Kind) (ts : List ℤ) (given tried : Option ApiValue) → kind ≢ kinds.Object → NumbersOf (passed_range kind) ts given tried → Numbers ts given tried
+pub numbers_passed : (kind : Kind) (ts : List ℤ) (given tried : Option ApiValue) → is_number kind ≡ true → NumbersOf (passed_range kind) ts given tried → Numbers ts given tried
 numbers_passed kind ts given tried ne n =
     let r = has_range kind ne in
     subst (λ (o : Option (ℤ × ℤ)). NumbersOf (option_and_then (λ own. number_range kinds.Int) o) ts given tried) r.is n

@@ -12,7 +12,7 @@ use Rattle.conspec_tree.specs.declared.types.Phase.TheVariants.{Before, After, E
 use Rattle.conspec_tree.specs.declared.types.Var.{Var}
 use Rattle.conspec_automaton.specs.declared.policy.Clause.{Clause}
 use Rattle.conspec_automaton.specs.declared.policy.Policy.{Policy}
-use Rattle.conspec_automaton.specs.Events.{number_range, passed_range}
+use Rattle.conspec_tree.specs.Kinds.{number_range, passed_range}
 use Rattle.conspec_automaton.specs.Points.{choices_of, constants_of, events_count, points_of, size_of, states_count}
 use Rattle.conspec_automaton.specs.Sound.{IsPolicy}
 use Rattle.conspec_automaton.specs.Trying.{Placed, Trial, capped, clauses_of, is_small, most}

@@ -11,7 +11,7 @@ use Rattle.conspec_tree.specs.declared.types.Kind.{Kind}
 use Rattle.conspec_tree.specs.declared.types.Phase.{Phase}
 use Rattle.conspec_tree.specs.declared.types.Phase.TheVariants.{Before, After, Exceptional}
 use Rattle.conspec_automaton.specs.declared.policy.Clause.{Clause}
-use Rattle.conspec_automaton.specs.Events.{number_range, passed_range}
+use Rattle.conspec_tree.specs.Kinds.{number_range, passed_range}
 use Rattle.conspec_automaton.specs.Points.{constants_of, points_between, size_of}
 
 -- ---- choices, by their numbers

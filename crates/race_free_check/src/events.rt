@@ -8,10 +8,10 @@ ghost use Rattle.conspec_automaton.specs.Trying.{capped};
 ghost use Rattle.race_free_check.specs.Choosing.{IsMade, made, numbers_in, numbers_of, result_as, value_as, values_as};
 
 use crate::choices::Choosing;
-use crate::points::{argument_points, number_range, result_points};
+use crate::points::{argument_points, result_points};
 use api_listing::{ApiValue, Event};
 use conspec_automaton::Clause;
-use conspec_tree::{Kind, Phase};
+use conspec_tree::{Kind, Phase, number_range};
 use mon_base::{List, NoMemory};
 use std::alloc::Global;
 use std::mem::replace;

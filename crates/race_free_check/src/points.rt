@@ -2,7 +2,6 @@
 
 ghost use Rattle.std.specs.Prelude.{◌≡◌, ◌^◌, FitsSigned, IfOk, IfSome};
 ghost use Rattle.std.specs.Int.{w32};
-ghost use Rattle.conspec_automaton.specs.Events.{number_range, passed_range};
 ghost use Rattle.conspec_automaton.specs.Points.{marks, points_between, points_of, shifts, thresholds};
 ghost use Rattle.conspec_automaton.specs.Trying.{clauses_of};
 ghost use Rattle.race_free_check.specs.Choosing.{argument_numbers, numbers_between, result_numbers};
@@ -14,7 +13,7 @@ use crate::naming::{
 use crate::numbers::{ascending, differences, narrowed, near, sums};
 use crate::trial::TrialRef;
 use conspec_automaton::Clause;
-use conspec_tree::{Base, Kind, Var};
+use conspec_tree::{Base, Kind, Var, number_range, passed_range};
 use mon_base::{List, NoMemory};
 use std::alloc::Global;
 
@@ -152,30 +151,4 @@ fn points_between(
     near.push(high)?;
     let points = ascending(near);
     narrowed(alloc, points.as_slice())
-}
-
-/// The range of what is passed: any number of 32 bits, for a narrow type too.
-fn passed_range(kind: Kind) -> Option<(i64, i64)>
-    ensures is { result ≡ passed_range kind }
-    ensures fits { IfSome result (λ ends. FitsSigned w32 ends.0 × FitsSigned w32 ends.1) }
-{
-    match number_range(kind) {
-        Some(_) => number_range(Kind::Int),
-        None => None,
-    }
-}
-
-/// The least and the greatest number of the type; an object is no number.
-pub fn number_range(kind: Kind) -> Option<(i64, i64)>
-    ensures is { result ≡ number_range kind }
-    ensures fits { IfSome result (λ ends. FitsSigned w32 ends.0 × FitsSigned w32 ends.1) }
-{
-    match kind {
-        Kind::Int => Some((-2_147_483_648, 2_147_483_647)),
-        Kind::Bool => Some((0, 1)),
-        Kind::Byte => Some((-128, 127)),
-        Kind::Short => Some((-32_768, 32_767)),
-        Kind::Char => Some((0, 65_535)),
-        Kind::Object => None,
-    }
 }

@@ -1,6 +1,6 @@
 -- The events of a typed program are well formed for a policy that tells the types of its methods.
 use Rattle.std.proofs.Common.{◌≡◌, ℕ, ℤ, zero, suc, ◌<◌, true, ◌&&◌, List, [], ◌∷◌, map, Option, Some, None, refl, sym, ap, subst, ◌∙◌, arith}
-use Rattle.std.specs.Prelude.{◌≢◌, pos, negsuc, ◌-ℤ◌, ◌==◌, int_le, slice_get, option_map, FitsSigned, IfSome}
+use Rattle.std.specs.Prelude.{pos, negsuc, ◌-ℤ◌, ◌==◌, int_le, slice_get, option_map, FitsSigned, IfSome}
 use Rattle.std.specs.Int.{w32}
 use Rattle.std.specs.List.{AllByRecursion}
 use Rattle.std.proofs.lemmas.Bool.{and_parts, and_from, eqb-true, le-leb}
@@ -20,10 +20,11 @@ use Rattle.bytecode_model.specs.Targets.{AreNamed}
 use Rattle.bytecode_model.specs.Uses.{UsesAreShaped}
 use Rattle.conspec_tree.specs.declared.types.Kind.{Kind}
 use Rattle.conspec_tree.specs.declared.types.Kind.TheVariants as kinds
-use Rattle.conspec_tree.specs.Kinds.{kind_of, array_kind, element_kind}
+use Rattle.conspec_tree.specs.Kinds.{kind_of, array_kind, element_kind, is_number}
 use Rattle.conspec_automaton.specs.declared.policy.Clause.{Clause}
 use Rattle.conspec_automaton.specs.declared.policy.Policy.{Policy}
-use Rattle.conspec_automaton.specs.Events.{IsNumberOf, IsWellFormed, number_range, passed_range}
+use Rattle.conspec_tree.specs.Kinds.{number_range, passed_range}
+use Rattle.conspec_automaton.specs.Events.{IsNumberOf, IsWellFormed}
 use Rattle.conspec_automaton.specs.Next.{clause_of, method_of, speaks_of}
 use Rattle.conspec_automaton.specs.Range.{is_between}
 use Rattle.guest_model.specs.Answers.{is_number_of, fits_number}
@@ -65,38 +66,38 @@ answer_between t n h =
     (number_between t.element n a.1)
 
 -- a type of no object is one of numbers
-kind_of_numbers : (dimensions : ℕ) (element : Element) → array_kind dimensions element ≢ kinds.Object
+kind_of_numbers : (dimensions : ℕ) (element : Element) → is_number (array_kind dimensions element) ≡ true
     → ((dimensions == 0) && is_primitive element) ≡ true
 kind_of_numbers zero elements.Boolean some = refl
 kind_of_numbers zero elements.Byte some = refl
 kind_of_numbers zero elements.Char some = refl
 kind_of_numbers zero elements.Short some = refl
 kind_of_numbers zero elements.Int some = refl
-kind_of_numbers zero (elements.Class name) some = absurd (some refl)
-kind_of_numbers (suc n) element some = absurd (some refl)
+kind_of_numbers zero (elements.Class name) some = absurd cc
+kind_of_numbers (suc n) element some = absurd cc
 
-of_numbers : (t : FieldType) (kind : Kind) → kind_of t ≡ kind → kind ≢ kinds.Object → is_of_numbers t ≡ true
-of_numbers t kind is some = kind_of_numbers t.dimensions t.element (λ object. some (sym is ∙ object))
+of_numbers : (t : FieldType) (kind : Kind) → kind_of t ≡ kind → is_number kind ≡ true → is_of_numbers t ≡ true
+of_numbers t kind is some = kind_of_numbers t.dimensions t.element (ap is_number is ∙ some)
 
 -- Where the type is one of numbers, it is a number of 32 bits that is passed.
-passed_number : (kind : Kind) (value : Option ApiValue) → (kind ≢ kinds.Object → IsNumberOf (number_range kinds.Int) value) → IsNumberOf (passed_range kind) value
-passed_number kinds.Int value each = each (λ e. absurd cc)
-passed_number kinds.Bool value each = each (λ e. absurd cc)
-passed_number kinds.Byte value each = each (λ e. absurd cc)
-passed_number kinds.Short value each = each (λ e. absurd cc)
-passed_number kinds.Char value each = each (λ e. absurd cc)
+passed_number : (kind : Kind) (value : Option ApiValue) → (is_number kind ≡ true → IsNumberOf (number_range kinds.Int) value) → IsNumberOf (passed_range kind) value
+passed_number kinds.Int value each = each refl
+passed_number kinds.Bool value each = each refl
+passed_number kinds.Byte value each = each refl
+passed_number kinds.Short value each = each refl
+passed_number kinds.Char value each = each refl
 passed_number kinds.Object value each = tt
 
 -- A number that is given, and in the range of its type.
 abbrev GivenNumber : Kind → Option ApiValue → Type 0
 GivenNumber kind value = (n : ℤ) × (value ≡ Some (api.Int n)) × IfSome (number_range kind) (λ (range : ℤ × ℤ). is_between range.0 range.1 n ≡ true)
 
-given_number : (kind : Kind) (value : Option ApiValue) → (kind ≢ kinds.Object → GivenNumber kind value) → IsNumberOf (number_range kind) value
-given_number kinds.Int value each = each (λ e. absurd cc)
-given_number kinds.Bool value each = each (λ e. absurd cc)
-given_number kinds.Byte value each = each (λ e. absurd cc)
-given_number kinds.Short value each = each (λ e. absurd cc)
-given_number kinds.Char value each = each (λ e. absurd cc)
+given_number : (kind : Kind) (value : Option ApiValue) → (is_number kind ≡ true → GivenNumber kind value) → IsNumberOf (number_range kind) value
+given_number kinds.Int value each = each refl
+given_number kinds.Bool value each = each refl
+given_number kinds.Byte value each = each refl
+given_number kinds.Short value each = each refl
+given_number kinds.Char value each = each refl
 given_number kinds.Object value each = tt
 
 -- ---- what is passed, and what is given

@@ -14,7 +14,8 @@ use Rattle.conspec_tree.specs.declared.types.Kind.TheVariants as kinds
 use Rattle.conspec_tree.specs.Kinds.{kind_of}
 use Rattle.conspec_automaton.specs.declared.policy.Clause.{Clause}
 use Rattle.conspec_automaton.specs.declared.policy.Policy.{Policy}
-use Rattle.conspec_automaton.specs.Events.{IsNumberOf, number_range}
+use Rattle.conspec_tree.specs.Kinds.{number_range}
+use Rattle.conspec_automaton.specs.Events.{IsNumberOf}
 use Rattle.conspec_automaton.specs.Next.{clause_of}
 use Rattle.conspec_automaton.specs.Range.{is_between}
 use Rattle.typed_runs.specs.IllFormed.{IsAskedOf, NullIsNoArgument, NullIsNoResult, WideIsNoResult}

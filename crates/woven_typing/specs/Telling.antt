@@ -22,8 +22,12 @@ use Rattle.conspec_automaton.specs.Building.{built}
 
 -- The type is one of the kind.
 abbrev pub IsOfKind : Kind → VType → Type 0
+IsOfKind kinds.Int t = t ≡ types.Int
+IsOfKind kinds.Bool t = t ≡ types.Int
+IsOfKind kinds.Byte t = t ≡ types.Int
+IsOfKind kinds.Short t = t ≡ types.Int
+IsOfKind kinds.Char t = t ≡ types.Int
 IsOfKind kinds.Object t = (name : List ℕ) × (t ≡ types.Ref name)
-IsOfKind number t = t ≡ types.Int
 
 -- The kinds are those of the types that are described.
 abbrev pub AreOfKinds : List Kind → List Descriptor → Type 0

@@ -18,7 +18,8 @@ use Rattle.cert_format.specs.declared.note.Site.{Site}
 use Rattle.conspec_tree.specs.declared.types.Kind.{Kind}
 use Rattle.conspec_tree.specs.declared.types.Kind.TheVariants as kinds
 use Rattle.conspec_automaton.specs.declared.policy.Clause.{Clause}
-use Rattle.conspec_automaton.specs.Events.{FitsClause, IsNumberOf, number_range}
+use Rattle.conspec_tree.specs.Kinds.{number_range}
+use Rattle.conspec_automaton.specs.Events.{FitsClause, IsNumberOf}
 use Rattle.conspec_automaton.specs.Next.{number_in as shown_number}
 use Rattle.conspec_automaton.specs.Sight.{sight_of}
 use Rattle.guest_heap.specs.declared.object.Object.{Object}

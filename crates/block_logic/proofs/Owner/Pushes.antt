@@ -37,7 +37,6 @@ use Rattle.guest_model.specs.Places.{class_index}
 use Rattle.guest_model.specs.Stepping.{Acting, insn_stepped}
 use Rattle.guest_model.proofs.Options.{and_then_of, map_of, some_is}
 use Rattle.block_logic.specs.Accepted.{rules_of}
-use Rattle.block_logic.specs.Clauses.{is_number}
 use Rattle.block_logic.specs.Fitting.{state_of}
 use Rattle.block_logic.specs.Meaning.{AreTerms, TellsArguments, TellsIn, TellsOne, TellsResult, lock_of, term_value}
 use Rattle.block_logic.specs.Operands.{loaded_number, number_named, number_pushed, pushes_state, reads_static, state_name, variable_named}
@@ -45,6 +44,7 @@ use Rattle.block_logic.specs.Rows.{Rules, argument_in, field_term, local_term, r
 use Rattle.block_logic.specs.Standing.{is_after, is_before}
 use Rattle.block_logic.proofs.Owner.Moves.{Behind, loads, pushes_constant, pushes_number, reads_variable}
 use Rattle.block_logic.proofs.Owner.Terms.{term_at}
+use Rattle.conspec_tree.specs.Kinds.{is_number}
 
 -- ---- shapes and operands
 

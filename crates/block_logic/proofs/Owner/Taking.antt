@@ -26,7 +26,8 @@ use Rattle.conspec_tree.specs.declared.types.Kind.{Kind}
 use Rattle.conspec_tree.specs.declared.types.Phase.TheVariants as phases
 use Rattle.conspec_automaton.specs.declared.policy.Clause.{Clause}
 use Rattle.conspec_automaton.specs.declared.policy.Policy.{Policy}
-use Rattle.conspec_automaton.specs.Events.{IsNumberOf, number_range, passed_range}
+use Rattle.conspec_tree.specs.Kinds.{number_range, passed_range}
+use Rattle.conspec_automaton.specs.Events.{IsNumberOf}
 use Rattle.conspec_automaton.specs.Next.{Values, has_clauses, number_in as shown_number}
 use Rattle.conspec_automaton.specs.Range.{in_range, is_between}
 use Rattle.guest_heap.specs.declared.frame.Frame.{Frame}
