@@ -1,11 +1,10 @@
 -- What is read of a descriptor is spelled so, and what is spelled so is read.
 use Rattle.std.proofs.Common.{◌≡◌, ℕ, suc, zero, ◌+◌, ◌<◌, Bool, true, false, cond, ◌&&◌, List, [], ◌∷◌, ◌++◌, length, drop, Option, Some, None, Ok, Err, refl, sym, ap, subst, ◌∙◌, append_assoc, arith, inl, inr, eqb, ◌⊎◌, ◌≢◌}
 use Rattle.std.specs.Prelude.{option_map, ok_or, IfOk, IfSome, IfNone, MatchResult, bytes_eq, codes, replicate}
-use Rattle.std.specs.List.{list_all, list_any, flat_map, onto_first}
+use Rattle.std.specs.List.{list_all, list_any, flat_map}
 use Rattle.std.proofs.lemmas.List.{append-nil}
 use Rattle.std.proofs.lemmas.Bool.{ne_eqb, false≢true}
 use Rattle.std.proofs.lemmas.Bool.Decides.{eqb_tells}
-use Rattle.std.proofs.lemmas.List.Splits.{slice_split-cons_yes, slice_split-cons_no}
 use Rattle.std.proofs.lemmas.Slice.Eq.{bytes_eq-Decides}
 use Rattle.mon_base.specs.Reading.{◌>>=◌, need}
 use Rattle.api_listing.specs.declared.descriptor.Element.{Element}
@@ -13,10 +12,11 @@ use Rattle.api_listing.specs.declared.descriptor.Element.TheVariants.{Boolean, B
 use Rattle.api_listing.specs.declared.descriptor.FieldType.{FieldType}
 use Rattle.api_listing.specs.declared.descriptor.MethodType.{MethodType}
 use Rattle.api_listing.specs.declared.fault.FormFault.TheVariants.{NoForm, Memory}
-use Rattle.api_listing.specs.Words.{pieces, is_name_byte, is_segment, is_class_name}
+use Rattle.api_listing.specs.Words.{is_class_name}
 use Rattle.mon_base.specs.Answer.{Answers}
 use Rattle.api_listing.specs.Fault.{Read}
 use Rattle.api_listing.specs.Descriptor.{class_spelled, element_spelled, type_spelled, result_spelled, is_element, is_type, is_result, SpellsDescriptor, SpellsType, SpellsClass, until, named_only, name_at, class_at, element_at, deeper, flat, type_at, whole_type, result_of, is_closed, arguments_at, after_first, method_type, ended, class_described}
+use Rattle.api_listing.proofs.ClassBytes.{class_has_none}
 
 pub both : (a b : Bool) → (a && b) ≡ true → (a ≡ true) × (b ≡ true)
 both true true e = (refl, refl)
@@ -37,45 +37,8 @@ same_read {X = X} a c b d h =
 
 -- ---- names have no `;`
 
-abbrev all_pieces : List (List ℕ) → Bool
-all_pieces parts = list_all (list_all is_name_byte) parts
-
-segments : (parts : List (List ℕ)) → list_all is_segment parts ≡ true → all_pieces parts ≡ true
-segments [] e = refl
-segments ([] ∷ parts) e = absurd (false≢true e)
-segments ((b ∷ bytes) ∷ parts) e =
-    let p = both (is_segment (b ∷ bytes)) (list_all is_segment parts) e in
-    rw (p.0, segments parts p.1) refl
-
 abbrev has_semicolon : List ℕ → Bool
 has_semicolon name = list_any (λ b. eqb b 59) name
-
-name_byte : (b : ℕ) → is_name_byte b ≡ true → eqb b 59 ≡ false
-name_byte b named = by (eqb_tells b 59) where
-  by : ((eqb b 59 ≡ true) × (b ≡ 59)) ⊎ ((eqb b 59 ≡ false) × (b ≢ 59)) → eqb b 59 ≡ false
-  by (inl p) = absurd (false≢true (sym (ap is_name_byte p.1) ∙ named))
-  by (inr p) = p.0
-
-first_part : (b : ℕ) (parts : List (List ℕ)) → all_pieces (onto_first b parts) ≡ true → (is_name_byte b ≡ true) × (all_pieces parts ≡ true)
-first_part b [] e = ((both (is_name_byte b) true (both (is_name_byte b && true) true e).0).0, refl)
-first_part b (part ∷ parts) e =
-    let p = both (is_name_byte b && list_all is_name_byte part) (all_pieces parts) e in
-    let q = both (is_name_byte b) (list_all is_name_byte part) p.0 in
-    (q.0, rw (q.1, p.1) refl)
-
-none_next : (b : ℕ) (bytes : List ℕ) → (all_pieces (pieces 47 bytes) ≡ true → has_semicolon bytes ≡ false) → all_pieces (pieces 47 (b ∷ bytes)) ≡ true → has_semicolon (b ∷ bytes) ≡ false
-none_next b bytes others e = by (eqb_tells b 47) where
-  by : ((eqb b 47 ≡ true) × (b ≡ 47)) ⊎ ((eqb b 47 ≡ false) × (b ≢ 47)) → has_semicolon (b ∷ bytes) ≡ false
-  by (inl p) =
-      let rest : all_pieces (pieces 47 bytes) ≡ true = sym (ap all_pieces (slice_split-cons_yes (λ x. eqb x 47) b bytes p.0)) ∙ e in
-      rw (p.1, others rest) refl
-  by (inr p) =
-      let q = first_part b (pieces 47 bytes) (sym (ap all_pieces (slice_split-cons_no (λ x. eqb x 47) b bytes p.0)) ∙ e) in
-      rw (name_byte b q.0, others q.1) refl
-
-none_in : (name : List ℕ) → all_pieces (pieces 47 name) ≡ true → has_semicolon name ≡ false
-none_in [] e = refl
-none_in (b ∷ bytes) e = none_next b bytes (none_in bytes) e
 
 -- ---- the next `;`
 
@@ -135,7 +98,7 @@ name_found bytes name rest e = by (until 59 bytes) refl e where
 
 pub name_again : (name rest : List ℕ) → is_class_name name ≡ true → name_at (name ++ 59 ∷ rest) ≡ Some (name, rest)
 name_again name rest named =
-    rw (until_again name rest (none_in name (segments (pieces 47 name) named)), named) refl
+    rw (until_again name rest (class_has_none 59 refl refl name named), named) refl
 
 abbrev as_class : Option (List ℕ × List ℕ) → Read (Element × List ℕ)
 as_class read = ok_or (option_map (λ r. (Class r.0, r.1)) read) NoForm

@@ -1,3 +1,4 @@
+pub mod ClassBytes
 mod Climbing
 pub mod DescriptorLaws
 pub mod Descriptors

@@ -1,17 +1,16 @@
 -- The result's text in a descriptor, and the plain answer by it.
-use Rattle.std.proofs.Common.{◌≡◌, ◌≢◌, ℕ, zero, suc, Bool, true, false, eqb, ◌&&◌, ◌||◌, List, [], ◌∷◌, ◌++◌, Option, Some, None, refl, sym, ap, ◌∙◌, append_assoc, arith, inl, inr, ◌⊎◌}
+use Rattle.std.proofs.Common.{◌≡◌, ◌≢◌, ℕ, zero, suc, Bool, true, false, eqb, ◌||◌, List, [], ◌∷◌, ◌++◌, Option, Some, None, refl, sym, ap, ◌∙◌, append_assoc, arith}
 use Rattle.std.specs.Prelude.{replicate}
-use Rattle.std.specs.List.{list_all, list_any, flat_map, onto_first}
+use Rattle.std.specs.List.{list_all, list_any, flat_map}
 use Rattle.std.proofs.lemmas.Bool.{false≢true, ne_eqb}
-use Rattle.std.proofs.lemmas.Bool.Decides.{eqb_tells}
-use Rattle.std.proofs.lemmas.List.Splits.{slice_split-cons_yes, slice_split-cons_no}
 use Rattle.api_listing.specs.declared.descriptor.Element.{Element}
 use Rattle.api_listing.specs.declared.descriptor.Element.TheVariants.{Boolean, Byte, Char, Short, Int, Class}
 use Rattle.api_listing.specs.declared.descriptor.FieldType.{FieldType}
 use Rattle.api_listing.specs.declared.descriptor.MethodType.{MethodType}
 use Rattle.api_listing.specs.declared.events.ApiCall.{ApiCall}
-use Rattle.api_listing.specs.Words.{pieces, is_name_byte, is_segment, is_class_name}
+use Rattle.api_listing.specs.Words.{is_class_name}
 use Rattle.api_listing.specs.Descriptor.{class_spelled, element_spelled, type_spelled, result_spelled, is_element, is_type, is_result, class_described, SpellsDescriptor}
+use Rattle.api_listing.proofs.ClassBytes.{class_has_none}
 use Rattle.api_listing.proofs.DescriptorLaws.{both, class_descriptor_again}
 use Rattle.api_shelf.specs.Plain.{plain_answer, plain_for, plain_spelled, plain_named, result_text}
 
@@ -22,43 +21,6 @@ closes b = eqb b 41
 
 abbrev has_bracket : List ℕ → Bool
 has_bracket text = list_any closes text
-
-abbrev all_pieces : List (List ℕ) → Bool
-all_pieces parts = list_all (list_all is_name_byte) parts
-
-segments : (parts : List (List ℕ)) → list_all is_segment parts ≡ true → all_pieces parts ≡ true
-segments [] e = refl
-segments ([] ∷ parts) e = absurd (false≢true e)
-segments ((b ∷ bytes) ∷ parts) e =
-    let p = both (is_segment (b ∷ bytes)) (list_all is_segment parts) e in
-    rw (p.0, segments parts p.1) refl
-
-name_byte : (b : ℕ) → is_name_byte b ≡ true → closes b ≡ false
-name_byte b named = by (eqb_tells b 41) where
-  by : ((eqb b 41 ≡ true) × (b ≡ 41)) ⊎ ((eqb b 41 ≡ false) × (b ≢ 41)) → eqb b 41 ≡ false
-  by (inl p) = absurd (false≢true (sym (ap is_name_byte p.1) ∙ named))
-  by (inr p) = p.0
-
-first_part : (b : ℕ) (parts : List (List ℕ)) → all_pieces (onto_first b parts) ≡ true → (is_name_byte b ≡ true) × (all_pieces parts ≡ true)
-first_part b [] e = ((both (is_name_byte b) true (both (is_name_byte b && true) true e).0).0, refl)
-first_part b (part ∷ parts) e =
-    let p = both (is_name_byte b && list_all is_name_byte part) (all_pieces parts) e in
-    let q = both (is_name_byte b) (list_all is_name_byte part) p.0 in
-    (q.0, rw (q.1, p.1) refl)
-
-none_next : (b : ℕ) (bytes : List ℕ) → (all_pieces (pieces 47 bytes) ≡ true → has_bracket bytes ≡ false) → all_pieces (pieces 47 (b ∷ bytes)) ≡ true → has_bracket (b ∷ bytes) ≡ false
-none_next b bytes others e = by (eqb_tells b 47) where
-  by : ((eqb b 47 ≡ true) × (b ≡ 47)) ⊎ ((eqb b 47 ≡ false) × (b ≢ 47)) → has_bracket (b ∷ bytes) ≡ false
-  by (inl p) =
-      let rest : all_pieces (pieces 47 bytes) ≡ true = sym (ap all_pieces (slice_split-cons_yes (λ x. eqb x 47) b bytes p.0)) ∙ e in
-      rw (p.1, others rest) refl
-  by (inr p) =
-      let q = first_part b (pieces 47 bytes) (sym (ap all_pieces (slice_split-cons_no (λ x. eqb x 47) b bytes p.0)) ∙ e) in
-      rw (name_byte b q.0, others q.1) refl
-
-none_in : (name : List ℕ) → all_pieces (pieces 47 name) ≡ true → has_bracket name ≡ false
-none_in [] e = refl
-none_in (b ∷ bytes) e = none_next b bytes (none_in bytes) e
 
 -- ---- nor have types
 
@@ -76,7 +38,7 @@ past (b ∷ bytes) behind none = past_next b bytes behind (past bytes behind) no
 past_class : (name behind : List ℕ) → is_class_name name ≡ true → result_text ((76 ∷ (name ++ 59 ∷ [])) ++ behind) ≡ result_text behind
 past_class name behind named =
     ap result_text (ap (λ (t : List ℕ). 76 ∷ t) (append_assoc name (59 ∷ []) behind))
-    ∙ past name (59 ∷ behind) (none_in name (segments (pieces 47 name) named))
+    ∙ past name (59 ∷ behind) (class_has_none 41 refl refl name named)
 
 past_element : (e : Element) (behind : List ℕ) → is_element e ≡ true → result_text (element_spelled e ++ behind) ≡ result_text behind
 past_element Boolean behind good = refl

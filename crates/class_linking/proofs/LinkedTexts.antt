@@ -3,7 +3,7 @@ use Rattle.std.proofs.Common.{◌≡◌, ℕ, zero, suc, ◌+◌, Bool, true, fa
 use Rattle.std.specs.Prelude.{slice_get, bytes_eq, ⊤}
 use Rattle.std.specs.List.{position_from, fold, flat_map, filter_map, cons_option}
 use Rattle.std.specs.Option.{option_map_or}
-use Rattle.std.proofs.lemmas.Bool.{false≢true}
+use Rattle.std.proofs.lemmas.Bool.{false≢true, or_parts}
 use Rattle.std.proofs.lemmas.Slice.Eq.{bytes_eq-Decides}
 use Rattle.class_codec.specs.declared.tree.Const.{Const}
 use Rattle.class_codec.specs.declared.tree.ClassFile.{ClassFile}
@@ -92,20 +92,16 @@ other_way a b e = by (bytes_eq b a) refl where
   by true is = absurd (false≢true (sym e ∙ (bytes_eq-Decides a b).1 (sym (same_name b a is))))
   by false is = refl
 
-no_front : (a b : Bool) → (a || b) ≡ false → (a ≡ false) × (b ≡ false)
-no_front true b e = absurd (false≢true (sym e))
-no_front false b e = (refl, e)
-
 not_pushed : (names : List Name) (x name : Name) → is_one_of names name ≡ false → bytes_eq x name ≡ false → is_one_of (names ++ x ∷ []) name ≡ false
 not_pushed [] x name none apart = ap (λ (b : Bool). b || false) apart
 not_pushed (y ∷ names) x name none apart =
-    let n = no_front (bytes_eq y name) (is_one_of names name) none in
+    let n = or_parts (bytes_eq y name) (is_one_of names name) none in
     ap₂ (λ (a b : Bool). a || b) n.0 (not_pushed names x name n.1 apart)
 
 once_pushed : (names : List Name) (x : Name) → AreOnce names → is_one_of names x ≡ false → AreOnce (names ++ x ∷ [])
 once_pushed [] x once new = (refl, tt)
 once_pushed (y ∷ names) x once new =
-    let n = no_front (bytes_eq y x) (is_one_of names x) new in
+    let n = or_parts (bytes_eq y x) (is_one_of names x) new in
     (not_pushed names x y once.0 (other_way y x n.0), once_pushed names x once.1 n.1)
 
 once_with : (names : List Name) (x : Name) → AreOnce names → AreOnce (with_name names x)

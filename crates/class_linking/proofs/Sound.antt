@@ -1,8 +1,9 @@
 -- What holds of each program that links.
 use Rattle.std.proofs.Common.{◌≡◌, ℕ, ◌+◌, ◌≤◌, ◌<◌, ◌^◌, Bool, true, false, cond, List, [], ◌∷◌, length, Option, Some, None, Ok, refl, subst, arith}
 use Rattle.std.specs.Prelude.{◌==◌, option_and_then, nat_lt, if◌then◌else◌}
-use Rattle.std.specs.List.{AllByRecursion, position_from}
+use Rattle.std.specs.List.{AllByRecursion}
 use Rattle.std.proofs.lemmas.Bool.Decides.{nat_tests}
+use Rattle.mon_base.proofs.Lists.{position_below}
 use Rattle.class_codec.specs.declared.tree.Const.{Const}
 use Rattle.class_codec.specs.declared.tree.Code.{Code}
 use Rattle.class_codec.specs.declared.tree.TableEntry.{TableEntry}
@@ -30,15 +31,6 @@ use Rattle.class_linking.proofs.Loop.{both_linked, same_length, each_of}
 use Rattle.class_linking.proofs.Parts.{class_parts, handler_parts, members_are}
 
 -- ---- places
-
-pub position_below : {X : Type 0} (p : X → Bool) (at : ℕ) (xs : List X) (i : ℕ) → position_from p at xs ≡ Some i → i < at + length xs
-position_below p at [] i e = absurd cc
-position_below {X = X} p at (x ∷ xs) i e = by (p x) e (position_below p (at + 1) xs i) where
-  by : (b : Bool) → cond b (Some at) (position_from p (at + 1) xs) ≡ Some i → (position_from p (at + 1) xs ≡ Some i → i < at + 1 + length xs) → i < at + length (x ∷ xs)
-  by true e later =
-      let same : at ≡ i = some_is at i e in
-      omega (arith, same)
-  by false e later = omega (arith, later e)
 
 starts_len : (at : ℕ) (insns : List Insn) → length (starts_from at insns) ≡ length insns + 1
 unfolding starts_from

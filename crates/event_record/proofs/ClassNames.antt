@@ -1,12 +1,10 @@
 -- The names of classes and of arrays are words: those of a linked program, of its listing, and of what the machine throws.
-use Rattle.std.proofs.Common.{◌≡◌, ◌≢◌, ◌⊎◌, inl, inr, ℕ, zero, suc, ◌-◌, Bool, true, false, cond, List, [], ◌∷◌, ◌++◌, length, take, filter, replicate, eqb, Option, Some, None, refl, sym, ap, subst, ◌∙◌, arith}
-use Rattle.std.specs.Prelude.{◌==◌, ◌&&◌, bytes_eq, codes}
-use Rattle.std.specs.List.{AllByRecursion, filter_map, list_all, onto_first}
+use Rattle.std.proofs.Common.{◌≡◌, ◌≢◌, ℕ, zero, suc, ◌-◌, Bool, true, false, cond, List, [], ◌∷◌, ◌++◌, length, take, filter, replicate, Option, Some, None, refl, sym, ap, subst, ◌∙◌, arith}
+use Rattle.std.specs.Prelude.{◌==◌, bytes_eq, codes}
+use Rattle.std.specs.List.{AllByRecursion, filter_map, list_all}
 use Rattle.std.specs.Option.{option_map_or}
 use Rattle.std.proofs.lemmas.Bool.{and_parts, false≢true}
-use Rattle.std.proofs.lemmas.Bool.Decides.{eqb_tells}
 use Rattle.std.proofs.lemmas.List.{length-append}
-use Rattle.std.proofs.lemmas.List.Splits.{slice_split-cons_no, slice_split-cons_yes}
 use Rattle.std.proofs.lemmas.Slice.Eq.{bytes_eq-Decides}
 use Rattle.mon_base.specs.declared.method.MethodId.{MethodId}
 use Rattle.api_listing.specs.declared.declaration.Declaration.{Declaration}
@@ -21,7 +19,8 @@ use Rattle.api_listing.specs.Descriptor.{SpellsClass, element_spelled, is_type, 
 use Rattle.api_listing.specs.Lines.{says_something}
 use Rattle.api_listing.specs.Listing.{AreSaid, SpellsListing, class_declared, field_declared, is_known}
 use Rattle.api_listing.specs.Nearest.{class_named as nearest_named}
-use Rattle.api_listing.specs.Words.{is_class_name, is_name_byte, is_segment, pieces}
+use Rattle.api_listing.specs.Words.{is_class_name, is_name_byte}
+use Rattle.api_listing.proofs.ClassBytes.{class_bytes}
 use Rattle.bytecode_model.specs.Arrays.{array_of, described, is_array}
 use Rattle.bytecode_model.specs.Makes.{array_named}
 use Rattle.bytecode_model.specs.SearchOrder.{Name}
@@ -94,42 +93,12 @@ array_of_named name h = some_name 91 (described name) ((λ e. omega (arith, e), 
 
 -- ---- names of classes
 
-abbrev all_pieces : List (List ℕ) → Bool
-all_pieces parts = list_all (list_all is_name_byte) parts
-
-segments : (parts : List (List ℕ)) → list_all is_segment parts ≡ true → all_pieces parts ≡ true
-segments [] e = refl
-segments ([] ∷ parts) e = absurd (false≢true e)
-segments ((b ∷ bytes) ∷ parts) e =
-    let p = and_parts (is_segment (b ∷ bytes)) (list_all is_segment parts) e in
-    rw (p.0, segments parts p.1) refl
-
 name_byte : (b : ℕ) → is_name_byte b ≡ true → IsNoBreak b
 name_byte b named = (λ e. false≢true (sym (ap is_name_byte e) ∙ named), λ e. false≢true (sym (ap is_name_byte e) ∙ named))
 
-first_part : (b : ℕ) (parts : List (List ℕ)) → all_pieces (onto_first b parts) ≡ true → (is_name_byte b ≡ true) × (all_pieces parts ≡ true)
-first_part b [] e = ((and_parts (is_name_byte b) true (and_parts (is_name_byte b && true) true e).0).0, refl)
-first_part b (part ∷ parts) e =
-    let p = and_parts (is_name_byte b && list_all is_name_byte part) (all_pieces parts) e in
-    let q = and_parts (is_name_byte b) (list_all is_name_byte part) p.0 in
-    (q.0, rw (q.1, p.1) refl)
-
-unbroken : (name : List ℕ) → all_pieces (pieces 47 name) ≡ true → HasNoBreak name
-unbroken [] e = tt
-unbroken (b ∷ bytes) e = by (eqb_tells b 47) (unbroken bytes) where
-  by : ((eqb b 47 ≡ true) × (b ≡ 47)) ⊎ ((eqb b 47 ≡ false) × (b ≢ 47)) → (all_pieces (pieces 47 bytes) ≡ true → HasNoBreak bytes)
-      → HasNoBreak (b ∷ bytes)
-  by (inl p) others =
-      let rest : all_pieces (pieces 47 bytes) ≡ true = sym (ap all_pieces (slice_split-cons_yes (λ x. eqb x 47) b bytes p.0)) ∙ e in
-      let is : b ≡ 47 = p.1 in
-      ((λ s. omega (arith, s, is), λ s. omega (arith, s, is)), others rest)
-  by (inr p) others =
-      let q = first_part b (pieces 47 bytes) (sym (ap all_pieces (slice_split-cons_no (λ x. eqb x 47) b bytes p.0)) ∙ e) in
-      (name_byte b q.0, others q.1)
-
 pub class_named : (name : List ℕ) → is_class_name name ≡ true → IsNamed name
 class_named [] e = absurd (false≢true e)
-class_named (b ∷ name) e = some_name b name (unbroken (b ∷ name) (segments (pieces 47 (b ∷ name)) e))
+class_named (b ∷ name) e = some_name b name (class_bytes IsNoBreak (λ e. omega (arith, e), λ e. omega (arith, e)) name_byte (b ∷ name) e)
 
 -- ---- types
 

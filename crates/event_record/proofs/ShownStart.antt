@@ -1,8 +1,9 @@
 -- What a linked program begins with and names can be written, and so can the lines of its runs.
 use Rattle.std.proofs.Common.{◌≡◌, ℕ, zero, suc, ◌+◌, ◌<◌, Bool, List, [], ◌∷◌, ◌++◌, length, map, Option, Some, None, Ok, Err, refl, sym, ap, subst, cond, true, false, arith}
 use Rattle.std.specs.Prelude.{◌&&◌, bytes_eq, codes, slice_get}
-use Rattle.std.specs.List.{AllByRecursion, fold, filter_map, flat_map, cons_option, position_from}
+use Rattle.std.specs.List.{AllByRecursion, fold, filter_map, flat_map, cons_option}
 use Rattle.std.proofs.lemmas.Bool.{and_parts}
+use Rattle.mon_base.proofs.Lists.{position_below}
 use Rattle.mon_base.specs.declared.method.MethodId.{MethodId}
 use Rattle.class_codec.specs.declared.tree.ClassFile.{ClassFile}
 use Rattle.class_codec.specs.declared.tree.Const.{Const}
@@ -119,13 +120,6 @@ all_spell : (classes : List LinkedClass) → AllByRecursion IsSoundClass classes
 all_spell classes all = all_mapped IsSoundClass CanSpell (λ (c : LinkedClass). c.file) classes (λ c sound. sound.fits) all
 
 -- ---- classes
-
-position_below : {X : Type 0} (p : X → Bool) (at : ℕ) (xs : List X) (i : ℕ) → position_from p at xs ≡ Some i → i < at + length xs
-position_below p at [] i e = absurd cc
-position_below p at (x ∷ xs) i e = by (p x) refl (position_below p (at + 1) xs i) where
-  by : (b : Bool) → p x ≡ b → (position_from p (at + 1) xs ≡ Some i → i < at + 1 + length xs) → i < at + length (x ∷ xs)
-  by true is others = let found : at ≡ i = some_is at i (rw is at e) in omega (arith, found)
-  by false is others = let less = others (rw is at e) in omega (arith, less)
 
 name_at_named : (classes : List ListedClass) → ClassesNamed classes → (index : ℕ) → index < length classes → IsNamed (name_at classes index)
 name_at_named [] all index less = let no : ⊥ = omega (arith, less) in absurd no

@@ -1,17 +1,17 @@
 -- What is read off a descriptor is what it spells.
-use Rattle.std.proofs.Common.{◌≡◌, ◌≢◌, ℕ, zero, suc, ◌+◌, ◌≤◌, Bool, true, false, ◌&&◌, List, [], ◌∷◌, ◌++◌, ◌⊎◌, length, map, replicate, Some, Ok, refl, sym, ap, ◌∙◌, inl, inr, eqb, append_assoc, arith}
+use Rattle.std.proofs.Common.{◌≡◌, ◌≢◌, ℕ, zero, suc, ◌+◌, ◌≤◌, Bool, true, false, List, [], ◌∷◌, ◌++◌, ◌⊎◌, length, map, replicate, Some, Ok, refl, sym, ap, ◌∙◌, inl, inr, eqb, append_assoc, arith}
 use Rattle.std.specs.Prelude.{◌||◌, ◌==◌}
-use Rattle.std.specs.List.{AllByRecursion, list_all, flat_map, onto_first}
+use Rattle.std.specs.List.{AllByRecursion, list_all, flat_map}
 use Rattle.std.proofs.lemmas.Bool.{false≢true}
 use Rattle.std.proofs.lemmas.Bool.Decides.{eqb_tells}
 use Rattle.std.proofs.lemmas.List.{take_at, drop_at, length-append}
-use Rattle.std.proofs.lemmas.List.Splits.{slice_split-cons_yes, slice_split-cons_no}
 use Rattle.api_listing.specs.declared.descriptor.Element.{Element}
 use Rattle.api_listing.specs.declared.descriptor.Element.TheVariants as elements
 use Rattle.api_listing.specs.declared.descriptor.FieldType.{FieldType}
 use Rattle.api_listing.specs.declared.descriptor.MethodType.{MethodType}
 use Rattle.api_listing.specs.Descriptor.{class_spelled, element_spelled, type_spelled, result_spelled, is_element, is_type, method_type, SpellsDescriptor}
-use Rattle.api_listing.specs.Words.{pieces, is_name_byte, is_segment, is_class_name}
+use Rattle.api_listing.specs.Words.{is_name_byte, is_class_name}
+use Rattle.api_listing.proofs.ClassBytes.{class_bytes_pass}
 use Rattle.api_listing.proofs.DescriptorLaws.{both, method_found}
 use Rattle.bytecode_model.specs.Described.{Descriptor, name_length, type_length, first_type, behind_type, next_type, types_at, arguments, result_text}
 
@@ -34,37 +34,8 @@ apart b other none is = by (eqb_tells b other) where
   by (inl p) = absurd (false≢true (sym none ∙ ap is_path_byte (sym p.1) ∙ is))
   by (inr p) = p.0
 
-abbrev all_pieces : List (List ℕ) → Bool
-all_pieces parts = list_all (list_all is_name_byte) parts
-
-segments : (parts : List (List ℕ)) → list_all is_segment parts ≡ true → all_pieces parts ≡ true
-segments [] e = refl
-segments ([] ∷ parts) e = absurd (false≢true e)
-segments ((b ∷ bytes) ∷ parts) e =
-    let p = both (is_segment (b ∷ bytes)) (list_all is_segment parts) e in
-    rw (p.0, segments parts p.1) refl
-
-first_part : (b : ℕ) (parts : List (List ℕ)) → all_pieces (onto_first b parts) ≡ true → (is_name_byte b ≡ true) × (all_pieces parts ≡ true)
-first_part b [] e = ((both (is_name_byte b) true (both (is_name_byte b && true) true e).0).0, refl)
-first_part b (part ∷ parts) e =
-    let p = both (is_name_byte b && list_all is_name_byte part) (all_pieces parts) e in
-    let q = both (is_name_byte b) (list_all is_name_byte part) p.0 in
-    (q.0, rw (q.1, p.1) refl)
-
-joined_path : (name : List ℕ) → all_pieces (pieces 47 name) ≡ true → is_path name ≡ true
-joined_path [] e = refl
-joined_path (b ∷ bytes) e = by (eqb_tells b 47) (joined_path bytes) where
-  by : ((eqb b 47 ≡ true) × (b ≡ 47)) ⊎ ((eqb b 47 ≡ false) × (b ≢ 47)) → (all_pieces (pieces 47 bytes) ≡ true → is_path bytes ≡ true) → is_path (b ∷ bytes) ≡ true
-  by (inl p) later =
-      let rest : all_pieces (pieces 47 bytes) ≡ true = sym (ap all_pieces (slice_split-cons_yes (λ x. eqb x 47) b bytes p.0)) ∙ e in
-      rw (p.1, later rest) refl
-  by (inr p) later =
-      let q = first_part b (pieces 47 bytes) (sym (ap all_pieces (slice_split-cons_no (λ x. eqb x 47) b bytes p.0)) ∙ e) in
-      let first = path_byte b q.0 in
-      rw (first, later q.1) refl
-
 pub path_of_class : (name : List ℕ) → is_class_name name ≡ true → is_path name ≡ true
-path_of_class name e = joined_path name (segments (pieces 47 name) e)
+path_of_class name e = class_bytes_pass is_path_byte refl path_byte name e
 
 name_long : (name rest : List ℕ) → is_path name ≡ true → name_length (name ++ 59 ∷ rest) ≡ length name + 1
 name_long [] rest e = refl

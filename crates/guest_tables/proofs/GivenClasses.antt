@@ -5,6 +5,7 @@ use Rattle.std.specs.List.{position_from, AllByRecursion}
 use Rattle.std.specs.Option.{option_or, option_map, option_map_or, option_and_then, is_some}
 use Rattle.std.proofs.lemmas.List.{length-map}
 use Rattle.std.proofs.lemmas.Option.{slice_get-map}
+use Rattle.mon_base.proofs.Lists.{position_below}
 use Rattle.api_listing.specs.declared.types.ListedClass.{ListedClass}
 use Rattle.api_listing.specs.BuiltIn.{built_in_classes}
 use Rattle.api_listing.specs.Listing.{is_known}
@@ -25,13 +26,6 @@ use Rattle.guest_model.specs.Ready.{IsReady}
 use Rattle.guest_tables.specs.Library.{is_fresh}
 
 -- ---- places in lists
-
-pub position_within : {X : Type 0} (test : X → Bool) (i : ℕ) (xs : List X) (k : ℕ) → position_from test i xs ≡ Some k → k < i + length xs
-position_within test i [] k e = absurd cc
-position_within test i (x ∷ xs) k e = by (test x) e (position_within test (i + 1) xs k) where
-  by : (b : Bool) → cond b (Some i) (position_from test (i + 1) xs) ≡ Some k → (position_from test (i + 1) xs ≡ Some k → k < (i + 1) + length xs) → k < i + suc (length xs)
-  by true e later = let same : i ≡ k = some_is i k e in omega arith
-  by false e later = let l : k < (i + 1) + length xs = later e in omega arith
 
 -- what stands in the place that is found
 pub stands : {X : Type 0} (test : X → Bool) (i : ℕ) (xs : List X) (k : ℕ) → position_from test i xs ≡ Some k
@@ -145,7 +139,7 @@ pub given : (program : Program) → IsReady program → (name : List ℕ) (p : �
 given program r name p e l = by (given_index program name) refl where
   by : (o : Option ℕ) → given_index program name ≡ o → Some (p - length program.listing.classes) ≡ o
   by None g =
-      let w : p < 0 + length program.listing.classes = position_within _ 0 program.listing.classes p (sym (none_given program r name g) ∙ e) in
+      let w : p < 0 + length program.listing.classes = position_below _ 0 program.listing.classes p (sym (none_given program r name g) ∙ e) in
       absurd (omega arith)
   by (Some k) g =
       let same : p ≡ k + length program.listing.classes = some_is _ _ (sym e ∙ some_given program r name k g) in
@@ -155,7 +149,7 @@ given program r name p e l = by (given_index program name) refl where
 -- a place fits in 32 bits
 pub index_few : (program : Program) → IsReady program → (name : List ℕ) (p : ℕ) → class_index program name ≡ Some p → p < 4294967296
 index_few program r name p e =
-    let w : p < 0 + length (classes_of program) = position_within _ 0 (classes_of program) p e in
+    let w : p < 0 + length (classes_of program) = position_below _ 0 (classes_of program) p e in
     let heads : length (map (λ (c : LinkedClass). head_of c.file) program.classes) ≡ length program.classes = length-map _ _ in
     let all : length (classes_of program) ≡ length program.listing.classes + length (map (λ (c : LinkedClass). head_of c.file) program.classes) = length-append _ _ in
     let few : length program.classes ≤ 1001 = r.sound.few in
@@ -199,7 +193,7 @@ listed_not program name p e l = by (class_place program.listing.classes name) re
   by None is = refl
   by (Some k) is =
       let same : k ≡ p = some_is _ _ (sym (placed program name (Some k) is) ∙ e) in
-      let within : k < 0 + length program.listing.classes = position_within (λ (c : ListedClass). bytes_eq c.name name) 0 program.listing.classes k is in
+      let within : k < 0 + length program.listing.classes = position_below (λ (c : ListedClass). bytes_eq c.name name) 0 program.listing.classes k is in
       absurd (omega arith)
 
 pub listed_nowhere : (program : Program) (name : List ℕ) → class_index program name ≡ None → class_place program.listing.classes name ≡ None

@@ -20,7 +20,8 @@ use Rattle.guest_model.specs.Kinds.{implements}
 use Rattle.guest_model.specs.Places.{class_index}
 use Rattle.guest_model.specs.Ready.{IsReady}
 use Rattle.guest_tables.specs.Searched.{row_of, rows_of, unless_none}
-use Rattle.guest_tables.proofs.GivenClasses.{position_within, stands}
+use Rattle.mon_base.proofs.Lists.{position_below}
+use Rattle.guest_tables.proofs.GivenClasses.{stands}
 
 module _ (classes : List ListedClass) where
   abbrev order_of : List ListedClass → List Name
@@ -119,7 +120,7 @@ pub record Stands (program : Program) (name : Name) (place : ℕ) (c : ListedCla
 
 pub place_few : (program : Program) (name : Name) (place : ℕ) → class_index program name ≡ Some place → place < length (classes_of program)
 place_few program name place is =
-    let w : place < 0 + length (classes_of program) = position_within (λ (c : ListedClass). bytes_eq c.name name) 0 (classes_of program) place is in
+    let w : place < 0 + length (classes_of program) = position_below (λ (c : ListedClass). bytes_eq c.name name) 0 (classes_of program) place is in
     omega (arith, w)
 
 pub read_class : (program : Program) (name : Name) (place : ℕ) (c : ListedClass) → class_index program name ≡ Some place → c ≡ get_or (classes_of program) place c

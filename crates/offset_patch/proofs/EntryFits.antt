@@ -25,13 +25,9 @@ use Rattle.offset_patch.proofs.Lists.{all_append}
 use Rattle.offset_patch.proofs.PoolFits.{names_on, named_on, each_on}
 use Rattle.offset_patch.proofs.Same.{same_is}
 use Rattle.offset_patch.proofs.Steady.{IsSteady, pair, steady_text, steady_class_at, steady_class, steady_name_and_type_at, steady_name_and_type, steady_field_at, steady_method_at, steady_wanted}
+use Rattle.std.proofs.lemmas.Bool.{and_parts}
 
 -- ---- texts
-
-both : (a b : Bool) → (a && b) ≡ true → (a ≡ true) × (b ≡ true)
-both true true e = (refl, refl)
-both true false e = absurd cc
-both false b e = absurd cc
 
 abbrev is_text_byte : ℕ → Bool
 is_text_byte b = nat_lt 0 b && nat_lt b 240
@@ -40,8 +36,8 @@ is_text_byte b = nat_lt 0 b && nat_lt b 240
 pub text_bytes : (bytes : List ℕ) → list_all is_text_byte bytes ≡ true → AllByRecursion IsTextByte bytes
 text_bytes [] e = tt
 text_bytes (b ∷ bytes) e =
-    let parts = both (is_text_byte b) (list_all is_text_byte bytes) e in
-    let ends = both (nat_lt 0 b) (nat_lt b 240) parts.0 in
+    let parts = and_parts (is_text_byte b) (list_all is_text_byte bytes) e in
+    let ends = and_parts (nat_lt 0 b) (nat_lt b 240) parts.0 in
     let low = ends.0 in
     let high = ends.1 in
     ((grind (arith, nat_tests), grind (arith, nat_tests)), text_bytes bytes parts.1)

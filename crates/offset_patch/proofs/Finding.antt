@@ -5,11 +5,11 @@ use Rattle.std.specs.declared.cmp.Ordering.TheVariants.{Less, Equal, Greater}
 use Rattle.std.specs.Ordering.{is_eq, nat_cmp, ordering_then}
 use Rattle.std.specs.Cmp.{unsigned_tied}
 use Rattle.std.specs.BTreeMap.{BTreeMap}
-use Rattle.std.specs.List.{AllByRecursion, position_from}
+use Rattle.std.specs.List.{AllByRecursion}
 use Rattle.std.specs.Option.{option_or, is_some}
 use Rattle.std.proofs.lemmas.List.{length-append, length-map, map-append}
-use Rattle.std.proofs.lemmas.Option.{slice_get_within}
 use Rattle.std.proofs.lemmas.Map.Text.{is_eq-slice_cmp}
+use Rattle.mon_base.proofs.Lists.{position_below}
 use Rattle.class_codec.specs.declared.tree.Const.{Const}
 use Rattle.bytecode_model.proofs.Lists.{or_none}
 use Rattle.bytecode_model.proofs.Placing.{test_cases, none_or, place_pushed}
@@ -19,7 +19,6 @@ use Rattle.offset_patch.specs.declared.growth.Growth.{Growth}
 use Rattle.offset_patch.specs.Added.{const_of, added_of, with_added, NamesBelow}
 use Rattle.offset_patch.specs.Entries.{same, place_of}
 use Rattle.offset_patch.specs.Growth.{added_cmp, found_at, IsGrowth}
-use Rattle.offset_patch.proofs.EntryFits.{place_found}
 use Rattle.offset_patch.proofs.PoolFits.{each_on}
 use Rattle.offset_patch.proofs.Lists.{all_append}
 use Rattle.offset_patch.proofs.Same.{same_is, same_self}
@@ -87,15 +86,9 @@ adds_first old new key at absent puts q =
 added_count : (pool : List Const) (added : List Added) → length (with_added pool added) ≡ length pool + length added
 added_count pool added = length-append pool (map const_of added) ∙ ap (λ (n : ℕ). length pool + n) (length-map added const_of)
 
--- the first that passes stands in the list
-position_within : {X : Type 0} (p : X → Bool) (from : ℕ) (xs : List X) (at : ℕ) → position_from p from xs ≡ Some at → at < from + length xs
-position_within p from xs at e =
-    let found = place_found p from xs at e in
-    omega (arith, found.2.0, slice_get_within xs found.0 found.1 found.2.1)
-
 pub found_below : (pool : List Const) (growth : Growth) (wanted : Added) (at : ℕ) → IsGrowth pool growth → Some at ≡ found_at growth.places wanted → at < length pool + length growth.added
 found_below pool growth wanted at good e =
-    let within = position_within (same (const_of wanted)) 0 (with_added pool growth.added) at (sym (good.placed wanted) ∙ sym e) in
+    let within = position_below (same (const_of wanted)) 0 (with_added pool growth.added) at (sym (good.placed wanted) ∙ sym e) in
     omega (arith, within, added_count pool growth.added)
 
 pushed : (pool : List Const) (old new : List Added) (wanted : Added) → new ≡ old ++ wanted ∷ [] → with_added pool new ≡ with_added pool old ++ const_of wanted ∷ []

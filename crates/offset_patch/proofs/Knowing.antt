@@ -1,5 +1,5 @@
 -- What was named stays where it was found as the pool grows.
-use Rattle.std.proofs.Common.{◌≡◌, ℕ, Bool, true, false, cond, List, Option, Some, refl, sym, ap, ap₂, subst, ◌∙◌, ◌&&◌}
+use Rattle.std.proofs.Common.{◌≡◌, ℕ, Bool, true, false, cond, List, Option, Some, refl, sym, ap, ap₂, subst, ◌∙◌}
 use Rattle.std.specs.Ordering.{is_eq, nat_cmp, bool_cmp}
 use Rattle.std.specs.Cmp.{unsigned_tied, unsigned_Decides}
 use Rattle.std.specs.BTreeMap.{BTreeMap}
@@ -14,6 +14,7 @@ use Rattle.offset_patch.specs.Growth.{with_growth}
 use Rattle.offset_patch.specs.Known.{want_cmp, known_at, known_place, AreNoted}
 use Rattle.offset_patch.proofs.Finding.{then_is}
 use Rattle.offset_patch.proofs.Steady.{steady_wanted}
+use Rattle.std.proofs.lemmas.Bool.{and_parts}
 
 -- ---- the order of the map
 
@@ -23,13 +24,9 @@ same_bool true false e = absurd cc
 same_bool false true e = absurd cc
 same_bool false false e = refl
 
-both : (a b : Bool) → (a && b) ≡ true → (a ≡ true) × (b ≡ true)
-both true b e = (refl, e)
-both false b e = absurd cc
-
 same_field : (a b : ℕ) (x y : Bool) → is_eq (want_cmp (StateField a x) (StateField b y)) ≡ true → StateField a x ≡ StateField b y
 same_field a b x y e =
-    let two = both (is_eq (nat_cmp a b)) (is_eq (bool_cmp x y)) (sym (then_is (nat_cmp a b) (bool_cmp x y)) ∙ e) in
+    let two = and_parts (is_eq (nat_cmp a b)) (is_eq (bool_cmp x y)) (sym (then_is (nat_cmp a b) (bool_cmp x y)) ∙ e) in
     ap₂ StateField ((unsigned_Decides a b).0 (sym (unsigned_tied a b) ∙ two.0)) (same_bool x y two.1)
 
 want_is : (a b : PoolWant) → is_eq (want_cmp a b) ≡ true → a ≡ b

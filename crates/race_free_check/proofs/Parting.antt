@@ -1,9 +1,9 @@
 -- Clauses of which neither changes what the other names: neither event changes which branch the other takes, and their
 -- updates turn. So no point of the two breaks a condition.
 use Rattle.std.proofs.Common.{◌≡◌, ◌≢◌, ◌⊎◌, inl, inr, ℕ, zero, suc, ◌+◌, ◌<◌, ℤ, Bool, true, false, not, List, [], ◌∷◌, ◌++◌, length, map, Option, Some, None, refl, sym, ap, subst, ◌∙◌, arith}
-use Rattle.std.specs.Prelude.{◌==◌, ◌&&◌, ◌||◌, IfSome, option_and_then, option_map, slice_get}
+use Rattle.std.specs.Prelude.{◌==◌, ◌&&◌, IfSome, option_and_then, option_map, slice_get}
 use Rattle.std.specs.Option.{option_map_or}
-use Rattle.std.proofs.lemmas.Bool.{eq-eqb, false≢true, not-true}
+use Rattle.std.proofs.lemmas.Bool.{eq-eqb, false≢true, not-true, or_parts}
 use Rattle.std.proofs.lemmas.Option.{slice_get_within}
 use Rattle.api_listing.specs.declared.events.Event.{Event}
 use Rattle.conspec_tree.specs.declared.types.Atom.{Atom}
@@ -134,10 +134,6 @@ module _ (d c : Clause) (state : Values) (first second : Event) (ahead : Overloo
 
 -- ---- the test
 
-or_false : (a b : Bool) → (a || b) ≡ false → (a ≡ false) × (b ≡ false)
-or_false true b e = absurd (false≢true (sym e))
-or_false false b e = (refl, e)
-
 and_false : (a b : Bool) → (a && b) ≡ false → a ≡ true → b ≡ false
 and_false true b e t = e
 and_false false b e t = absurd (false≢true t)
@@ -146,10 +142,10 @@ meet_nowhere : (first second : Clause) (vars : List Var) (place i : ℕ) → mee
 meet_nowhere first second [] place i none below = absurd (omega arith)
 meet_nowhere first second (var ∷ vars) place zero none below =
     let same : place ≡ place + 0 = omega arith in
-    subst (λ (n : ℕ). meet_at n first second ≡ false) same (or_false (meet_at place first second) (meet_from (place + 1) vars first second) none).0
+    subst (λ (n : ℕ). meet_at n first second ≡ false) same (or_parts (meet_at place first second) (meet_from (place + 1) vars first second) none).0
 meet_nowhere first second (var ∷ vars) place (suc i) none below =
     let same : (place + 1) + i ≡ place + suc i = omega arith in
-    let later = meet_nowhere first second vars (place + 1) i (or_false (meet_at place first second) (meet_from (place + 1) vars first second) none).1 (omega arith) in
+    let later = meet_nowhere first second vars (place + 1) i (or_parts (meet_at place first second) (meet_from (place + 1) vars first second) none).1 (omega arith) in
     subst (λ (n : ℕ). meet_at n first second ≡ false) same later
 
 undisturbed : (d c : Clause) (u : Update) → disturbs (target u) d c ≡ false → Has (updates_in (d ∷ [])) u → is_named (target u) (c ∷ []) ≡ false
@@ -173,10 +169,10 @@ module _ (policy : Policy) (sound : IsPolicy policy) where
     meet_not i below = let same : 0 + i ≡ i = omega arith in subst (λ (n : ℕ). meet_at n d c ≡ false) same (meet_nowhere d c policy.vars 0 i apart below)
 
     overlooks_ahead : Overlooks c d
-    overlooks_ahead u h = undisturbed d c u (or_false (disturbs (target u) d c) (disturbs (target u) c d) (meet_not (target u) (target_below d hd u h))).0 h
+    overlooks_ahead u h = undisturbed d c u (or_parts (disturbs (target u) d c) (disturbs (target u) c d) (meet_not (target u) (target_below d hd u h))).0 h
 
     overlooks_behind : Overlooks d c
-    overlooks_behind u h = undisturbed c d u (or_false (disturbs (target u) d c) (disturbs (target u) c d) (meet_not (target u) (target_below c hc u h))).1 h
+    overlooks_behind u h = undisturbed c d u (or_parts (disturbs (target u) d c) (disturbs (target u) c d) (meet_not (target u) (target_below c hc u h))).1 h
 
     turned_apart : (state : Values) (first second : Event) → Has (events_of d) first → Has (events_of c) second → is_turned policy state first second ≡ true
     turned_apart state first second hf hn =
