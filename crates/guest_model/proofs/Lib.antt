@@ -33,3 +33,4 @@ mod Rows
 mod Described
 mod Ends
 pub mod Asks
+mod Turning

@@ -31,3 +31,5 @@ pub mod Ready
 pub mod Did
 pub mod Ending
 pub mod Asking
+pub mod LibraryCalls
+pub mod Turns

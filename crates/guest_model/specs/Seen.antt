@@ -46,3 +46,18 @@ value_shown program heap (values.Lit index) = api.Text (literal_at program index
 
 abbrev pub values_shown : Program → List Object → List Value → List ApiValue
 values_shown program heap arguments = map (value_shown program heap) arguments
+
+-- ---- what is copied for it
+
+abbrev pub object_bytes : Program → Object → List ℕ
+object_bytes program (objects.Plain class fields target thread) = if is_below program class string then [] else class
+object_bytes program (objects.Array desc items) = desc
+object_bytes program (objects.Text text) = text
+
+-- the bytes in what the library sees of a value: a text, or the name of a class
+abbrev pub bytes_shown : Program → List Object → Value → List ℕ
+bytes_shown program heap (values.Int n) = []
+bytes_shown program heap values.Null = []
+bytes_shown program heap (values.Ref at) = option_map_or (object_bytes program) (slice_get heap at) []
+bytes_shown program heap (values.Class index) = name_at (classes_of program) index
+bytes_shown program heap (values.Lit index) = literal_at program index

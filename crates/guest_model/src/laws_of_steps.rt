@@ -17,6 +17,7 @@ ghost use Rattle.guest_model.specs.Moving.{
   EnabledIsMade,
 };
 ghost use Rattle.guest_model.specs.Permitted.{AnswersArePermitted};
+ghost use Rattle.guest_model.specs.Turns.{TurnsFindTheEnabled, WhoAsksNothingGoes};
 
 /// Each step that the machine makes is enabled by the rules alone: nothing that the thread waits for is left, and an
 /// answer of the library fits the call.
@@ -79,4 +80,11 @@ pub fn ends_where_none_is_enabled()
 pub fn asks_what_the_rules_say()
     ensures threads { EnabledAreSteps }
     ensures answers { FittingAreSteps }
+{}
+
+/// Where threads take turns, the one that is found can make a step, and none is found exactly where the machine has ended; and who
+/// can make a step and asks the library nothing makes a plain one.
+pub fn turns_find_the_enabled()
+    ensures found { TurnsFindTheEnabled }
+    ensures plain { WhoAsksNothingGoes }
 {}

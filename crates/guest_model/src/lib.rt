@@ -10,6 +10,7 @@
 
 mod arities;
 mod builtin;
+mod execution;
 mod fault;
 mod laws;
 mod laws_of_steps;
@@ -20,6 +21,7 @@ mod thrown;
 
 pub use arities::{arity, arity_of_row, is_static_call};
 pub use builtin::{Builtin, builtin_at};
+pub use execution::Execution;
 pub use fault::StepFault;
 pub use laws::{
     covering_handlers_are_found, events_are_of_their_thread, handlers_cover,
@@ -29,7 +31,8 @@ pub use laws::{
 pub use laws_of_steps::{
     answers_are_permitted, asks_what_the_rules_say, enabled_steps_are_made,
     ends_where_none_is_enabled, fitting_answers_are_taken, frames_are_left,
-    free_monitors_are_entered, ready_calls_are_made, steps_are_enabled, what_is_ready_moves,
+    free_monitors_are_entered, ready_calls_are_made, steps_are_enabled, turns_find_the_enabled,
+    what_is_ready_moves,
 };
 pub use machine::{Choice, End, Machine, Step};
 pub use objects::{STRING, class_of_value, first_value, is_of_references};

@@ -5,7 +5,6 @@ ghost use Rattle.guest_model.specs.Kinds.{class_of_object, class_of_value};
 ghost use Rattle.guest_model.specs.Layout.{first_value, is_of_references};
 
 use guest_heap::{Object, Value};
-use mon_base::List;
 
 /// The class of texts.
 pub const STRING: &[u8] = b"java/lang/String";
@@ -23,12 +22,12 @@ pub fn class_of_object(object: &Object) -> &[u8]
 }
 
 /// The same of a value. A number is no object, and null is none.
-pub fn class_of_value<'a>(heap: &'a List<Object>, value: Value) -> Option<&'a [u8]>
+pub fn class_of_value<'a>(heap: &'a [Object], value: Value) -> Option<&'a [u8]>
     ensures { option_copied result ≡ class_of_value heap.now value }
 {
     match value {
         Value::Int(_) | Value::Null => None,
-        Value::Ref(at) => match heap.as_slice().get(at as usize) {
+        Value::Ref(at) => match heap.get(at as usize) {
             Some(object) => Some(class_of_object(object)),
             None => None,
         },

@@ -9,3 +9,4 @@ mod Given
 mod Standing
 mod Initialisers
 mod Writing
+mod Sufficing

@@ -4,3 +4,4 @@ pub mod InFrame
 pub mod Writing
 pub mod Start
 pub mod Fitting
+pub mod Rooms

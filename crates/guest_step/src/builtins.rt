@@ -95,7 +95,7 @@ fn tell_length(
     ensures { ActsIn result machine.old machine.new thread.old thread.new
         (calling call.now thread.old thread.old.frames (λ (c : Calling). tells_length guest.now machine.old c on)) }
 {
-    let count = characters(string_of(guest, &machine.heap, on));
+    let count = characters(string_of(guest, machine.heap.as_slice(), on));
     if count > i32::MAX as usize {
         return Err(StepFault::Memory);
     }

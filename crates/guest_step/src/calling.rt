@@ -38,7 +38,12 @@ pub fn call_library(
     if thread.frames.top().is_none() {
         return Err(StepFault::NotEnabled);
     }
-    let args = values_shown(alloc, guest, &machine.heap, call.arguments.as_slice())?;
+    let args = values_shown(
+        alloc,
+        guest,
+        machine.heap.as_slice(),
+        call.arguments.as_slice(),
+    )?;
     wait(&mut thread.frames, call.taken);
     let Call {
         number,
@@ -113,7 +118,7 @@ fn method_on(
 ) -> Option<Option<(u32, u32)>>
     ensures { result ≡ option_map (λ (class : Name). method_run guest.now own how to method.now class) (class_of_value heap.now on) }
 {
-    match class_of_value(heap, on) {
+    match class_of_value(heap.as_slice(), on) {
         Some(class) => Some(method_run(guest, own, how, to, method, class)),
         None => None,
     }

@@ -10,12 +10,12 @@ use api_listing::{ApiAnswer, Element, FieldType};
 use guest_frames::is_null;
 use guest_heap::{Object, Value};
 use guest_tables::{Guest, ListedResult, is_instance};
-use mon_base::{Bytes, List};
+use mon_base::Bytes;
 
 /// Whether the answer fits a call of the listed method with this index, of this receiver and these arguments.
 pub fn fits_call(
     guest: &Guest,
-    heap: &List<Object>,
+    heap: &[Object],
     method: u32,
     receiver: Option<Value>,
     args: &[Value],
@@ -32,7 +32,7 @@ pub fn fits_call(
 /// Whether the answer fits a call of a method with this result.
 fn result_takes(
     guest: &Guest,
-    heap: &List<Object>,
+    heap: &[Object],
     gives: &ListedResult,
     receiver: Option<Value>,
     args: &[Value],
@@ -104,7 +104,7 @@ fn is_no_object(value: Value) -> bool
 }
 
 /// Whether the value is an object of the class, where an interface counts as Object.
-fn is_of(guest: &Guest, heap: &List<Object>, value: Value, name: &[u8]) -> bool
+fn is_of(guest: &Guest, heap: &[Object], value: Value, name: &[u8]) -> bool
     ensures { result ≡ is_of guest.now heap.now value name.now }
 {
     match value {
@@ -116,7 +116,7 @@ fn is_of(guest: &Guest, heap: &List<Object>, value: Value, name: &[u8]) -> bool
 }
 
 /// The same, or null.
-fn is_null_or_of(guest: &Guest, heap: &List<Object>, value: Value, name: &[u8]) -> bool
+fn is_null_or_of(guest: &Guest, heap: &[Object], value: Value, name: &[u8]) -> bool
     ensures { result ≡ (is_no_object value || is_of guest.now heap.now value name.now) }
 {
     is_no_object(value) || is_of(guest, heap, value, name)
@@ -132,7 +132,7 @@ fn takes_new(guest: &Guest, name: &[u8], class: &[u8]) -> bool
 /// Whether what the answer gives, which is no number, fits a result of this class.
 fn object_fits(
     guest: &Guest,
-    heap: &List<Object>,
+    heap: &[Object],
     name: &Bytes,
     receiver: Option<Value>,
     args: &[Value],

@@ -1,7 +1,8 @@
 //! The steps of a guest program, as code: what the definition of the machine says, and nothing is changed where a step is
 //! refused. (docs/MACHINE.md)
 //!
-//! A [`Stepper`] makes them, as the trait `Steps` of guest_model has them.
+//! A [`Stepper`] makes them, as the trait `Steps` of guest_model has them, on any machine. An [`Interpreter`] has its machine, as the
+//! trait `Execution`: what the library answers finds memory that was taken before it was asked.
 #![tactic(auto)]
 
 mod answering;
@@ -10,6 +11,9 @@ mod builtins;
 mod calling;
 mod ending;
 mod fitting;
+mod interpreter;
+mod making_room;
+mod rooms;
 mod running;
 mod starting;
 mod stepping;
@@ -18,4 +22,5 @@ mod waiting;
 mod work;
 mod working;
 
+pub use interpreter::Interpreter;
 pub use steps::Stepper;

@@ -21,7 +21,7 @@ use std::alloc::Global;
 pub fn run_of(guest: &Guest, heap: &List<Object>, on: Value) -> Option<((u32, u32), Value)>
     ensures { result ≡ run_of guest.now heap.now on }
 {
-    match class_of_value(heap, on) {
+    match class_of_value(heap.as_slice(), on) {
         Some(class) => match client_run(guest, class) {
             Some(to) => Some((to, on)),
             None => None,
@@ -34,7 +34,7 @@ pub fn run_of(guest: &Guest, heap: &List<Object>, on: Value) -> Option<((u32, u3
 fn is_thread_on(guest: &Guest, heap: &List<Object>, on: Value) -> bool
     ensures { result ≡ option_map_or (is_thread guest.now) (class_of_value heap.now on) false }
 {
-    match class_of_value(heap, on) {
+    match class_of_value(heap.as_slice(), on) {
         Some(class) => is_thread(guest, class),
         None => false,
     }

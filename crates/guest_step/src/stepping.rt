@@ -1,26 +1,31 @@
 //! Steps.
 
 ghost use Rattle.std.specs.Borrow.{Bor};
-ghost use Rattle.std.specs.Prelude.{IfOk, IfSome, if◌then◌else◌, option_map, ◌<◌, ◌^◌, ◌≡◌};
+ghost use Rattle.std.specs.Prelude.{IfOk, IfSome, if◌then◌else◌, option_map, ◌<◌, ◌^◌, ◌≡◌, ◌≢◌};
 ghost use Rattle.bytecode_model.specs.declared.program.Target.{Target};
 ghost use Rattle.guest_frames.specs.Stepping.{frame_stepped};
 ghost use Rattle.guest_heap.specs.declared.thread.Doing.TheVariants as doings;
+ghost use Rattle.guest_model.specs.declared.fault.StepFault.TheVariants as faults;
+ghost use Rattle.guest_model.specs.declared.machine.Choice.TheVariants as choices;
+ghost use Rattle.guest_model.specs.Changes.{world_of};
 ghost use Rattle.guest_model.specs.Did.{Did};
 ghost use Rattle.guest_model.specs.Places.{insn_at};
 ghost use Rattle.guest_model.specs.Seeing.{thread_of};
 ghost use Rattle.guest_model.specs.Stepping.{Acting, doing_stepped, frames_stepped, heap_in, heap_stepped, running_stepped, stepped};
+ghost use Rattle.guest_step.specs.Rooms.{IsPrepared, IsReadyFor, TakesOne, with_objects};
 ghost use Rattle.guest_step.specs.Turns.{StandsInCode, doing_this, thread_stepped, unseen};
 ghost use Rattle.guest_threads.specs.Acts.{ActsIn, acting};
 ghost use Rattle.guest_threads.specs.Becomes.{Becomes};
 ghost use Rattle.insn_codec.specs.declared.insn.Insn.{Insn};
 
-use crate::answering::{InCall, step_in_call};
+use crate::answering::{InCall, step_in_call, take_if_fit};
 use crate::calling::call;
+use crate::rooms::Rooms;
 use crate::working::run_work;
-use api_listing::Event;
+use api_listing::{ApiAnswer, Event};
 use bytecode_model::Target;
 use guest_frames::local_step;
-use guest_heap::{Doing, Frame, Frames, Thread};
+use guest_heap::{Doing, Frame, Frames, Object, Thread};
 use guest_model::{Choice, Machine, Step, StepFault, events_are_of_their_thread};
 use guest_tables::Guest;
 use guest_threads::{OnTop, act_on_top, method_of, return_from};
@@ -272,5 +277,101 @@ fn run_heap(
         | Heap::Length
         | Heap::Cast
         | Heap::IsInstance => run_work(alloc, guest, machine, number, thread, what, target),
+    }
+}
+
+/// The thread with this number takes the answer, for which there is memory. The heap stands apart.
+pub fn step_prepared(
+    alloc: Global,
+    guest: &Guest,
+    machine: &mut Machine,
+    heap: &mut Vec<Object>,
+    number: u32,
+    answer: &ApiAnswer,
+    rooms: &mut Rooms,
+) -> Result<Option<Event>, StepFault>
+    requires place { TakesOne heap.old }
+    requires prepared { IsPrepared guest.now (with_objects machine.old heap.old.items) number rooms.old }
+    ensures did { Did result (with_objects machine.old heap.old.items) (with_objects machine.new heap.new.items)
+        (stepped guest.now (with_objects machine.old heap.old.items) (record { thread = number; choice = choices.Answer answer.now })) }
+    ensures surely { result ≢ Err faults.Memory }
+{
+    let place = number as usize;
+    if machine.stopped.is_some() || place >= machine.threads.len() {
+        return Err(StepFault::NotEnabled);
+    }
+    let mut thread = machine.threads.replace(place, idle(alloc));
+    let made = act_prepared(
+        alloc,
+        guest,
+        machine,
+        heap,
+        number,
+        &mut thread,
+        answer,
+        rooms,
+    );
+    machine.threads.replace(place, thread);
+    made
+}
+
+/// What the thread does by this answer.
+fn act_prepared(
+    alloc: Global,
+    guest: &Guest,
+    machine: &mut Machine,
+    heap: &mut Vec<Object>,
+    number: u32,
+    thread: &mut Thread,
+    answer: &ApiAnswer,
+    rooms: &mut Rooms,
+) -> Result<Option<Event>, StepFault>
+    requires place { TakesOne heap.old }
+    requires ready { IsReadyFor guest.now (world_of (with_objects machine.old heap.old.items)) thread.old thread.old.doing rooms.old }
+    ensures acts { ActsIn result (with_objects machine.old heap.old.items) (with_objects machine.new heap.new.items) thread.old thread.new
+        (doing_stepped guest.now (with_objects machine.old heap.old.items) number thread.old thread.old.doing (choices.Answer answer.now)) }
+    ensures surely { result ≢ Err faults.Memory }
+{
+    let doing = std::mem::replace(&mut thread.doing, Doing::Running);
+    let made = answer_prepared(
+        alloc, guest, machine, heap, number, thread, &doing, answer, rooms,
+    );
+    give_back(thread, doing, made.is_err());
+    made
+}
+
+/// The same of a thread whose doing stands apart.
+fn answer_prepared(
+    alloc: Global,
+    guest: &Guest,
+    machine: &mut Machine,
+    heap: &mut Vec<Object>,
+    number: u32,
+    thread: &mut Thread,
+    doing: &Doing,
+    answer: &ApiAnswer,
+    rooms: &mut Rooms,
+) -> Result<Option<Event>, StepFault>
+    requires place { TakesOne heap.old }
+    requires ready { IsReadyFor guest.now (world_of (with_objects machine.old heap.old.items)) thread.old doing.now rooms.old }
+    ensures acts { ActsIn result (with_objects machine.old heap.old.items) (with_objects machine.new heap.new.items) thread.old thread.new
+        (doing_stepped guest.now (with_objects machine.old heap.old.items) number thread.old doing.now (choices.Answer answer.now)) }
+    ensures surely { result ≢ Err faults.Memory }
+{
+    match doing {
+        Doing::InCall {
+            method,
+            receiver,
+            args,
+        } => {
+            let call = InCall {
+                number,
+                method: *method,
+                receiver: *receiver,
+                args: args.as_slice(),
+            };
+            take_if_fit(alloc, guest, machine, heap, thread, &call, answer, rooms)
+        }
+        Doing::Running | Doing::Ended => Err(StepFault::NotEnabled),
     }
 }

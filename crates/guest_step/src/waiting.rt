@@ -134,7 +134,7 @@ fn lock_of_call(
     if is_null(on) {
         return None;
     }
-    let class = class_of_value(heap, on)?;
+    let class = class_of_value(heap.as_slice(), on)?;
     let found = method_run(guest, own, how, to, method, class)?;
     lock_wanted(guest, found, Some(on))
 }

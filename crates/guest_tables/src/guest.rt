@@ -25,7 +25,7 @@ use crate::searched::is_searched;
 use crate::tables::{Tables, tables_of};
 use bytecode_model::{LinkedClass, Method, Program, Target};
 use guest_model::arity_of_row;
-use mon_base::{Bytes, NoMemory};
+use mon_base::NoMemory;
 use std::alloc::Global;
 use std::marker::Model;
 use type_lattice::{Indexed, is_below, is_interface};
@@ -212,13 +212,13 @@ impl Guest {
         is_interface(&self.program, name)
     }
 
-    /// A copy of the name of the class in the place, or none.
-    pub fn class_name(&self, alloc: Global, place: u32) -> Result<Bytes, NoMemory>
-        ensures { IfOk result (λ name. name ≡ name_at (classes_of self.now) place) }
+    /// The name of the class in the place, or none.
+    pub fn class_name(&self, place: u32) -> &[u8]
+        ensures { result.now ≡ name_at (classes_of self.now) place }
     {
         match self.program.classes().get(place as usize) {
-            Some(class) => class.name.copy(alloc),
-            None => Ok(Bytes::new(alloc)),
+            Some(class) => class.name.as_slice(),
+            None => b"".as_slice(),
         }
     }
 

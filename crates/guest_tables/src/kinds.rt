@@ -7,7 +7,6 @@ use crate::guest::Guest;
 use bytecode_model::is_array;
 use guest_heap::{Object, Value};
 use guest_model::class_of_value;
-use mon_base::List;
 use type_lattice::{Compared, arrays_compared};
 
 /// The class that each other is below, and each array.
@@ -21,7 +20,7 @@ pub fn is_thread(guest: &Guest, class: &[u8]) -> bool
 }
 
 /// Whether what the value refers to is of the class, or the array.
-pub fn is_instance(guest: &Guest, heap: &List<Object>, value: Value, name: &[u8]) -> bool
+pub fn is_instance(guest: &Guest, heap: &[Object], value: Value, name: &[u8]) -> bool
     ensures { result ≡ is_instance guest.now heap.now value name.now }
 {
     match class_of_value(heap, value) {

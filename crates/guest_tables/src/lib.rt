@@ -22,4 +22,4 @@ pub use guest::Guest;
 pub use kinds::{is_instance, is_thread};
 pub use layout::new_of;
 pub use library::ListedResult;
-pub use seen::{characters, string_of, value_shown, values_shown};
+pub use seen::{bytes_shown, characters, shown_with, string_of, value_shown, values_shown};

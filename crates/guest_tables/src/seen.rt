@@ -2,7 +2,7 @@
 
 ghost use Rattle.std.specs.Prelude.{IfOk, ◌≡◌};
 ghost use Rattle.guest_model.specs.Builtins.{characters, continues};
-ghost use Rattle.guest_model.specs.Seen.{literal_at, object_shown, string_of, text_in, value_shown, values_shown};
+ghost use Rattle.guest_model.specs.Seen.{bytes_shown, literal_at, object_bytes, object_shown, string_of, text_in, value_shown, values_shown};
 
 use crate::guest::Guest;
 use api_listing::ApiValue;
@@ -34,12 +34,12 @@ pub fn characters(text: &[u8]) -> usize
 }
 
 /// The text of a string; empty of what is none.
-pub fn string_of<'a>(guest: &'a Guest, heap: &'a List<Object>, value: Value) -> &'a [u8]
+pub fn string_of<'a>(guest: &'a Guest, heap: &'a [Object], value: Value) -> &'a [u8]
     ensures { result.now ≡ string_of guest.now heap.now value }
 {
     match value {
         Value::Int(_) | Value::Null | Value::Class(_) => b"".as_slice(),
-        Value::Ref(at) => match heap.as_slice().get(at as usize) {
+        Value::Ref(at) => match heap.get(at as usize) {
             Some(object) => text_in(object),
             None => b"".as_slice(),
         },
@@ -71,7 +71,7 @@ fn literal_at(guest: &Guest, index: u32) -> &[u8]
 pub fn values_shown(
     alloc: Global,
     guest: &Guest,
-    heap: &List<Object>,
+    heap: &[Object],
     values: &[Value],
 ) -> Result<List<ApiValue>, NoMemory>
     ensures { IfOk result (λ shown. shown ≡ values_shown guest.now heap.now values.now) }
@@ -87,47 +87,76 @@ pub fn values_shown(
 pub fn value_shown(
     alloc: Global,
     guest: &Guest,
-    heap: &List<Object>,
+    heap: &[Object],
     value: Value,
 ) -> Result<ApiValue, NoMemory>
     ensures { IfOk result (λ shown. shown ≡ value_shown guest.now heap.now value) }
 {
+    let copy = Bytes::from_slice(alloc, bytes_shown(guest, heap, value))?;
+    Ok(shown_with(guest, heap, value, copy))
+}
+
+/// The bytes in what the library sees of a value: a text, or the name of a class. They are copied for it.
+pub fn bytes_shown<'a>(guest: &'a Guest, heap: &'a [Object], value: Value) -> &'a [u8]
+    ensures { result.now ≡ bytes_shown guest.now heap.now value }
+{
     match value {
-        Value::Int(n) => Ok(ApiValue::Int(n)),
-        Value::Null => Ok(ApiValue::Null),
-        Value::Ref(at) => match heap.as_slice().get(at as usize) {
-            Some(object) => object_shown(alloc, guest, at, object),
-            None => Ok(ApiValue::Null),
+        Value::Int(_) | Value::Null => b"".as_slice(),
+        Value::Ref(at) => match heap.get(at as usize) {
+            Some(object) => object_bytes(guest, object),
+            None => b"".as_slice(),
         },
-        Value::Class(index) => Ok(ApiValue::Class(guest.class_name(alloc, index)?)),
-        Value::Lit(index) => {
-            let text = Bytes::from_slice(alloc, literal_at(guest, index))?;
-            Ok(ApiValue::Text(text))
-        }
+        Value::Class(index) => guest.class_name(index),
+        Value::Lit(index) => literal_at(guest, index),
     }
 }
 
-/// What the library sees of the object with this index.
-fn object_shown(
-    alloc: Global,
-    guest: &Guest,
-    at: u32,
-    object: &Object,
-) -> Result<ApiValue, NoMemory>
-    ensures { IfOk result (λ shown. shown ≡ object_shown guest.now at object.now) }
+/// The bytes in what the library sees of an object.
+fn object_bytes<'a>(guest: &'a Guest, object: &'a Object) -> &'a [u8]
+    ensures { result.now ≡ object_bytes guest.now object.now }
 {
     match object {
         Object::Plain { class, .. } => {
             if guest.is_below(class.as_slice(), STRING) {
-                return Ok(ApiValue::Text(Bytes::new(alloc)));
+                return b"".as_slice();
             }
-            let class = class.copy(alloc)?;
-            Ok(ApiValue::Obj { class, at })
+            class.as_slice()
         }
-        Object::Array { desc, .. } => {
-            let class = desc.copy(alloc)?;
-            Ok(ApiValue::Obj { class, at })
+        Object::Array { desc, .. } => desc.as_slice(),
+        Object::Text(text) => text.as_slice(),
+    }
+}
+
+/// What the library sees of a value, of which these bytes are copied. It takes no memory.
+pub fn shown_with(guest: &Guest, heap: &[Object], value: Value, copy: Bytes) -> ApiValue
+    requires { copy ≡ bytes_shown guest.now heap.now value }
+    ensures { result ≡ value_shown guest.now heap.now value }
+{
+    match value {
+        Value::Int(n) => ApiValue::Int(n),
+        Value::Null => ApiValue::Null,
+        Value::Ref(at) => match heap.get(at as usize) {
+            Some(object) => object_with(guest, at, object, copy),
+            None => ApiValue::Null,
+        },
+        Value::Class(_) => ApiValue::Class(copy),
+        Value::Lit(_) => ApiValue::Text(copy),
+    }
+}
+
+/// What the library sees of the object with this index, of which these bytes are copied.
+fn object_with(guest: &Guest, at: u32, object: &Object, copy: Bytes) -> ApiValue
+    requires { copy ≡ object_bytes guest.now object.now }
+    ensures { result ≡ object_shown guest.now at object.now }
+{
+    match object {
+        Object::Plain { class, .. } => {
+            if guest.is_below(class.as_slice(), STRING) {
+                return ApiValue::Text(copy);
+            }
+            ApiValue::Obj { class: copy, at }
         }
-        Object::Text(text) => Ok(ApiValue::Text(text.copy(alloc)?)),
+        Object::Array { .. } => ApiValue::Obj { class: copy, at },
+        Object::Text(_) => ApiValue::Text(copy),
     }
 }

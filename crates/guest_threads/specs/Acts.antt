@@ -1,5 +1,5 @@
 -- What a thread did that is taken out of the machine's list, beside what the machine's definition says. (docs/MACHINE.md)
-use Rattle.std.specs.Prelude.{◌≡◌, ⊤, ℕ, List, [], ◌∷◌, ◌++◌, Option, Some, None, Result, Ok, Err, IsSomeAnd, drop, option_and_then, option_map, slice_get}
+use Rattle.std.specs.Prelude.{◌≡◌, ◌<◌, ◌-◌, ◌^◌, ⊤, ℕ, List, [], ◌∷◌, ◌++◌, Option, Some, None, Result, Ok, Err, IfSome, IsSomeAnd, drop, option_and_then, option_map, slice_get}
 use Rattle.std.specs.Option.{option_map_or, option_or, option_to_list}
 use Rattle.api_listing.specs.declared.events.Event.{Event}
 use Rattle.bytecode_model.specs.declared.program.Program.{Program}
@@ -55,6 +55,15 @@ abbrev pub CanGoOn : Result ℕ StepFault → Frame → List Value → Type 0
 CanGoOn (Ok at) frame items = after frame items ≡ Some (moved_to frame at frame.locals items)
 CanGoOn (Err faults.NotEnabled) frame items = after frame items ≡ None
 CanGoOn (Err faults.Memory) frame items = ⊤
+
+-- The same of what is never refused for want of memory.
+abbrev pub Acted : Option (Option Event) → Machine → Machine → Thread → Thread → Option Change → Type 0
+Acted (Some event) old new thread left made = IsSomeAnd made (λ (change : Change). IsDone change old new left event)
+Acted None old new thread left made = (made ≡ None) × (new ≡ old) × (left ≡ thread)
+
+-- The top frame, if there is one, can go on behind its instruction: that is not the last that a number of 32 bits counts.
+abbrev pub StandsLow : List Frame → Type 0
+StandsLow frames = IfSome (slice_get frames 0) (λ (f : Frame). f.at < 2 ^ 32 - 1)
 
 -- the monitors, and the frame gone on behind its instruction, which takes one operand
 abbrev pub past : Frame → Option (List Monitor) → Option (List Monitor × Frame)

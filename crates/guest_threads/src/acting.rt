@@ -76,7 +76,7 @@ fn throw_value(
     ensures { ActsIn result machine.old machine.new thread.old thread.new (acting number thread.old thread.old.frames
         (λ (a : Acting). throws_object program.now (world_of machine.old) a value)) }
 {
-    let Some(class) = class_of_value(&machine.heap, value) else {
+    let Some(class) = class_of_value(machine.heap.as_slice(), value) else {
         return Err(StepFault::NotEnabled);
     };
     throw(

@@ -5,6 +5,7 @@ ghost use Rattle.std.specs.Prelude.{
   IfOk,
   IfSome,
   OnOk,
+  Err,
   Some,
   drop,
   length,
@@ -18,12 +19,14 @@ ghost use Rattle.std.specs.Prelude.{
   ◌<◌,
   ◌^◌,
   ◌≡◌,
+  ◌≢◌,
 };
 ghost use Rattle.guest_frames.specs.Stepping.{after, moved_to};
 ghost use Rattle.guest_heap.specs.declared.value.Value.TheVariants as values;
 ghost use Rattle.guest_model.specs.Changes.{frame_of, lock_of};
 ghost use Rattle.guest_model.specs.Places.{method_at};
 ghost use Rattle.guest_model.specs.Ready.{IsReady};
+ghost use Rattle.guest_model.specs.declared.fault.StepFault.TheVariants as faults;
 ghost use Rattle.guest_threads.specs.Acts.{CanGoOn};
 ghost use Rattle.guest_threads.specs.Becomes.{Becomes};
 
@@ -49,7 +52,8 @@ fn has_room(stack: &Stack, taken: usize, value: Option<Value>) -> bool
 /// Where the frame goes on behind its instruction, which takes so many operands and leaves the result above the others; that is
 /// not enabled where there is no room.
 pub fn place_behind(frame: &Frame, taken: usize, value: Option<Value>) -> Result<u32, StepFault>
-    ensures { CanGoOn result frame.now (option_to_list value ++ drop taken frame.now.stack.items) }
+    ensures is { CanGoOn result frame.now (option_to_list value ++ drop taken frame.now.stack.items) }
+    ensures surely { frame.now.at < 2 ^ 32 - 1 → result ≢ Err faults.Memory }
 {
     if !has_room(&frame.stack, taken, value) {
         return Err(StepFault::NotEnabled);
@@ -76,7 +80,8 @@ pub fn go_to(frame: &mut Frame, at: u32, taken: usize, value: Option<Value>)
 /// The frame goes on behind its instruction, which took so many operands, with the result above the others; that is not
 /// enabled where there is no room.
 pub fn go_on(frame: &mut Frame, taken: usize, value: Option<Value>) -> Result<(), StepFault>
-    ensures { Becomes result frame.old frame.new (after frame.old (option_to_list value ++ drop taken frame.old.stack.items)) }
+    ensures is { Becomes result frame.old frame.new (after frame.old (option_to_list value ++ drop taken frame.old.stack.items)) }
+    ensures surely { frame.old.at < 2 ^ 32 - 1 → result ≢ Err faults.Memory }
 {
     let at = place_behind(frame, taken, value)?;
     go_to(frame, at, taken, value);

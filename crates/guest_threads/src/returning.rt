@@ -1,11 +1,13 @@
 //! Returns: the caller goes on behind its call, or the thread rests. (The Java Virtual Machine Specification, section 2.6.4.)
 
-ghost use Rattle.std.specs.Prelude.{drop, ◌≡◌};
+ghost use Rattle.std.specs.Prelude.{drop, length, ◌<◌, ◌≡◌};
+ghost use Rattle.bytecode_model.specs.declared.program.Program.{Program};
+ghost use Rattle.guest_frames.specs.Became.{Became};
 ghost use Rattle.guest_model.specs.Changes.{world_of};
 ghost use Rattle.guest_model.specs.Parts.{result_of};
 ghost use Rattle.guest_model.specs.Ready.{IsReady};
 ghost use Rattle.guest_model.specs.Stepping.{Acting, returns};
-ghost use Rattle.guest_threads.specs.Acts.{ActsIn, acting, thread_returned};
+ghost use Rattle.guest_threads.specs.Acts.{ActsIn, StandsLow, acting, thread_returned};
 ghost use Rattle.guest_threads.specs.Becomes.{Becomes};
 
 use crate::beginning::rest;
@@ -51,6 +53,23 @@ pub fn resume(
     go_on(thread.frames.top_mut(), 0, value)?;
     thread.doing = Doing::Running;
     Ok(())
+}
+
+/// The thread, which has a frame, goes on in it with the result above its operands; and whether it does, since that is not enabled
+/// where there is no place for the result. It takes no memory.
+pub fn resume_in_frame(thread: &mut Thread, value: Option<Value>) -> bool
+    requires framed { 0 < length thread.old.frames }
+    requires stands { StandsLow thread.old.frames }
+    ensures { (program : Program) → Became result thread.old thread.new (thread_returned program thread.old thread.old.frames value) }
+{
+    match go_on(thread.frames.top_mut(), 0, value) {
+        Ok(()) => {
+            thread.doing = Doing::Running;
+            true
+        }
+        Err(StepFault::NotEnabled) => false,
+        Err(StepFault::Memory) => unreachable!(),
+    }
 }
 
 /// The top frame is left, and the thread goes on in those below it with the result, or else rests.

@@ -37,7 +37,7 @@ fn may_hold(guest: &Guest, heap: &List<Object>, desc: &[u8], value: Value) -> bo
     match value {
         Value::Null | Value::Int(_) => true,
         Value::Ref(_) | Value::Class(_) | Value::Lit(_) => match item_reference(desc) {
-            Some(class) => is_instance(guest, heap, value, class),
+            Some(class) => is_instance(guest, heap.as_slice(), value, class),
             None => false,
         },
     }

@@ -56,7 +56,12 @@ fn is_cast(guest: &Guest, heap: &List<Object>, value: Value, name: &[u8]) -> boo
     match value {
         Value::Null => true,
         Value::Int(_) => false,
-        Value::Ref(_) | Value::Class(_) | Value::Lit(_) => is_instance(guest, heap, value, name),
+        Value::Ref(_) | Value::Class(_) | Value::Lit(_) => is_instance(
+            guest,
+            heap.as_slice(),
+            value,
+            name,
+        ),
     }
 }
 
@@ -89,6 +94,6 @@ fn instance_told(
 {
     let name = name_named(target)?;
     let value = operand_of(ValueKind::Reference, stack, 0)?;
-    let test = is_instance(guest, heap, value, name.as_slice());
+    let test = is_instance(guest, heap.as_slice(), value, name.as_slice());
     Some(Comes::Value(truth(test)))
 }

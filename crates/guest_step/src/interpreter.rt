@@ -1,0 +1,164 @@
+//! A program that runs: its steps, and the machine that they have come to, in one value. (docs/MACHINE.md)
+
+ghost use Rattle.std.specs.Prelude.{IfOk, None, ◌≡◌};
+ghost use Rattle.guest_model.specs.Ready.{IsReady};
+ghost use Rattle.guest_model.specs.Runs.{start_of};
+
+use crate::asking::{answer_fits_apart, call_asked, next_enabled};
+use crate::ending::ended;
+use crate::making_room::{longest_name, make_place, make_rooms};
+use crate::rooms::Rooms;
+use crate::starting::start;
+use crate::stepping::{step, step_prepared};
+use api_listing::{ApiAnswer, ApiCall, Event};
+use bytecode_model::Program;
+use guest_heap::Object;
+use guest_model::{Choice, End, Execution, Machine, Step, StepFault};
+use guest_tables::Guest;
+use mon_base::{List, NoMemory};
+use std::alloc::Global;
+use std::marker::Model;
+use type_lattice::Indexed;
+
+/// A linked program that runs. A contract sees the program, the machine, and what is there for an answer.
+#[derive(Drop)]
+pub struct Interpreter {
+    guest: Guest,
+    machine: Machine,
+    /// The objects of the machine, and a place for one more, while an answer is waited for.
+    apart: Option<Vec<Object>>,
+    rooms: Rooms,
+    /// The length of the longest name of a class in the listing.
+    longest: usize,
+}
+
+impl Model for Interpreter {
+    ghost use Rattle.std.specs.Prelude.{◌≡◌};
+    ghost use Rattle.guest_step.specs.Rooms.{Run, longest_name, machine_with};
+
+    ghost Value = { Run };
+
+    ghost view = { λ i. record { program = i.guest; machine = machine_with i.machine i.apart; apart = i.apart; rooms = i.rooms } };
+
+    ghost invariant = { λ i. i.longest ≡ longest_name i.guest.listing.classes };
+}
+
+impl Interpreter {
+    /// The program before its first step.
+    pub fn start(alloc: Global, program: Indexed) -> Result<Interpreter, NoMemory>
+        requires { IsReady program }
+        ensures program { IfOk result (λ run. run.program ≡ program) }
+        ensures machine { IfOk result (λ run. run.machine ≡ start_of program) }
+        ensures ready { IfOk result (λ run. run.apart ≡ None) }
+    {
+        let guest = Guest::new(alloc, program)?;
+        let machine = start(alloc, &guest)?;
+        let longest = longest_name(guest.program().listing.classes.as_slice());
+        Ok(Interpreter {
+            guest,
+            machine,
+            apart: None,
+            rooms: Rooms::new(alloc),
+            longest,
+        })
+    }
+}
+
+impl Execution for Interpreter {
+    ghost use Rattle.std.specs.Prelude.{◌≡◌, None};
+    ghost use Rattle.guest_step.specs.Rooms.{WaitsFor};
+
+    ghost program = { λ run. run.program };
+
+    ghost machine = { λ run. run.machine };
+
+    ghost is_ready = { λ run. run.apart ≡ None };
+
+    ghost is_prepared = { λ run number. WaitsFor run number };
+
+    fn program(&self) -> &Program {
+        self.guest.program()
+    }
+
+    fn next_enabled(&self, first: u32) -> Option<u32> {
+        next_enabled(&self.guest, &self.machine, first)
+    }
+
+    fn ended(&self) -> Option<End> {
+        ended(&self.guest, &self.machine)
+    }
+
+    fn call_asked(&self, alloc: Global, thread: u32) -> Result<Option<ApiCall>, NoMemory> {
+        call_asked(alloc, &self.guest, &self.machine, thread)
+    }
+
+    fn go(&mut self, alloc: Global, thread: u32) -> Result<Option<Event>, NoMemory> {
+        let next = Step {
+            thread,
+            choice: Choice::Plain,
+        };
+        match step(alloc, &self.guest, &mut self.machine, &next) {
+            Ok(event) => Ok(event),
+            Err(StepFault::Memory) => Err(NoMemory),
+            Err(StepFault::NotEnabled) => unreachable!(),
+        }
+    }
+
+    fn prepare(&mut self, alloc: Global, thread: u32) -> Result<(), NoMemory> {
+        make_rooms(
+            alloc,
+            &self.guest,
+            &self.machine,
+            thread,
+            self.longest,
+            &mut self.rooms,
+        )?;
+        let mut heap = std::mem::replace(&mut self.machine.heap, List::new(alloc)).into_vec();
+        if make_place(&mut heap).is_err() {
+            self.machine.heap = List::from_vec(heap);
+            return Err(NoMemory);
+        }
+        self.apart = Some(heap);
+        Ok(())
+    }
+
+    fn answer_fits(&self, thread: u32, answer: &ApiAnswer) -> bool {
+        match &self.apart {
+            Some(heap) => answer_fits_apart(
+                &self.guest,
+                &self.machine,
+                heap.as_slice(),
+                thread,
+                answer,
+            ),
+            None => unreachable!(),
+        }
+    }
+
+    fn take(&mut self, alloc: Global, thread: u32, answer: &ApiAnswer) -> Option<Event> {
+        let Some(mut heap) = self.apart.take() else {
+            unreachable!();
+        };
+        let rooms = &mut self.rooms;
+        let made = step_prepared(
+            alloc,
+            &self.guest,
+            &mut self.machine,
+            &mut heap,
+            thread,
+            answer,
+            rooms,
+        );
+        self.machine.heap = List::from_vec(heap);
+        match made {
+            Ok(event) => event,
+            Err(_) => unreachable!(),
+        }
+    }
+
+    fn release(&mut self, _thread: u32) {
+        if let Some(heap) = self.apart.take() {
+            self.machine.heap = List::from_vec(heap);
+        }
+    }
+}
