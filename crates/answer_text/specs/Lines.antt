@@ -24,8 +24,7 @@ line_text (lines.Overflow sizes) = codes "overflow" ++ all_spaced sizes
 line_text (lines.Store name) = codes "store" ++ word name
 line_text lines.Usage = codes "usage: conspecj COMMAND WORD.."
 
--- what is printed: a line with its end, a text as it is, or nothing
+-- what is printed: a line with its end, or a text as it is
 abbrev pub text_of : Reply → List ℕ
 text_of (replies.Line line) = line_text line ++ 10 ∷ []
 text_of (replies.Text text) = text
-text_of replies.Nothing = []

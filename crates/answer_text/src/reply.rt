@@ -14,8 +14,6 @@ pub enum Reply {
     Line(Line),
     /// A text that ends its lines itself.
     Text(Bytes),
-    /// Nothing at all.
-    Nothing,
 }
 
 /// The text of what is printed.
@@ -25,7 +23,6 @@ pub fn text_of(alloc: Global, reply: Reply) -> Result<Bytes, NoMemory>
     match reply {
         Reply::Line(line) => whole_line(alloc, &line),
         Reply::Text(text) => Ok(text),
-        Reply::Nothing => Ok(Bytes::new(alloc)),
     }
 }
 

@@ -17,7 +17,7 @@ use Rattle.class_linking.specs.Linking.{linked}
 use Rattle.class_weaving.specs.declared.woven.Woven.{Woven}
 use Rattle.class_weaving.specs.Outcome.{IsWoven}
 use Rattle.class_weaving.specs.Woven.{woven}
-use Rattle.command_words.specs.InlineWords.{NamedInline}
+use Rattle.command_words.specs.declared.inline_words.Weaving.{Weaving}
 use Rattle.conspec_automaton.specs.Building.{built}
 use Rattle.conspec_automaton.specs.Sound.{IsPolicy}
 use Rattle.input_files.specs.declared.inline_inputs.InlineInputs.{InlineInputs}
@@ -25,10 +25,12 @@ use Rattle.input_files.specs.InlineInputs.{InlineSound}
 use Rattle.output_files.specs.Outputs.{is_written, outputs_of}
 use Rattle.woven_linking.specs.Links.{WovenLinks}
 use Rattle.woven_linking.specs.Program.{IsWovenOf}
+use Rattle.inliner_tool.specs.declared.refusal.Ended.TheVariants as ends
 use Rattle.inliner_tool.specs.declared.refusal.Refusal.TheVariants as refusals
 use Rattle.inliner_tool.specs.declared.inline.Given.{Given}
 use Rattle.inliner_tool.specs.declared.inline.Ready.{Ready}
-use Rattle.inliner_tool.specs.Programs.{AreTypes, Step, UnlessMemory, link_step, woven_links}
+use Rattle.inliner_tool.specs.Programs.{AreTypes, link_step, woven_links}
+use Rattle.inliner_tool.specs.Steps.{Step, UnlessMemory}
 use Rattle.inliner_tool.specs.Weaving.{Accepts, IsPlanned, IsRewoven, Remakes, certificate_for, mode_for, original}
 use Rattle.inliner_tool.proofs.Constants.{has_numbers}
 use Rattle.inliner_tool.proofs.Counting.{assembled_of, files_counted}
@@ -40,15 +42,15 @@ linked_by (Ok other) program e =
     ap (λ (p : Program). Ok p) same
 linked_by (Err fault) program e = absurd cc
 
-pub limit_by : (long : Bool) (total : ℕ) (r : Linked Program) (program : Program) → cond long (Err (refusals.TotalLong total)) (link_step r) ≡ Ok program → r ≡ Ok program
+pub limit_by : (long : Bool) (total : ℕ) (r : Linked Program) (program : Program) → cond long (Err (ends.Refused (refusals.TotalLong total))) (link_step r) ≡ Ok program → r ≡ Ok program
 limit_by true total r program e = absurd cc
 limit_by false total r program e = linked_by r program e
 
 -- The files of an input link to the program.
-pub inputs_link : (named : NamedInline) (inputs : InlineInputs) (client : Program) → original inputs.listing inputs.classes named.main ≡ Ok client
-    → linked inputs.classes.files inputs.listing named.main Original ≡ Ok client
-inputs_link named inputs client links =
-    limit_by (nat_lt 16777216 inputs.classes.total) inputs.classes.total (linked inputs.classes.files inputs.listing named.main Original) client links
+pub inputs_link : (main : List ℕ) (inputs : InlineInputs) (client : Program) → original inputs.listing inputs.classes main ≡ Ok client
+    → linked inputs.classes.files inputs.listing main Original ≡ Ok client
+inputs_link main inputs client links =
+    limit_by (nat_lt 16777216 inputs.classes.total) inputs.classes.total (linked inputs.classes.files inputs.listing main Original) client links
 
 -- A program that files link to is the one that they link to.
 pub same_program : (r : Linked Program) (a b : Program) → r ≡ Ok a → r ≡ Ok b → a ≡ b
@@ -84,11 +86,11 @@ module _ (links : WovenLinks) (good : PlansAreGood) (inputs : InlineInputs) (kno
       links known.listed.text inputs.listing inputs.classes.files main given.client (plan_of given.policy given.mode) given.policy.vars made known.listed.spells
       (assembled_of inputs.classes.files inputs.listing main Original given.client client_links) sound (good given.policy given.mode is_policy numbers) is_policy.few_vars weaves
 
-module _ (named : NamedInline) (inputs : InlineInputs) (given : Given) (made : Woven) (links : original inputs.listing inputs.classes named.main ≡ Ok given.client)
-    (typed : AreTypes given.client given.typing) (is : given.policy ≡ built inputs.policy) (chosen : mode_for named.weaving inputs.policy given.client.listing ≡ Ok given.mode) (listing : given.client.listing ≡ inputs.listing)
+module _ (main folder : List ℕ) (weaving : Weaving) (inputs : InlineInputs) (given : Given) (made : Woven) (links : original inputs.listing inputs.classes main ≡ Ok given.client)
+    (typed : AreTypes given.client given.typing) (is : given.policy ≡ built inputs.policy) (chosen : mode_for weaving inputs.policy given.client.listing ≡ Ok given.mode) (listing : given.client.listing ≡ inputs.listing)
     (weaves : woven given.client (plan_of given.policy given.mode) given.policy.vars ≡ Ok made)
-    (remade : (new : Program) × ((woven_links made.files inputs.listing named.main ≡ Ok new) × IsWoven given.client (plan_of given.policy given.mode) given.policy.vars new)) where
-  whole : (ready : Ready) → IsRewoven named given made.files ready → IsPlanned named inputs ready
+    (remade : (new : Program) × ((woven_links made.files inputs.listing main ≡ Ok new) × IsWoven given.client (plan_of given.policy given.mode) given.policy.vars new)) where
+  whole : (ready : Ready) → IsRewoven main folder given made.files ready → IsPlanned main folder weaving inputs ready
   whole ready rewoven = record {
     given = given;
     links = links;
@@ -101,12 +103,12 @@ module _ (named : NamedInline) (inputs : InlineInputs) (given : Given) (made : W
     rewoven = rewoven;
     blocks =
         subst (λ (p : Program). IsWoven given.client (plan_of given.policy given.mode) given.policy.vars p)
-        (same_program (woven_links made.files inputs.listing named.main) remade.0 rewoven.program remade.1.0 (ap (λ (l : Listing). woven_links made.files l named.main) (sym listing) ∙ rewoven.links)) remade.1.1;
+        (same_program (woven_links made.files inputs.listing main) remade.0 rewoven.program remade.1.0 (ap (λ (l : Listing). woven_links made.files l main) (sym listing) ∙ rewoven.links)) remade.1.1;
   }
 
-  pub planned : (r : Step Ready) → IfOk r (λ ready. IsRewoven named given made.files ready) → IfOk r (λ ready. IsPlanned named inputs ready)
+  pub planned : (r : Step Ready) → IfOk r (λ ready. IsRewoven main folder given made.files ready) → IfOk r (λ ready. IsPlanned main folder weaving inputs ready)
   planned (Ok ready) rewoven = whole ready rewoven
-  planned (Err refusal) rewoven = tt
+  planned (Err ended) rewoven = tt
 
 -- ---- what is woven again
 
@@ -120,12 +122,12 @@ module _ (main folder : List ℕ) (given : Given) (made : Woven) (program : Prog
       inl (record { program = program; accepted = accepted; remade = record { links = links; typed = accepts.typed; verdict = verdict }; fits = fits })
   remakes (Err e) (inr memory) = inr memory
 
-pub known_rewoven : (named : NamedInline) (given : Given) (made : Woven) (program : Program) → woven_links made.files given.client.listing named.main ≡ Ok program → unlinked program ≡ made.files
+pub known_rewoven : (main folder : List ℕ) (given : Given) (made : Woven) (program : Program) → woven_links made.files given.client.listing main ≡ Ok program → unlinked program ≡ made.files
     → IsSound program → IsAllowed program given.policy (certificate_for given program)
     → (is_written (certificate_for given program) ≡ true → CanSpell (length given.policy.vars) (certificate_for given program))
-    → (r : Step Ready) → IfOk r (λ ready. Secure given.mode program given.policy) → IfOk r (λ ready. judged program given.policy (certificate_for given program) ≡ Ok ready.accepted) → IfOk r (λ ready. is_written (certificate_for given program) ≡ true) → IfOk r (λ ready. ready.outputs ≡ outputs_of named.folder program (certificate_for given program))
-    → IfOk r (λ ready. IsRewoven named given made.files ready)
-known_rewoven named given made program links back sound allowed spells (Ok ready) secure judged written outputs = record {
+    → (r : Step Ready) → IfOk r (λ ready. Secure given.mode program given.policy) → IfOk r (λ ready. judged program given.policy (certificate_for given program) ≡ Ok ready.accepted) → IfOk r (λ ready. is_written (certificate_for given program) ≡ true) → IfOk r (λ ready. ready.outputs ≡ outputs_of folder program (certificate_for given program))
+    → IfOk r (λ ready. IsRewoven main folder given made.files ready)
+known_rewoven main folder given made program links back sound allowed spells (Ok ready) secure judged written outputs = record {
   program = program;
   links = links;
   same = back;
@@ -139,4 +141,4 @@ known_rewoven named given made program links back sound allowed spells (Ok ready
   written = written;
   outputs = outputs;
 }
-known_rewoven named given made program links back sound allowed spells (Err e) secure judged written outputs = tt
+known_rewoven main folder given made program links back sound allowed spells (Err e) secure judged written outputs = tt

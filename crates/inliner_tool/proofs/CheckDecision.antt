@@ -1,5 +1,5 @@
--- What `check` answers to files that the store tells, without a fault: what it is of what they are, or that memory ran out.
-use Rattle.std.proofs.Common.{◌≡◌, ◌⊎◌, inl, inr, ℕ, List, length, Result, Ok, Err, refl, sym, ap, subst, ◌∙◌}
+-- What `check` comes to over files that the store tells, without a fault: what they come to, unless memory runs out.
+use Rattle.std.proofs.Common.{◌≡◌, inl, inr, ℕ, List, length, Result, Ok, Err, refl, sym, ap, subst, ◌∙◌}
 use Rattle.std.specs.Prelude.{IsSome}
 use Rattle.api_listing.specs.declared.types.Listing.{Listing}
 use Rattle.bytecode_model.specs.declared.program.Program.{Program}
@@ -16,16 +16,24 @@ use Rattle.input_files.specs.declared.check_inputs.CheckInputs.{CheckInputs}
 use Rattle.input_files.specs.declared.files.Stop.{Stop}
 use Rattle.input_files.specs.declared.files.Stop.TheVariants as stops
 use Rattle.input_files.specs.CheckInputs.{ReadsCheck}
-use Rattle.input_files.specs.Forms.{Count, ReadsForm}
+use Rattle.input_files.specs.Forms.{Count, ReadsForm, Then, Yields}
 use Rattle.input_files.specs.Kinds.{certificate_form, listing_form, policy_form}
 use Rattle.inliner_tool.specs.declared.answer.Answer.{Answer}
-use Rattle.inliner_tool.specs.declared.answer.Answer.TheVariants as answers
-use Rattle.inliner_tool.specs.Answers.{stopped}
-use Rattle.inliner_tool.specs.Check.{check_answer, link_inputs, linked_answer, verdict_answer}
+use Rattle.inliner_tool.specs.declared.answer.Made.{Made}
+use Rattle.inliner_tool.specs.declared.refusal.Ended.{Ended}
+use Rattle.inliner_tool.specs.declared.refusal.Ended.TheVariants as ends
+use Rattle.inliner_tool.specs.declared.refusal.Refusal.{Refusal}
+use Rattle.inliner_tool.specs.declared.refusal.Refusal.TheVariants as refusals
+use Rattle.inliner_tool.specs.declared.tool.Status.TheVariants as statuses
+use Rattle.inliner_tool.specs.Check.{Checks, judged_step, label_for, link_inputs, verdict_step}
 use Rattle.inliner_tool.specs.CheckDecision.{CheckDecides}
 use Rattle.inliner_tool.specs.Decision.{IsDecision}
-use Rattle.inliner_tool.specs.Tool.{CarriesOut, Ends, IsAnswer, status_of}
-use Rattle.inliner_tool.proofs.Told.{MayRead, may_read, says_of, stops_once, tree_once}
+use Rattle.inliner_tool.specs.Race.{racy}
+use Rattle.inliner_tool.specs.Steps.{Equals, Outcome, Reading, Step, outcome_step, stopped}
+use Rattle.inliner_tool.specs.Tool.{answer_status, refusal_status, status_of}
+use Rattle.inliner_tool.specs.Writing.{CarriesOut}
+use Rattle.inliner_tool.proofs.Carrying.{quiet_so}
+use Rattle.inliner_tool.proofs.Told.{MayRead, may_read, stops_once, tree_once}
 use Rattle.inliner_tool.proofs.ToldClasses.{MayClasses, classes_stop, may_classes, same_classes}
 
 -- ---- what is read
@@ -71,33 +79,60 @@ module _ (files : Files) (count : Count) (named : NamedCheck) (quiet : Rose coun
       classes_stop files count told quiet named.classes inputs.classes.files inputs.classes.total stop classes_read fourth
   check_stops stop (inr (listing, first, inr (policy, second, inr (certificate, third, inr (classes, fourth, none))))) = absurd none
 
-  ends_so : (answer : Answer) → Ends (ReadsCheck files count named) (check_answer named.main) answer → (answer ≡ check_answer named.main inputs) ⊎ (answer ≡ answers.Memory)
-  ends_so answer (inl (other, read, is)) = inl (is ∙ ap (check_answer named.main) (inputs_once other read))
-  ends_so answer (inr (stop, read, is)) = inr (is ∙ ap stopped (check_stops stop read))
+  -- What is made is made of what the files are.
+  checks_so : (step : Step Made) → (step ≡ Err ends.Memory → ⊥) → Then (Reading (ReadsCheck files count named)) (Checks named.main) step → Checks named.main inputs step
+  checks_so (Ok made) other (read, reads, checks) = subst (λ (i : CheckInputs). Checks named.main i (Ok made)) (inputs_once read reads) checks
+  checks_so (Err e) other (inl (stop, reads, is)) = absurd (other (ap (λ (x : Ended). Err x) (is ∙ ap stopped (check_stops stop reads))))
+  checks_so (Err e) other (inr (read, reads, checks)) = subst (λ (i : CheckInputs). Checks named.main i (Err e)) (inputs_once read reads) checks
 
-  -- The answer is that to what the files are, or memory ran out.
-  pub check_says : (new : Files) (answer : Answer) → IsAnswer (λ (a : Answer). CarriesOut (record { old = files; new = new; count = count }) (Check named) a) answer → (answer ≡ check_answer named.main inputs) ⊎ (answer ≡ answers.Memory)
-  check_says new answer is = by (says_of (λ (a : Answer). CarriesOut (record { old = files; new = new; count = count }) (Check named) a) answer is) where
-    by : (Ends (ReadsCheck files count named) (check_answer named.main) answer × (new ≡ files)) ⊎ (answer ≡ answers.Memory) → (answer ≡ check_answer named.main inputs) ⊎ (answer ≡ answers.Memory)
-    by (inl says) = ends_so answer says.0
-    by (inr memory) = inr memory
+  -- The outcome is that of what the files are.
+  pub check_says : (new : Files) (outcome : Outcome) → CarriesOut (record { old = files; new = new; count = count }) (Check named) (outcome_step outcome)
+      → Then (Checks named.main inputs) (λ made. Yields made.answer) (outcome_step outcome)
+  check_says new (Ok answer) carries = by (quiet_so (record { old = files; new = new; count = count }) (Check named) quiet (Ok answer) carries) where
+    by : Then (Then (Reading (ReadsCheck files count named)) (Checks named.main)) (λ made. Yields made.answer) (Ok answer) → Then (Checks named.main inputs) (λ made. Yields made.answer) (Ok answer)
+    by (made, makes, is) = (made, checks_so (Ok made) (λ e. absurd cc) makes, is)
+  check_says new (Err refusal) carries = by (quiet_so (record { old = files; new = new; count = count }) (Check named) quiet (Err (ends.Refused refusal)) carries) where
+    by : Then (Then (Reading (ReadsCheck files count named)) (Checks named.main)) (λ made. Yields made.answer) (Err (ends.Refused refusal))
+        → Then (Checks named.main inputs) (λ made. Yields made.answer) (Err (ends.Refused refusal))
+    by (inl makes) = inl (checks_so (Err (ends.Refused refusal)) (λ e. absurd cc) makes)
+    by (inr (made, makes, none)) = absurd none
 
--- ---- what is answered
+-- ---- what is decided
 
--- To inputs that link the answer is the verdict.
-pub answers_verdict : (main : List ℕ) (inputs : CheckInputs) (program : Program) → link_inputs main inputs ≡ Ok program
-    → check_answer main inputs ≡ verdict_answer inputs.policy program (judged program (built inputs.policy) inputs.certificate)
-answers_verdict main inputs program links = ap (linked_answer inputs.policy inputs.certificate) links
+module _ (main : List ℕ) (inputs : CheckInputs) (program : Program) (links : link_inputs main inputs ≡ Ok program) where
+  same_program : (other : Program) → Equals (link_inputs main inputs) (Ok other) → other ≡ program
+  same_program other first =
+      let same : ◌≡◌ {A = Step Program} (Ok other) (Ok program) = first ∙ links in
+      cc
 
-verdict_decides : (policy : PolicyTree) (program : Program) (r : Result Accepted Denial) → IsDecision (status_of (verdict_answer policy program r))
-verdict_decides policy program (Ok accepted) = inl refl
-verdict_decides policy program (Err (denials.Fault fault)) = inr (inl refl)
-verdict_decides policy program (Err (denials.CellLimit first second count)) = inr (inl refl)
-verdict_decides policy program (Err (denials.Racy condition state first second)) = inr (inl refl)
-verdict_decides policy program (Err denials.Memory) = inr (inr refl)
+  -- Where it is accepted, the status is 0.
+  pub accepted_done : (made : Made) → Checks main inputs (Ok made) → (answer : Answer) → answer ≡ made.answer → answer_status answer ≡ statuses.Done
+  accepted_done made (other, first, (accepted, verdict, same)) answer is = ap answer_status (is ∙ ap (λ (m : Made). m.answer) same)
+
+  -- Where it is not, it is why.
+  pub denied_so : (e : Ended) → Checks main inputs (Err e) → Err e ≡ judged_step inputs.policy inputs.certificate program
+  denied_so e (inl unlinked) =
+      let wrong : ◌≡◌ {A = Step Program} (Err e) (Ok program) = unlinked ∙ links in
+      absurd cc
+  denied_so e (inr (other, first, inl verdict)) = subst (λ (p : Program). Err e ≡ judged_step inputs.policy inputs.certificate p) (same_program other first) verdict
+  denied_so e (inr (other, first, inr (accepted, verdict, none))) = absurd none
+
+verdict_decides : (policy : PolicyTree) (program : Program) (verdict : Result Accepted Denial) (refusal : Refusal) → Err (ends.Refused refusal) ≡ verdict_step policy program verdict
+    → IsDecision (refusal_status refusal)
+verdict_decides policy program (Ok accepted) refusal is = absurd cc
+verdict_decides policy program (Err (denials.Fault fault)) refusal is =
+    let same : refusal ≡ refusals.Denied fault (label_for program fault) = cc in
+    inr (ap refusal_status same)
+verdict_decides policy program (Err (denials.CellLimit first second count)) refusal is =
+    let same : refusal ≡ refusals.CellLimit first second count = cc in
+    inr (ap refusal_status same)
+verdict_decides policy program (Err (denials.Racy condition state first second)) refusal is =
+    let same : refusal ≡ racy policy program.listing condition state first second = cc in
+    inr (ap refusal_status same)
+verdict_decides policy program (Err denials.Memory) refusal is = absurd cc
 
 pub check_decides : CheckDecides
-check_decides seen named answer is quiet names = by (check_says seen.old seen.count named quiet names.told inputs listing policy certificate classes seen.new answer is) where
+check_decides seen named outcome carries quiet names = by outcome (check_says seen.old seen.count named quiet names.told inputs listing policy certificate classes seen.new outcome carries) where
   inputs : CheckInputs
   inputs = record { listing = names.listing; policy = names.policy; certificate = names.certificate; classes = names.classes }
 
@@ -113,8 +148,8 @@ check_decides seen named answer is quiet names = by (check_says seen.old seen.co
   classes : MayClasses seen.old named.classes names.classes.files names.classes.total
   classes = may_classes seen.old named.classes names.classes.files names.classes.total names.classes_read
 
-  by : (answer ≡ check_answer named.main inputs) ⊎ (answer ≡ answers.Memory) → IsDecision (status_of answer)
-  by (inl same) =
-      subst (λ (a : Answer). IsDecision (status_of a)) (sym (same ∙ answers_verdict named.main inputs names.program names.links))
-      (verdict_decides names.policy names.program (judged names.program (built names.policy) names.certificate))
-  by (inr memory) = subst (λ (a : Answer). IsDecision (status_of a)) (sym memory) (inr (inr refl))
+  by : (outcome : Outcome) → Then (Checks named.main inputs) (λ made. Yields made.answer) (outcome_step outcome) → IsDecision (status_of outcome)
+  by (Ok answer) (made, checks, is) = inl (accepted_done named.main inputs names.program names.links made checks answer is)
+  by (Err refusal) (inl checks) =
+      verdict_decides names.policy names.program (judged names.program (built names.policy) names.certificate) refusal (denied_so named.main inputs names.program names.links (ends.Refused refusal) checks)
+  by (Err refusal) (inr (made, checks, none)) = absurd none

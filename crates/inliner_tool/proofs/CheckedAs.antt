@@ -1,5 +1,5 @@
--- What is answered where a program was checked.
-use Rattle.std.proofs.Common.{◌≡◌, ◌∙◌, ℕ, List, Result, Ok, Err, ap, subst, sym}
+-- What is made where a program was checked.
+use Rattle.std.proofs.Common.{◌≡◌, ℕ, List, Ok, Err, ap, refl, subst, sym}
 use Rattle.std.specs.Prelude.{IfOk}
 use Rattle.bytecode_model.specs.declared.program.Program.{Program}
 use Rattle.cert_checker.specs.declared.checking.Accepted.{Accepted}
@@ -8,23 +8,37 @@ use Rattle.cert_format.specs.declared.certificate.Certificate.{Certificate}
 use Rattle.conspec_automaton.specs.Building.{built}
 use Rattle.conspec_tree.specs.declared.types.PolicyTree.{PolicyTree}
 use Rattle.input_files.specs.declared.check_inputs.CheckInputs.{CheckInputs}
-use Rattle.inliner_tool.specs.declared.answer.Answer.{Answer}
+use Rattle.input_files.specs.Forms.{Then}
 use Rattle.inliner_tool.specs.declared.answer.Answer.TheVariants as answers
 use Rattle.inliner_tool.specs.declared.check.Checked.{Checked}
-use Rattle.inliner_tool.specs.Check.{IsCheckedAs, ProgramIsCheckedAs, check_answer, link_inputs, linked_answer, program_answer, verdict_answer}
-use Rattle.inliner_tool.specs.Programs.{Equals, Step, UnlessMemory}
+use Rattle.inliner_tool.specs.declared.refusal.Ended.{Ended}
+use Rattle.inliner_tool.specs.Check.{Checks, ChecksLinked, IsCheckedAs, ProgramIsCheckedAs, judged_step, link_inputs, verdict_step}
+use Rattle.inliner_tool.specs.Steps.{Equals, Just, Step, UnlessMemory, just}
+use Rattle.inliner_tool.proofs.Planning.{first_fails, later}
 
--- The answer is the verdict.
-pub judged_answer : (tree : PolicyTree) (certificate : Certificate) (program : Program) (accepted : Accepted) → judged program (built tree) certificate ≡ Ok accepted
-    → program_answer tree certificate program ≡ answers.Accepted accepted
-judged_answer tree certificate program accepted is = ap (verdict_answer tree program) is
+-- The program is accepted so.
+pub judged_so : (tree : PolicyTree) (certificate : Certificate) (program : Program) (accepted : Accepted) → judged program (built tree) certificate ≡ Ok accepted
+    → judged_step tree certificate program ≡ Ok accepted
+judged_so tree certificate program accepted is = ap (verdict_step tree program) is
 
 -- The inputs link to the program that was checked.
-pub checked_so : (main : List ℕ) (inputs : CheckInputs) (linked : Step Program) (result : Result Checked Answer) → UnlessMemory (Equals (link_inputs main inputs)) linked
+pub checked_so : (main : List ℕ) (inputs : CheckInputs) (linked : Step Program) (result : Step Checked) → UnlessMemory (Equals (link_inputs main inputs)) linked
     → IfOk result (λ (c : Checked). linked ≡ Ok c.program) → IfOk result (λ (c : Checked). ProgramIsCheckedAs inputs.policy inputs.certificate c.program c.policy c.accepted) → IfOk result (IsCheckedAs main inputs)
 checked_so main inputs linked (Ok c) told links is = record { links = sym (subst (λ (l : Step Program). UnlessMemory (Equals (link_inputs main inputs)) l) links told); is = is }
-checked_so main inputs linked (Err answer) told links is = tt
+checked_so main inputs linked (Err ended) told links is = tt
 
--- The answer is that it was accepted.
-pub accepted_so : (main : List ℕ) (inputs : CheckInputs) (checked : Checked) → IsCheckedAs main inputs checked → answers.Accepted checked.accepted ≡ check_answer main inputs
-accepted_so main inputs checked is = sym (ap (linked_answer inputs.policy inputs.certificate) is.links ∙ is.is.answer)
+-- All steps are done.
+pub accepted_so : (main : List ℕ) (inputs : CheckInputs) (checked : Checked) → IsCheckedAs main inputs checked → Checks main inputs (Ok (just (answers.Accepted checked.accepted)))
+accepted_so main inputs checked is = (checked.program, sym is.links, (checked.accepted, sym is.is.accepts, refl))
+
+module _ (policy : PolicyTree) (certificate : Certificate) (step : Step Program) where
+  -- the files do not link
+  pub unlinked : (e : Ended) → UnlessMemory (Equals step) (Err e) → UnlessMemory (ChecksLinked policy certificate step) (Err e)
+  unlinked e told =
+      first_fails (Equals step) (λ program. Then (Equals (judged_step policy certificate program)) (λ accepted. Just (answers.Accepted accepted))) e told
+
+  -- they do, and the program is not accepted
+  pub unaccepted : (program : Program) → Equals step (Ok program) → (e : Ended) → UnlessMemory (Equals (judged_step policy certificate program)) (Err e) → UnlessMemory (ChecksLinked policy certificate step) (Err e)
+  unaccepted program links e told =
+      later (Equals step) (λ program. Then (Equals (judged_step policy certificate program)) (λ accepted. Just (answers.Accepted accepted))) program links (Err e)
+      (first_fails (Equals (judged_step policy certificate program)) (λ accepted. Just (answers.Accepted accepted)) e told)

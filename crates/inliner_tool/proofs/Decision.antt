@@ -1,5 +1,5 @@
--- To files that are told, and are a listing and a policy, `race` answers what is decided, or that memory ran out.
-use Rattle.std.proofs.Common.{◌≡◌, ◌⊎◌, inl, inr, Result, Ok, Err, refl, sym, ap, subst, ◌∙◌}
+-- To files that are told, and are a listing and a policy, `race` answers what is decided, unless memory runs out.
+use Rattle.std.proofs.Common.{◌≡◌, inl, inr, Result, Ok, Err, sym, ap, subst, ◌∙◌}
 use Rattle.api_listing.specs.declared.types.Listing.{Listing}
 use Rattle.conspec_automaton.specs.Building.{built}
 use Rattle.conspec_tree.specs.declared.types.PolicyTree.{PolicyTree}
@@ -7,7 +7,7 @@ use Rattle.mon_store.specs.Store.{Files, Rose}
 use Rattle.command_words.specs.Words.{NamedRace, Race}
 use Rattle.input_files.specs.declared.files.Stop.{Stop}
 use Rattle.input_files.specs.declared.files.Stop.TheVariants as stops
-use Rattle.input_files.specs.Forms.{Count, ReadsForm}
+use Rattle.input_files.specs.Forms.{Count, ReadsForm, Then, Yields}
 use Rattle.input_files.specs.Kinds.{listing_form, policy_form}
 use Rattle.input_files.specs.RaceInputs.{ReadsRace}
 use Rattle.race_free_check.specs.declared.fault.RaceFault.{RaceFault}
@@ -15,21 +15,29 @@ use Rattle.race_free_check.specs.declared.fault.RaceFault.TheVariants as faults
 use Rattle.race_free_check.specs.declared.verdict.RaceVerdict.{RaceVerdict}
 use Rattle.race_free_check.specs.declared.verdict.RaceVerdict.TheVariants as verdicts
 use Rattle.race_free_check.specs.Deciding.{decided}
-use Rattle.inliner_tool.specs.declared.answer.Answer.{Answer}
-use Rattle.inliner_tool.specs.declared.answer.Answer.TheVariants as answers
-use Rattle.inliner_tool.specs.Answers.{stopped}
-use Rattle.inliner_tool.proofs.Told.{may_read, says_of, stops_once, tree_once}
+use Rattle.inliner_tool.specs.declared.answer.Made.{Made}
+use Rattle.inliner_tool.specs.declared.refusal.Ended.TheVariants as ends
+use Rattle.inliner_tool.specs.declared.refusal.Refusal.{Refusal}
+use Rattle.inliner_tool.specs.declared.refusal.Refusal.TheVariants as refusals
 use Rattle.inliner_tool.specs.Decision.{IsDecision, NamesPolicy, RaceDecides}
-use Rattle.inliner_tool.specs.Race.{free_answer, race_answer, race_step}
-use Rattle.inliner_tool.specs.Tool.{CarriesOut, Ends, status_of}
+use Rattle.inliner_tool.specs.Race.{Races, race_step, racy}
+use Rattle.inliner_tool.specs.Steps.{Outcome, Reading, outcome_step, stopped}
+use Rattle.inliner_tool.specs.Tool.{answer_status, refusal_status, status_of}
+use Rattle.inliner_tool.proofs.Carrying.{quiet_so}
+use Rattle.inliner_tool.proofs.Told.{may_read, stops_once, tree_once}
 
--- ---- what is answered
+-- ---- what is decided
 
-step_decides : (policy : PolicyTree) (listing : Listing) (decision : Result RaceVerdict RaceFault) → IsDecision (status_of (free_answer (race_step policy listing decision)))
-step_decides policy listing (Ok verdicts.Free) = inl refl
-step_decides policy listing (Ok (verdicts.Racy condition state first second)) = inr (inl refl)
-step_decides policy listing (Err (faults.CellLimit first second count)) = inr (inl refl)
-step_decides policy listing (Err faults.Memory) = inr (inr refl)
+step_decides : (policy : PolicyTree) (listing : Listing) (decision : Result RaceVerdict RaceFault) (refusal : Refusal) → Err (ends.Refused refusal) ≡ race_step policy listing decision
+    → IsDecision (refusal_status refusal)
+step_decides policy listing (Ok verdicts.Free) refusal is = absurd cc
+step_decides policy listing (Ok (verdicts.Racy condition state first second)) refusal is =
+    let same : refusal ≡ racy policy listing condition state first second = cc in
+    inr (ap refusal_status same)
+step_decides policy listing (Err (faults.CellLimit first second count)) refusal is =
+    let same : refusal ≡ refusals.CellLimit first second count = cc in
+    inr (ap refusal_status same)
+step_decides policy listing (Err faults.Memory) refusal is = absurd cc
 
 module _ (files : Files) (count : Count) (named : NamedRace) (quiet : Rose count.before count.now → ⊥) (names : NamesPolicy files named) where
   listing_stops : (stop : Stop) → ReadsForm files count named.listing listing_form (Err stop) → stop ≡ stops.Memory
@@ -46,14 +54,15 @@ module _ (files : Files) (count : Count) (named : NamedRace) (quiet : Rose count
   race_stops stop (inr (listing, first, inl second)) = policy_stops listing stop first second
   race_stops stop (inr (listing, first, inr (policy, second, none))) = absurd none
 
-  ends_decide : (answer : Answer) → Ends (ReadsRace files count named) race_answer answer → IsDecision (status_of answer)
-  ends_decide answer (inl (inputs, read, is)) = subst (λ (a : Answer). IsDecision (status_of a)) (sym is) (step_decides inputs.policy inputs.listing (decided (built inputs.policy)))
-  ends_decide answer (inr (stop, read, is)) =
-      let memory : answer ≡ answers.Memory = is ∙ ap stopped (race_stops stop read) in
-      subst (λ (a : Answer). IsDecision (status_of a)) (sym memory) (inr (inr refl))
+  -- what is made is decided
+  made_decides : (outcome : Outcome) → Then (Then (Reading (ReadsRace files count named)) Races) (λ made. Yields made.answer) (outcome_step outcome) → IsDecision (status_of outcome)
+  made_decides (Ok answer) (made, (inputs, read, (free, decided_so, same)), is) = inl (ap answer_status (is ∙ ap (λ (m : Made). m.answer) same))
+  made_decides (Err refusal) (inl (inl (stop, read, is))) =
+      let wrong : ends.Refused refusal ≡ ends.Memory = is ∙ ap stopped (race_stops stop read) in
+      absurd cc
+  made_decides (Err refusal) (inl (inr (inputs, read, inl is))) = step_decides inputs.policy inputs.listing (decided (built inputs.policy)) refusal is
+  made_decides (Err refusal) (inl (inr (inputs, read, inr (free, decided_so, none)))) = absurd none
+  made_decides (Err refusal) (inr (made, makes, none)) = absurd none
 
 pub race_decides : RaceDecides
-race_decides seen named answer is quiet names = by (says_of (CarriesOut seen (Race named)) answer is) where
-  by : (Ends (ReadsRace seen.old seen.count named) race_answer answer × (seen.new ≡ seen.old)) ⊎ (answer ≡ answers.Memory) → IsDecision (status_of answer)
-  by (inl says) = ends_decide seen.old seen.count named quiet names answer says.0
-  by (inr memory) = subst (λ (a : Answer). IsDecision (status_of a)) (sym memory) (inr (inr refl))
+race_decides seen named outcome carries quiet names = made_decides seen.old seen.count named quiet names outcome (quiet_so seen (Race named) quiet (outcome_step outcome) carries)

@@ -1,5 +1,5 @@
-pub mod NeverUsage
 pub mod Planning
+pub mod Carrying
 pub mod Replying
 pub mod Decision
 pub mod Decides

@@ -1,5 +1,5 @@
 -- What is woven of inputs is made of them.
-use Rattle.std.proofs.Common.{◌≡◌, ◌≤◌, length, Ok, sym, subst, ap, ◌∙◌}
+use Rattle.std.proofs.Common.{◌≡◌, ◌≤◌, ℕ, List, length, Ok, sym, subst, ap, ◌∙◌}
 use Rattle.block_template.specs.Blocks.{plan_of}
 use Rattle.bytecode_model.specs.declared.program.Program.{Program}
 use Rattle.bytecode_model.specs.declared.program.Side.TheVariants.{Original}
@@ -8,7 +8,7 @@ use Rattle.bytecode_model.specs.Sound.{IsSound}
 use Rattle.bytecode_model.specs.Standing.{IsLinkedOf}
 use Rattle.class_weaving.specs.declared.woven.Woven.{Woven}
 use Rattle.class_weaving.specs.Woven.{woven}
-use Rattle.command_words.specs.InlineWords.{NamedInline}
+use Rattle.command_words.specs.declared.inline_words.Weaving.{Weaving}
 use Rattle.conspec_automaton.specs.Sound.{IsPolicy, NamesMethods}
 use Rattle.conspec_parse.specs.Telling.{KindsAreTold, ResultsAreTold}
 use Rattle.input_files.specs.declared.inline_inputs.InlineInputs.{InlineInputs}
@@ -25,26 +25,26 @@ module _ (inputs : InlineInputs) (client : Program) (given : Given) (gathered : 
   pub listing_same : client.listing ≡ inputs.listing → given.client.listing ≡ inputs.listing
   listing_same same = ap (λ (p : Program). p.listing) gathered.client ∙ same
 
-  pub client_links : (named : NamedInline) → original inputs.listing inputs.classes named.main ≡ Ok client → original inputs.listing inputs.classes named.main ≡ Ok given.client
-  client_links named links = links ∙ ap (λ (p : Program). Ok p) (sym gathered.client)
+  pub client_links : (main : List ℕ) → original inputs.listing inputs.classes main ≡ Ok client → original inputs.listing inputs.classes main ≡ Ok given.client
+  client_links main links = links ∙ ap (λ (p : Program). Ok p) (sym gathered.client)
 
   pub client_typed : AreTypes client given.typing → AreTypes given.client given.typing
   client_typed typed = subst (λ (p : Program). AreTypes p given.typing) (sym gathered.client) typed
 
-  pub client_chosen : (named : NamedInline) → mode_for named.weaving inputs.policy client.listing ≡ Ok given.mode → mode_for named.weaving inputs.policy given.client.listing ≡ Ok given.mode
-  client_chosen named chosen = ap (λ (p : Program). mode_for named.weaving inputs.policy p.listing) gathered.client ∙ chosen
+  pub client_chosen : (weaving : Weaving) → mode_for weaving inputs.policy client.listing ≡ Ok given.mode → mode_for weaving inputs.policy given.client.listing ≡ Ok given.mode
+  client_chosen weaving chosen = ap (λ (p : Program). mode_for weaving inputs.policy p.listing) gathered.client ∙ chosen
 
   pub client_laid_out : IsLaidOut given.client given.typing.frames
   client_laid_out = subst (λ (p : Program). IsLaidOut p given.typing.frames) (sym gathered.client) gathered.laid_out
 
-  pub made_of : PoliciesTellTypes → KindsAreTold → ResultsAreTold → InlineSound inputs → (named : NamedInline) → original inputs.listing inputs.classes named.main ≡ Ok client
-      → IsSound client → IsLinkedOf Original inputs.listing named.main client → client.listing ≡ inputs.listing → IsPolicy given.policy × NamesMethods (length inputs.listing.methods) given.policy
-      → (made : Woven) → woven given.client (plan_of given.policy given.mode) given.policy.vars ≡ Ok made → IsMadeOf inputs named.main given made
-  made_of tell kinds results known named links sound stands same policies made weaves = record {
+  pub made_of : PoliciesTellTypes → KindsAreTold → ResultsAreTold → InlineSound inputs → (main : List ℕ) → original inputs.listing inputs.classes main ≡ Ok client
+      → IsSound client → IsLinkedOf Original inputs.listing main client → client.listing ≡ inputs.listing → IsPolicy given.policy × NamesMethods (length inputs.listing.methods) given.policy
+      → (made : Woven) → woven given.client (plan_of given.policy given.mode) given.policy.vars ≡ Ok made → IsMadeOf inputs main given made
+  made_of tell kinds results known main links sound stands same policies made weaves = record {
     known = known;
-    links = inputs_link named inputs given.client (client_links named links);
+    links = inputs_link main inputs given.client (client_links main links);
     sound = subst IsSound (sym gathered.client) sound;
-    stands = subst (IsLinkedOf Original inputs.listing named.main) (sym gathered.client) stands;
+    stands = subst (IsLinkedOf Original inputs.listing main) (sym gathered.client) stands;
     policy = gathered.policy;
     kept = sound_for tell kinds results inputs known given.policy gathered.policy policies given.client.listing (listing_same same);
     weaves = weaves;

@@ -1,22 +1,32 @@
--- Of a command but `inline` its definition gives one answer to the same files.
+-- A command but `inline` comes to one outcome over the same files.
 use Rattle.std.proofs.Common.{◌≡◌, ◌⊎◌, inl, inr, ℕ, ◌+◌, ◌<◌, ◌≤◌, List, length, Option, Some, Result, Ok, Err, refl, sym, ap, subst, ◌∙◌, arith}
 use Rattle.std.specs.Prelude.{slice_get}
 use Rattle.bytecode_model.specs.declared.program.LinkedClass.{LinkedClass}
 use Rattle.bytecode_model.specs.declared.program.Method.{Method}
 use Rattle.bytecode_model.specs.declared.program.Program.{Program}
 use Rattle.cert_format.specs.declared.typing.Typing.{Typing}
-use Rattle.command_words.specs.Words.{Check, Inline, Policy, Race, Replay, Show}
+use Rattle.command_words.specs.Words.{Check, Inline, NamedCommand, Policy, Race, Replay, Show}
+use Rattle.conspec_automaton.specs.Building.{built}
+use Rattle.input_files.specs.declared.check_inputs.CheckInputs.{CheckInputs}
+use Rattle.race_free_check.specs.Deciding.{decided}
 use Rattle.input_files.specs.declared.files.Stop.{Stop}
 use Rattle.input_files.specs.declared.replay_inputs.ReplayInputs.{ReplayInputs}
-use Rattle.input_files.specs.Contents.{check_read, policy_read, race_read, replay_read, show_read}
+use Rattle.input_files.specs.Contents.{Contents, check_read, policy_read, race_read, replay_read, show_read}
+use Rattle.input_files.specs.Forms.{Then, Yields}
 use Rattle.type_infer.specs.Untyped.{CanBeMet, IsUntypedAt, StandsBefore}
 use Rattle.inliner_tool.specs.declared.answer.Answer.{Answer}
+use Rattle.inliner_tool.specs.declared.answer.Answer.TheVariants as answers
+use Rattle.inliner_tool.specs.declared.refusal.Ended.{Ended}
 use Rattle.inliner_tool.specs.declared.refusal.Refusal.{Refusal}
-use Rattle.inliner_tool.specs.declared.refusal.Refusal.TheVariants as refusals
-use Rattle.inliner_tool.specs.Classes.{label_of}
-use Rattle.inliner_tool.specs.Decides.{ComesTo, GivesOnce, Judged}
-use Rattle.inliner_tool.specs.Programs.{Step, Types}
-use Rattle.inliner_tool.specs.Replay.{Tells, link_run, replay_answer, steps_told}
+use Rattle.inliner_tool.specs.Check.{Checks, judged_step, link_inputs}
+use Rattle.inliner_tool.specs.Commands.{Makes, readings_in}
+use Rattle.inliner_tool.specs.Decides.{GivesOnce, IsNoInline}
+use Rattle.inliner_tool.specs.Policy.{Judges}
+use Rattle.inliner_tool.specs.Programs.{Types}
+use Rattle.inliner_tool.specs.Race.{Races, race_step}
+use Rattle.inliner_tool.specs.Replay.{Replays, Tells, link_run, steps_told}
+use Rattle.inliner_tool.specs.Show.{Shows, text_shown}
+use Rattle.inliner_tool.specs.Steps.{Equals, Just, Outcome, Reading, Step, outcome_step, stopped}
 use Rattle.inliner_tool.proofs.RunDecision.{types_are_found}
 
 -- ---- where no types fit
@@ -74,35 +84,18 @@ untyped_once program class method at own index place one other = by (which class
         absurd (none_before program own index place other at (subst (λ (i : ℕ). IsUntypedAt program own i at) m (subst (λ (o : ℕ). IsUntypedAt program o method at) c one)) more)
 
 -- where no types fit, one refusal is told
-untyped_same : (program : Program) (a b : Refusal) → Types program (Err a) → Types program (Err b) → a ≡ b
-untyped_same program (refusals.Untyped label method at) (refusals.Untyped other index place) (class, is, one) (own, also, two) =
+untyped_same : (program : Program) (a b : Ended) → Types program (Err a) → Types program (Err b) → a ≡ b
+untyped_same program a b (class, method, at, is, one) (own, index, place, also, two) =
     let same = untyped_once program class method at own index place one two in
-    let name : label ≡ other = is ∙ ap (label_of program) same.0 ∙ sym also in
-    rw (name, same.1.0, same.1.1) refl
-untyped_same program (refusals.TotalLong len) b one two = absurd one
-untyped_same program (refusals.Link fault) b one two = absurd one
-untyped_same program (refusals.Racy condition example) b one two = absurd one
-untyped_same program (refusals.CellLimit first second count) b one two = absurd one
-untyped_same program (refusals.Overflow class method what value) b one two = absurd one
-untyped_same program (refusals.LongCertificate value) b one two = absurd one
-untyped_same program (refusals.NotEnabled index) b one two = absurd one
-untyped_same program refusals.Memory b one two = absurd one
-untyped_same program (refusals.Untyped label method at) (refusals.TotalLong len) one two = absurd two
-untyped_same program (refusals.Untyped label method at) (refusals.Link fault) one two = absurd two
-untyped_same program (refusals.Untyped label method at) (refusals.Racy condition example) one two = absurd two
-untyped_same program (refusals.Untyped label method at) (refusals.CellLimit first second count) one two = absurd two
-untyped_same program (refusals.Untyped label method at) (refusals.Overflow class index what value) one two = absurd two
-untyped_same program (refusals.Untyped label method at) (refusals.LongCertificate value) one two = absurd two
-untyped_same program (refusals.Untyped label method at) (refusals.NotEnabled index) one two = absurd two
-untyped_same program (refusals.Untyped label method at) refusals.Memory one two = absurd two
+    is ∙ rw (same.0, same.1.0, same.1.1) refl ∙ sym also
 
 -- ---- what is told of a run
 
 -- What a run comes to: the program does not link, or has no types, or its steps are told.
 record RunIs (main : List ℕ) (inputs : ReplayInputs) (step : Step (List ℕ)) : Type 0 where
-  is : ((e : Refusal) × (link_run main inputs ≡ Err e) × (step ≡ Err e))
+  is : ((e : Ended) × (link_run main inputs ≡ Err e) × (step ≡ Err e))
       ⊎ ((program : Program) × (link_run main inputs ≡ Ok program)
-      × (((e : Refusal) × Types program (Err e) × (step ≡ Err e)) ⊎ ((typing : Typing) × Types program (Ok typing) × (step ≡ steps_told program inputs.recorded.steps))))
+      × (((e : Ended) × Types program (Err e) × (step ≡ Err e)) ⊎ ((typing : Typing) × Types program (Ok typing) × (step ≡ steps_told program inputs.recorded.steps))))
 
 run_is : (main : List ℕ) (inputs : ReplayInputs) (step : Step (List ℕ)) → Tells main inputs step → RunIs main inputs step
 run_is main inputs (Ok text) (program, links, (typing, typed, is)) = record { is = inr (program, sym links, inr (typing, typed, is)) }
@@ -121,17 +114,17 @@ tells_once main inputs a b one two = by (run_is main inputs a one) (run_is main 
     by : RunIs main inputs a → RunIs main inputs b → a ≡ b
     by x y = of x.is y.is
       where
-        of : ((e : Refusal) × (link_run main inputs ≡ Err e) × (a ≡ Err e))
+        of : ((e : Ended) × (link_run main inputs ≡ Err e) × (a ≡ Err e))
             ⊎ ((program : Program) × (link_run main inputs ≡ Ok program)
-            × (((e : Refusal) × Types program (Err e) × (a ≡ Err e)) ⊎ ((typing : Typing) × Types program (Ok typing) × (a ≡ steps_told program inputs.recorded.steps))))
-            → ((e : Refusal) × (link_run main inputs ≡ Err e) × (b ≡ Err e))
+            × (((e : Ended) × Types program (Err e) × (a ≡ Err e)) ⊎ ((typing : Typing) × Types program (Ok typing) × (a ≡ steps_told program inputs.recorded.steps))))
+            → ((e : Ended) × (link_run main inputs ≡ Err e) × (b ≡ Err e))
             ⊎ ((program : Program) × (link_run main inputs ≡ Ok program)
-            × (((e : Refusal) × Types program (Err e) × (b ≡ Err e)) ⊎ ((typing : Typing) × Types program (Ok typing) × (b ≡ steps_told program inputs.recorded.steps))))
+            × (((e : Ended) × Types program (Err e) × (b ≡ Err e)) ⊎ ((typing : Typing) × Types program (Ok typing) × (b ≡ steps_told program inputs.recorded.steps))))
             → a ≡ b
         of (inl (e, un, is)) (inl (f, also, holds)) =
             let same : ◌≡◌ {A = Step Program} (Err e) (Err f) = sym un ∙ also in
             let fault : e ≡ f = cc in
-            is ∙ ap (λ (r : Refusal). Err r) fault ∙ sym holds
+            is ∙ ap (λ (r : Ended). Err r) fault ∙ sym holds
         of (inl (e, un, is)) (inr (q, also, rest)) =
             let wrong : ◌≡◌ {A = Step Program} (Err e) (Ok q) = sym un ∙ also in
             absurd cc
@@ -141,7 +134,7 @@ tells_once main inputs a b one two = by (run_is main inputs a one) (run_is main 
         of (inr (p, links, inl (e, untyped, is))) (inr (q, also, inl (f, other, holds))) =
             let same : q ≡ p = same_link main inputs q p also links in
             let fault : e ≡ f = untyped_same p e f untyped (subst (λ (r : Program). Types r (Err f)) same other) in
-            is ∙ ap (λ (r : Refusal). Err r) fault ∙ sym holds
+            is ∙ ap (λ (r : Ended). Err r) fault ∙ sym holds
         of (inr (p, links, inl (e, untyped, is))) (inr (q, also, inr (typing, typed, holds))) =
             let same : q ≡ p = same_link main inputs q p also links in
             absurd (types_are_found p (typing, (subst (λ (r : Program). Types r (Ok typing)) same typed).typed) e untyped)
@@ -152,18 +145,91 @@ tells_once main inputs a b one two = by (run_is main inputs a one) (run_is main 
             let same : p ≡ q = same_link main inputs p q links also in
             is ∙ ap (λ (r : Program). steps_told r inputs.recorded.steps) same ∙ sym holds
 
--- ---- answers
+-- ---- outcomes
 
-judged_once : {A : Type 0} (read : Result A Stop) (Judges : A → Answer → Type 0) → ((inputs : A) (a b : Answer) → Judges inputs a → Judges inputs b → a ≡ b)
-    → (a b : Answer) → Judged read Judges a → Judged read Judges b → a ≡ b
-judged_once (Ok inputs) Judges once a b one two = once inputs a b one two
-judged_once (Err stop) Judges once a b one two = one ∙ sym two
+-- It is so of one alone.
+abbrev Once : {X : Type 0} → (X → Type 0) → Type 0
+Once {X = X} P = (a b : X) → P a → P b → a ≡ b
+
+equals_once : {A : Type 0} (step : Step A) → Once (Equals step)
+equals_once step a b one two = one ∙ sym two
+
+yields_once : {A : Type 0} (a : A) → Once (Yields {E = Ended} a)
+yields_once a (Ok x) (Ok y) one two = ap (λ (z : _). Ok z) (one ∙ sym two)
+yields_once a (Err e) b none two = absurd none
+yields_once a (Ok x) (Err e) one none = absurd none
+
+module _ {A B : Type 0} (First : Step A → Type 0) (Second : A → Step B → Type 0) (first : Once First) (second : (a : A) → Once (Second a)) where
+  same_first : (a b : A) → First (Ok a) → First (Ok b) → a ≡ b
+  same_first a b one two =
+      let same : ◌≡◌ {A = Step A} (Ok a) (Ok b) = first (Ok a) (Ok b) one two in
+      cc
+
+  not_both : (a : A) (e : Ended) → First (Ok a) → First (Err e) → ⊥
+  not_both a e one two =
+      let wrong : ◌≡◌ {A = Step A} (Ok a) (Err e) = first (Ok a) (Err e) one two in
+      absurd cc
+
+  ends_once : (e f : Ended) → First (Err e) → First (Err f) → ◌≡◌ {A = Step B} (Err e) (Err f)
+  ends_once e f one two =
+      let same : ◌≡◌ {A = Step A} (Err e) (Err f) = first (Err e) (Err f) one two in
+      cc
+
+  then_once : Once (Then First Second)
+  then_once (Ok x) (Ok y) (a, one, rest) (b, two, others) = second a (Ok x) (Ok y) rest (subst (λ (c : A). Second c (Ok y)) (sym (same_first a b one two)) others)
+  then_once (Ok x) (Err f) (a, one, rest) (inl two) = absurd (not_both a f one two)
+  then_once (Ok x) (Err f) (a, one, rest) (inr (b, two, others)) = second a (Ok x) (Err f) rest (subst (λ (c : A). Second c (Err f)) (sym (same_first a b one two)) others)
+  then_once (Err e) (Ok y) (inl one) (b, two, others) = absurd (not_both b e two one)
+  then_once (Err e) (Ok y) (inr (a, one, rest)) (b, two, others) = second a (Err e) (Ok y) rest (subst (λ (c : A). Second c (Ok y)) (sym (same_first a b one two)) others)
+  then_once (Err e) (Err f) (inl one) (inl two) = ends_once e f one two
+  then_once (Err e) (Err f) (inl one) (inr (b, two, others)) = absurd (not_both b e two one)
+  then_once (Err e) (Err f) (inr (a, one, rest)) (inl two) = absurd (not_both a f one two)
+  then_once (Err e) (Err f) (inr (a, one, rest)) (inr (b, two, others)) = second a (Err e) (Err f) rest (subst (λ (c : A). Second c (Err f)) (sym (same_first a b one two)) others)
+
+reading_once : {A : Type 0} (read : Result A Stop) → Once {X = Step A} (Reading (λ r. r ≡ read))
+reading_once read (Ok x) (Ok y) one two =
+    let same : ◌≡◌ {A = Result _ Stop} (Ok x) (Ok y) = one ∙ sym two in
+    cc
+reading_once read (Ok x) (Err f) one (stop, two, is) =
+    let wrong : ◌≡◌ {A = Result _ Stop} (Ok x) (Err stop) = one ∙ sym two in
+    absurd cc
+reading_once read (Err e) (Ok y) (stop, one, is) two =
+    let wrong : ◌≡◌ {A = Result _ Stop} (Err stop) (Ok y) = one ∙ sym two in
+    absurd cc
+reading_once read (Err e) (Err f) (stop, one, is) (other, two, also) =
+    let same : ◌≡◌ {A = Result _ Stop} (Err stop) (Err other) = one ∙ sym two in
+    let stops : stop ≡ other = cc in
+    ap (λ (x : Ended). Err x) (is ∙ ap stopped stops ∙ sym also)
+
+checks_once : (main : List ℕ) (inputs : CheckInputs) → Once (Checks main inputs)
+checks_once main inputs =
+    then_once (Equals (link_inputs main inputs)) (λ program. Then (Equals (judged_step inputs.policy inputs.certificate program)) (λ accepted. Just (answers.Accepted accepted))) (equals_once _)
+    (λ program. then_once (Equals (judged_step inputs.policy inputs.certificate program)) (λ accepted. Just (answers.Accepted accepted)) (equals_once _) (λ accepted. yields_once _))
+
+makes_once : (contents : Contents) (named : NamedCommand) → IsNoInline named → Once (Makes (readings_in contents) named)
+makes_once contents (Check named) other = then_once (Reading (λ r. r ≡ check_read contents named)) (Checks named.main) (reading_once _) (checks_once named.main)
+makes_once contents (Show named) other =
+    then_once (Reading (λ r. r ≡ show_read contents named)) Shows (reading_once _)
+    (λ inputs. then_once (Equals (text_shown inputs)) (λ text. Just (answers.Shown text)) (equals_once _) (λ text. yields_once _))
+makes_once contents (Policy named) other = then_once (Reading (λ r. r ≡ policy_read contents named)) Judges (reading_once _) (λ inputs. yields_once _)
+makes_once contents (Race named) other =
+    then_once (Reading (λ r. r ≡ race_read contents named)) Races (reading_once _)
+    (λ inputs. then_once (Equals (race_step inputs.policy inputs.listing (decided (built inputs.policy)))) (λ free. Just answers.RaceFree) (equals_once _) (λ free. yields_once _))
+makes_once contents (Inline named) other = absurd other
+makes_once contents (Replay named) other =
+    then_once (Reading (λ r. r ≡ replay_read contents named)) (Replays named.main) (reading_once _)
+    (λ inputs. then_once (Tells named.main inputs) (λ text. Just (answers.Replayed text)) (tells_once named.main inputs) (λ text. yields_once _))
+
+outcome_once : (a b : Outcome) → outcome_step a ≡ outcome_step b → a ≡ b
+outcome_once (Ok x) (Ok y) same =
+    let is : x ≡ y = cc in
+    ap (λ (z : Answer). Ok z) is
+outcome_once (Ok x) (Err f) same = absurd cc
+outcome_once (Err e) (Ok y) same = absurd cc
+outcome_once (Err e) (Err f) same =
+    let is : e ≡ f = cc in
+    ap (λ (z : Refusal). Err z) is
 
 pub gives_once : GivesOnce
-gives_once contents (Check named) a b other one two = judged_once (check_read contents named) _ (λ inputs a b e f. e ∙ sym f) a b one two
-gives_once contents (Show named) a b other one two = judged_once (show_read contents named) _ (λ inputs a b e f. e ∙ sym f) a b one two
-gives_once contents (Policy named) a b other one two = judged_once (policy_read contents named) _ (λ inputs a b e f. e ∙ sym f) a b one two
-gives_once contents (Race named) a b other one two = judged_once (race_read contents named) _ (λ inputs a b e f. e ∙ sym f) a b one two
-gives_once contents (Inline named) a b other one two = absurd other
-gives_once contents (Replay named) a b other one two =
-    judged_once (replay_read contents named) (λ inputs. ComesTo (Tells named.main inputs) replay_answer) (λ inputs a b e f. e.2 ∙ ap replay_answer (tells_once named.main inputs e.0 f.0 e.1 f.1) ∙ sym f.2) a b one two
+gives_once contents named a b other one two =
+    outcome_once a b (then_once (Makes (readings_in contents) named) (λ made. Yields made.answer) (makes_once contents named other) (λ made. yields_once made.answer) (outcome_step a) (outcome_step b) one two)

@@ -1,12 +1,12 @@
 -- The steps of weaving, one after the other.
 use Rattle.std.proofs.Common.{Ok, Err, inl, inr, ⊎_elim}
-use Rattle.inliner_tool.specs.declared.refusal.Refusal.{Refusal}
+use Rattle.inliner_tool.specs.declared.refusal.Ended.{Ended}
 use Rattle.input_files.specs.Forms.{Then}
-use Rattle.inliner_tool.specs.Programs.{Step, UnlessMemory}
+use Rattle.inliner_tool.specs.Steps.{Step, UnlessMemory}
 
 module _ {A B : Type 0} (First : Step A → Type 0) (Second : A → Step B → Type 0) where
   -- a step that fails is the answer
-  pub first_fails : (e : Refusal) → UnlessMemory First (Err e) → UnlessMemory (Then First Second) (Err e)
+  pub first_fails : (e : Ended) → UnlessMemory First (Err e) → UnlessMemory (Then First Second) (Err e)
   first_fails e told = ⊎_elim (λ h. inl (inl h)) (λ h. inr h) told
 
   -- behind a step that does not

@@ -11,6 +11,7 @@ use Rattle.bytecode_model.specs.Files.{max_files, unlinked}
 use Rattle.bytecode_model.specs.Sound.{IsSoundClass}
 use Rattle.bytecode_model.specs.Standing.{IsLinkedOf}
 use Rattle.bytecode_model.proofs.Lists.{all_get}
+use Rattle.cert_checker.specs.declared.checking.Accepted.{Accepted}
 use Rattle.cert_checker.specs.Judging.{judged}
 use Rattle.cert_format.specs.declared.certificate.Certificate.{Certificate}
 use Rattle.cert_format.specs.declared.fault.CertForm.{CertForm}
@@ -36,20 +37,21 @@ use Rattle.mon_store.specs.Outputs.{all_written}
 use Rattle.mon_store.specs.Store.{Files, Rose}
 use Rattle.input_files.specs.declared.check_inputs.CheckInputs.{CheckInputs}
 use Rattle.input_files.specs.declared.fault.InputFault.TheVariants as faults
-use Rattle.input_files.specs.Forms.{Count, HasText}
+use Rattle.input_files.specs.Forms.{Count, HasText, Then, Yields}
 use Rattle.input_files.specs.Kinds.{certificate_form, certificate_read, class_form, class_read, listing_form, policy_form}
 use Rattle.output_files.specs.Outputs.{are_short, certificate_name, certificate_output, class_name, class_output, is_written}
-use Rattle.inliner_tool.specs.declared.answer.Answer.{Answer}
-use Rattle.inliner_tool.specs.declared.answer.Answer.TheVariants as answers
+use Rattle.inliner_tool.specs.declared.refusal.Ended.TheVariants as ends
 use Rattle.inliner_tool.specs.declared.refusal.Refusal.TheVariants as refusals
 use Rattle.inliner_tool.specs.declared.tool.Status.TheVariants as statuses
-use Rattle.inliner_tool.specs.Check.{check_answer, verdict_answer}
+use Rattle.inliner_tool.specs.Check.{Checks, judged_step, verdict_step}
 use Rattle.inliner_tool.specs.Inline.{IsInlined}
 use Rattle.inliner_tool.specs.Programs.{link_step, program_of}
 use Rattle.inliner_tool.specs.Rechecking.{NamesWritten, WrittenIsAccepted, size_of, sizes_of}
 use Rattle.inliner_tool.specs.Seen.{Seen}
-use Rattle.inliner_tool.specs.Tool.{CarriesOut, IsAnswer, status_of}
-use Rattle.inliner_tool.proofs.CheckDecision.{answers_verdict, check_says}
+use Rattle.inliner_tool.specs.Steps.{Outcome, Step, outcome_step}
+use Rattle.inliner_tool.specs.Tool.{status_of}
+use Rattle.inliner_tool.specs.Writing.{CarriesOut}
+use Rattle.inliner_tool.proofs.CheckDecision.{accepted_done, check_says, denied_so}
 use Rattle.inliner_tool.proofs.Counting.{linked_of}
 use Rattle.inliner_tool.proofs.Told.{MayRead, may_read}
 use Rattle.inliner_tool.proofs.ToldClasses.{MayClasses}
@@ -198,28 +200,29 @@ module _ (law : LinkedAreNamed) (seen : Seen) (named : NamedInline) (told : IsSo
       let here : linked (unlinked program) inlined.inputs.listing check.main Inlined ≡ Ok program =
       ap (λ fs. linked fs inlined.inputs.listing check.main Inlined) inlined.planned.rewoven.same ∙ ap (λ l. linked inlined.planned.made.files l check.main Inlined) (sym inlined.planned.listing)
       ∙ ap (λ m. linked inlined.planned.made.files inlined.planned.given.client.listing m Inlined) names.main ∙ whole in
-      ap (λ (b : Bool). cond b (Err (refusals.TotalLong (sizes_of program.classes))) (link_step (linked (unlinked program) inlined.inputs.listing check.main Inlined))) few ∙ ap link_step here
+      ap (λ (b : Bool). cond b (Err (ends.Refused (refusals.TotalLong (sizes_of program.classes)))) (link_step (linked (unlinked program) inlined.inputs.listing check.main Inlined))) few ∙ ap link_step here
     where
       many_files : (list : List LinkedClass) → length (map (λ (c : LinkedClass). c.file) list) ≡ length list
       many_files [] = refl
       many_files (c ∷ list) = ap suc (many_files list)
 
-  accepts : check_answer check.main inputs ≡ answers.Accepted inlined.ready.accepted
-  accepts =
-      answers_verdict check.main inputs program links
-      ∙ ap (verdict_answer tree program) (subst (λ p. judged program p certificate ≡ Ok inlined.ready.accepted) inlined.planned.policy inlined.planned.rewoven.verdict)
+  accepts : judged_step tree certificate program ≡ Ok inlined.ready.accepted
+  accepts = ap (verdict_step tree program) (subst (λ p. judged program p certificate ≡ Ok inlined.ready.accepted) inlined.planned.policy inlined.planned.rewoven.verdict)
 
-  pub accepted_again : (later : Files) (again : Count) (answer : Answer) → IsAnswer (λ (a : Answer). CarriesOut (record { old = new; new = later; count = again }) (Check check) a) answer → (Rose again.before again.now → ⊥)
-      → (status_of answer ≡ statuses.Done) ⊎ (status_of answer ≡ statuses.Memory)
-  accepted_again later again answer is quiet =
-      by (check_says new again check quiet told_new inputs (may_read new check.listing listing_form inlined.inputs.listing names.listing)
-      (may_read new check.policy (policy_form inlined.inputs.listing) tree names.policy) certificate_read_so classes_there later answer is)
+  pub accepted_again : (later : Files) (again : Count) (outcome : Outcome) → CarriesOut (record { old = new; new = later; count = again }) (Check check) (outcome_step outcome) → (Rose again.before again.now → ⊥)
+      → status_of outcome ≡ statuses.Done
+  accepted_again later again outcome carries quiet =
+      by outcome (check_says new again check quiet told_new inputs (may_read new check.listing listing_form inlined.inputs.listing names.listing)
+      (may_read new check.policy (policy_form inlined.inputs.listing) tree names.policy) certificate_read_so classes_there later outcome carries)
     where
-      by : (answer ≡ check_answer check.main inputs) ⊎ (answer ≡ answers.Memory) → (status_of answer ≡ statuses.Done) ⊎ (status_of answer ≡ statuses.Memory)
-      by (inl same) = inl (ap status_of (same ∙ accepts))
-      by (inr memory) = inr (ap status_of memory)
+      by : (outcome : Outcome) → Then (Checks check.main inputs) (λ made. Yields made.answer) (outcome_step outcome) → status_of outcome ≡ statuses.Done
+      by (Ok answer) (made, checks, is) = accepted_done check.main inputs program links made checks answer is
+      by (Err refusal) (inl checks) =
+          let wrong : ◌≡◌ {A = Step Accepted} (Err (ends.Refused refusal)) (Ok inlined.ready.accepted) = denied_so check.main inputs program links (ends.Refused refusal) checks ∙ accepts in
+          absurd cc
+      by (Err refusal) (inr (made, checks, none)) = absurd none
 
 pub written_is_accepted : LinkedAreNamed → WrittenIsAccepted
-written_is_accepted law seen named told inlined check names again answer same is quiet =
-    accepted_again law seen named told inlined check names again.new again.count answer
-    (subst (λ (files : Files). IsAnswer (λ (a : Answer). CarriesOut (record { old = files; new = again.new; count = again.count }) (Check check) a) answer) same is) quiet
+written_is_accepted law seen named told inlined check names again outcome same carries quiet =
+    accepted_again law seen named told inlined check names again.new again.count outcome
+    (subst (λ (files : Files). CarriesOut (record { old = files; new = again.new; count = again.count }) (Check check) (outcome_step outcome)) same carries) quiet

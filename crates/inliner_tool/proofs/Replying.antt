@@ -1,46 +1,33 @@
--- What the status of a call says of the answer.
-use Rattle.std.proofs.Common.{◌≡◌, ◌∙◌, ℕ, List, Option, ap, refl, sym}
-use Rattle.conspec_automaton.specs.declared.running.Verdict.TheVariants as verdicts
+-- What the status of a call says of its outcome.
+use Rattle.std.proofs.Common.{◌≡◌, inl, inr, ℕ, List, Option, Err, sym, subst}
+use Rattle.command_words.specs.InlineWords.{IsInline, NamedInline}
+use Rattle.command_words.specs.ReplayWords.{IsReplay, NamedReplay}
+use Rattle.command_words.specs.Words.{Check, Inline, IsCheck, IsCommand, NamedCheck, NamedCommand, Replay}
+use Rattle.command_words.proofs.NamedOnce.{command_once}
+use Rattle.mon_store.specs.Sink.{Appends, AppendsFront}
 use Rattle.inliner_tool.specs.declared.answer.Answer.{Answer}
-use Rattle.inliner_tool.specs.declared.answer.Answer.TheVariants as answers
+use Rattle.inliner_tool.specs.declared.refusal.Ended.{Ended}
+use Rattle.inliner_tool.specs.declared.refusal.Ended.TheVariants as ends
 use Rattle.inliner_tool.specs.declared.refusal.Refusal.{Refusal}
-use Rattle.inliner_tool.specs.declared.refusal.Refusal.TheVariants as refusals
-use Rattle.inliner_tool.specs.declared.tool.Status.TheVariants as statuses
-use Rattle.inliner_tool.specs.Answers.{EndsWell}
-use Rattle.command_words.specs.Words.{NamedCheck}
-use Rattle.mon_store.specs.Sink.{Appends}
 use Rattle.inliner_tool.specs.declared.tool.Status.{Status}
-use Rattle.inliner_tool.specs.Replies.{answer_spelled}
+use Rattle.inliner_tool.specs.declared.tool.Status.TheVariants as statuses
+use Rattle.inliner_tool.specs.Replies.{outcome_spelled, usage_spelled}
 use Rattle.inliner_tool.specs.Seen.{Seen}
-use Rattle.inliner_tool.specs.Tool.{Answered, CheckedRuns, Holds, Replies, Says, refusal_status, status_of}
+use Rattle.inliner_tool.specs.Steps.{Outcome, Step, UnlessMemory, outcome_step}
+use Rattle.inliner_tool.specs.Tool.{CheckedRuns, Holds, IsOutcomeStatus, NamesNone, Puts, Replies, Says, status_of}
+use Rattle.inliner_tool.specs.Writing.{CarriesOut}
 
-refusal_ends : (refusal : Refusal) → refusal_status refusal ≡ statuses.Done → ⊥
-refusal_ends (refusals.TotalLong len) is = absurd cc
-refusal_ends (refusals.Link fault) is = absurd cc
-refusal_ends (refusals.Untyped class method at) is = absurd cc
-refusal_ends (refusals.Racy condition example) is = absurd cc
-refusal_ends (refusals.CellLimit first second count) is = absurd cc
-refusal_ends (refusals.Overflow class method what value) is = absurd cc
-refusal_ends (refusals.LongCertificate value) is = absurd cc
-refusal_ends (refusals.NotEnabled index) is = absurd cc
-refusal_ends refusals.Memory is = absurd cc
+-- ---- words
 
-pub ends_well : (answer : Answer) → status_of answer ≡ statuses.Done → EndsWell answer
-ends_well (answers.Accepted accepted) is = tt
-ends_well (answers.Denied fault label) is = absurd cc
-ends_well (answers.Shown text) is = tt
-ends_well answers.RaceFree is = tt
-ends_well (answers.Inlined accepted classes) is = tt
-ends_well (answers.Replayed text) is = tt
-ends_well (answers.Judged verdicts.Accepted) is = refl
-ends_well (answers.Judged (verdicts.StoppedAt index)) is = refl
-ends_well (answers.Judged (verdicts.Refused index)) is = absurd cc
-ends_well (answers.Input name fault) is = absurd cc
-ends_well (answers.Refused refusal) is = absurd (refusal_ends refusal is)
-ends_well (answers.Unread name) is = absurd cc
-ends_well (answers.Unwritten name) is = absurd cc
-ends_well answers.Usage is = absurd cc
-ends_well answers.Memory is = absurd cc
+-- The words of a command are those of no other.
+pub is_check : (words : List (List ℕ)) (command : NamedCommand) → IsCommand words command → (named : NamedCheck) → IsCheck words named → command ≡ Check named
+is_check words command is named spelled = command_once words command (Check named) is (record { spelled = spelled; full = is.full })
+
+pub is_replay : (words : List (List ℕ)) (command : NamedCommand) → IsCommand words command → (named : NamedReplay) → IsReplay words named → command ≡ Replay named
+is_replay words command is named spelled = command_once words command (Replay named) is (record { spelled = spelled; full = is.full })
+
+pub is_inline : (words : List (List ℕ)) (command : NamedCommand) → IsCommand words command → (named : NamedInline) → IsInline words named → command ≡ Inline named
+is_inline words command is named spelled = command_once words command (Inline named) is (record { spelled = spelled; full = is.full })
 
 -- A program that was checked runs as its certificate types it.
 pub checked_runs : (seen : Seen) (named : NamedCheck) → Holds seen named → CheckedRuns seen named
@@ -53,49 +40,59 @@ checked_runs seen named h = record {
   runs = h.checked.checked.runs;
 }
 
--- ---- the reply
+-- What is so of a refusal, unless memory ran out, is so.
+pub refused_so : (P : Step Answer → Type 0) (e : Ended) (refusal : Refusal) → e ≡ ends.Refused refusal → UnlessMemory P (Err e) → P (Err (ends.Refused refusal))
+refused_so P e refusal is told = by (subst (λ (x : Ended). UnlessMemory P (Err x)) is told) where
+  by : UnlessMemory P (Err (ends.Refused refusal)) → P (Err (ends.Refused refusal))
+  by (inl so) = so
+  by (inr memory) = absurd cc
 
-no_sink_fault : (refusal : Refusal) → refusal_status refusal ≡ statuses.SinkFault → ⊥
-no_sink_fault (refusals.TotalLong len) is = absurd cc
-no_sink_fault (refusals.Link fault) is = absurd cc
-no_sink_fault (refusals.Untyped class method at) is = absurd cc
-no_sink_fault (refusals.Racy condition example) is = absurd cc
-no_sink_fault (refusals.CellLimit first second count) is = absurd cc
-no_sink_fault (refusals.Overflow class method what value) is = absurd cc
-no_sink_fault (refusals.LongCertificate value) is = absurd cc
-no_sink_fault (refusals.NotEnabled index) is = absurd cc
-no_sink_fault refusals.Memory is = absurd cc
+-- ---- what was put into the sink
 
--- no answer has the status of a fault of the sink
-never_sink_fault : (answer : Answer) → status_of answer ≡ statuses.SinkFault → ⊥
-never_sink_fault (answers.Accepted accepted) is = absurd cc
-never_sink_fault (answers.Denied fault label) is = absurd cc
-never_sink_fault (answers.Shown text) is = absurd cc
-never_sink_fault answers.RaceFree is = absurd cc
-never_sink_fault (answers.Inlined accepted classes) is = absurd cc
-never_sink_fault (answers.Replayed text) is = absurd cc
-never_sink_fault (answers.Judged verdicts.Accepted) is = absurd cc
-never_sink_fault (answers.Judged (verdicts.StoppedAt index)) is = absurd cc
-never_sink_fault (answers.Judged (verdicts.Refused index)) is = absurd cc
-never_sink_fault (answers.Input name fault) is = absurd cc
-never_sink_fault (answers.Refused refusal) is = absurd (no_sink_fault refusal is)
-never_sink_fault (answers.Unread name) is = absurd cc
-never_sink_fault (answers.Unwritten name) is = absurd cc
-never_sink_fault answers.Usage is = absurd cc
-never_sink_fault answers.Memory is = absurd cc
+-- Without a fault of the sink, and unless memory ran out, it is the output, and the status is the one that it was to end with.
+pub puts_plain : (text after : Option (List ℕ)) (rose : Type 0) (printed : List ℕ) (status result : Status) → Puts text after rose printed status result → (rose → ⊥) → (result ≡ statuses.Memory → ⊥)
+    → (result ≡ status) × Appends text after printed
+puts_plain text after rose printed status result (inl is) quiet other = is
+puts_plain text after rose printed status result (inr (inl (same, risen, front))) quiet other = absurd (quiet risen)
+puts_plain text after rose printed status result (inr (inr (memory, same))) quiet other = absurd (other memory)
 
-module _ (seen : Seen) (words : List (List ℕ)) (text after : Option (List ℕ)) (rose : Type 0) (answer : Answer) (says : Says seen words answer)
-    (printed : Appends text after (answer_spelled answer)) where
-  answered : (status : Status) → status ≡ status_of answer → (status ≡ statuses.Memory → ⊥) → Answered seen words (λ answer. (status ≡ status_of answer) × Appends text after (answer_spelled answer))
-  answered status same other = record { answer = answer; made = λ is. other (same ∙ ap status_of is); says = says; so = (same, printed) }
+-- It ends well only where it was to.
+pub puts_no : (text after : Option (List ℕ)) (rose : Type 0) (printed : List ℕ) (status result : Status) → Puts text after rose printed status result → (status ≡ statuses.Done → ⊥) → result ≡ statuses.Done → ⊥
+puts_no text after rose printed status result (inl (is, appends)) never done = never (rw (← is) done)
+puts_no text after rose printed status result (inr (inl (same, risen, front))) never done =
+    let wrong : statuses.SinkFault ≡ statuses.Done = rw (← same) done in
+    absurd cc
+puts_no text after rose printed status result (inr (inr (memory, same))) never done =
+    let wrong : statuses.Memory ≡ statuses.Done = rw (← memory) done in
+    absurd cc
 
-  -- What is replied where the text of an answer that is not of memory was put into the sink.
-  pub replied : (status : Status) → status ≡ status_of answer → (status ≡ statuses.Memory → ⊥) → Replies seen words text after rose status
-  replied statuses.Done same other = answered statuses.Done same other
-  replied statuses.Denied same other = answered statuses.Denied same other
-  replied statuses.Usage same other = answered statuses.Usage same other
-  replied statuses.Input same other = answered statuses.Input same other
-  replied statuses.Overflow same other = answered statuses.Overflow same other
-  replied statuses.StoreFault same other = answered statuses.StoreFault same other
-  replied statuses.SinkFault same other = absurd (never_sink_fault answer (sym same))
-  replied statuses.Memory same other = absurd (other refl)
+module _ (seen : Seen) (words : List (List ℕ)) (text after : Option (List ℕ)) (rose : Type 0) where
+  -- ---- the usage line
+
+  pub usage_replied : NamesNone words → seen.new ≡ seen.old → (result : Status) → Puts text after rose usage_spelled statuses.Usage result → Replies seen words text after rose result
+  usage_replied none same result (inl (is, appends)) = subst (Replies seen words text after rose) (sym is) (none, same, appends)
+  usage_replied none same result (inr (inl (is, risen, front))) = subst (Replies seen words text after rose) (sym is) (risen, inl (none, same, front))
+  usage_replied none same result (inr (inr (memory, stays))) = subst (Replies seen words text after rose) (sym memory) stays
+
+  -- ---- an outcome
+
+  module _ (named : NamedCommand) (is : IsCommand words named) (outcome : Outcome) (carries : CarriesOut seen named (outcome_step outcome)) where
+    says : (So : Outcome → Type 0) → So outcome → Says seen words So
+    says So so = record { named = named; command = is; outcome = outcome; carries = carries; so = so }
+
+    plain : (status : Status) → IsOutcomeStatus status → status ≡ status_of outcome → Appends text after (outcome_spelled outcome) → Replies seen words text after rose status
+    plain statuses.Done kind same appends = says (λ o. (statuses.Done ≡ status_of o) × Appends text after (outcome_spelled o)) (same, appends)
+    plain statuses.Denied kind same appends = says (λ o. (statuses.Denied ≡ status_of o) × Appends text after (outcome_spelled o)) (same, appends)
+    plain statuses.Usage kind same appends = absurd kind
+    plain statuses.Input kind same appends = says (λ o. (statuses.Input ≡ status_of o) × Appends text after (outcome_spelled o)) (same, appends)
+    plain statuses.Overflow kind same appends = says (λ o. (statuses.Overflow ≡ status_of o) × Appends text after (outcome_spelled o)) (same, appends)
+    plain statuses.StoreFault kind same appends = says (λ o. (statuses.StoreFault ≡ status_of o) × Appends text after (outcome_spelled o)) (same, appends)
+    plain statuses.SinkFault kind same appends = absurd kind
+    plain statuses.Memory kind same appends = absurd kind
+
+    pub outcome_replied : (status : Status) → IsOutcomeStatus status → status ≡ status_of outcome → (result : Status) → Puts text after rose (outcome_spelled outcome) status result
+        → Replies seen words text after rose result
+    outcome_replied status kind same result (inl (is, appends)) = subst (Replies seen words text after rose) (sym is) (plain status kind same appends)
+    outcome_replied status kind same result (inr (inl (fault, risen, front))) =
+        subst (Replies seen words text after rose) (sym fault) (risen, inr (says (λ o. AppendsFront text after (outcome_spelled o)) front))
+    outcome_replied status kind same result (inr (inr (memory, stays))) = subst (Replies seen words text after rose) (sym memory) stays

@@ -1,6 +1,6 @@
 -- To files that are told, and are a listing, a record and class files of a program with types, `replay` answers what the run comes
--- to, or that memory ran out.
-use Rattle.std.proofs.Common.{◌≡◌, ◌⊎◌, inl, inr, ℕ, List, Result, Ok, Err, refl, sym, ap, subst, ◌∙◌}
+-- to, unless memory runs out.
+use Rattle.std.proofs.Common.{◌≡◌, inl, inr, ℕ, List, Result, Ok, Err, sym, ap, subst, ◌∙◌}
 use Rattle.std.specs.Prelude.{length}
 use Rattle.api_listing.specs.declared.types.Listing.{Listing}
 use Rattle.bytecode_model.specs.declared.program.Program.{Program}
@@ -17,21 +17,23 @@ use Rattle.input_files.specs.declared.files.Stop.{Stop}
 use Rattle.input_files.specs.declared.files.Stop.TheVariants as stops
 use Rattle.input_files.specs.declared.named.ReadClasses.{ReadClasses as Classes}
 use Rattle.input_files.specs.declared.replay_inputs.ReplayInputs.{ReplayInputs}
-use Rattle.input_files.specs.Forms.{Count, ReadsForm}
+use Rattle.input_files.specs.Forms.{Count, ReadsForm, Then, Yields}
 use Rattle.input_files.specs.Kinds.{listing_form, record_form}
 use Rattle.input_files.specs.Named.{ReadsClasses}
 use Rattle.input_files.specs.ReplayInputs.{ReadsReplay}
-use Rattle.inliner_tool.specs.declared.answer.Answer.{Answer}
-use Rattle.inliner_tool.specs.declared.answer.Answer.TheVariants as answers
+use Rattle.inliner_tool.specs.declared.answer.Made.{Made}
+use Rattle.inliner_tool.specs.declared.refusal.Ended.{Ended}
+use Rattle.inliner_tool.specs.declared.refusal.Ended.TheVariants as ends
 use Rattle.inliner_tool.specs.declared.refusal.Refusal.{Refusal}
 use Rattle.inliner_tool.specs.declared.refusal.Refusal.TheVariants as refusals
-use Rattle.inliner_tool.specs.Answers.{stopped}
 use Rattle.inliner_tool.specs.Decision.{IsDecision}
-use Rattle.inliner_tool.specs.Programs.{Step, Types, program_of}
-use Rattle.inliner_tool.specs.Replay.{Replays, Tells, replay_answer, run_told, steps_told}
+use Rattle.inliner_tool.specs.Programs.{Types, program_of}
+use Rattle.inliner_tool.specs.Replay.{Replays, Tells, run_told}
 use Rattle.inliner_tool.specs.ReplayDecision.{NamesRun, ReplayDecides}
-use Rattle.inliner_tool.specs.Tool.{CarriesOut, status_of}
-use Rattle.inliner_tool.proofs.Told.{may_read, says_of, stops_once, tree_once}
+use Rattle.inliner_tool.specs.Steps.{Outcome, Reading, Step, outcome_step, stopped}
+use Rattle.inliner_tool.specs.Tool.{answer_status, refusal_status, status_of}
+use Rattle.inliner_tool.proofs.Carrying.{quiet_so}
+use Rattle.inliner_tool.proofs.Told.{may_read, stops_once, tree_once}
 use Rattle.inliner_tool.proofs.ToldClasses.{classes_stop, may_classes, same_classes}
 use Rattle.type_infer.specs.Untyped.{IsTypable, IsUntypedAt}
 
@@ -43,28 +45,18 @@ typed_nowhere program class method at (typing, typed) untyped =
     untyped.fails (frames_in untyped.of.methods (frames_told typing class) method, λ i below. rw (untyped.class_there, untyped.method_there) at (typed class method i))
 
 -- The types of such a program are found.
-pub types_are_found : (program : Program) → IsTypable program → (e : Refusal) → Types program (Err e) → ⊥
-types_are_found program typable (refusals.Untyped label method at) told = typed_nowhere program told.0 method at typable told.2
-types_are_found program typable (refusals.TotalLong len) told = told
-types_are_found program typable (refusals.Link fault) told = told
-types_are_found program typable (refusals.Racy condition example) told = told
-types_are_found program typable (refusals.CellLimit first second count) told = told
-types_are_found program typable (refusals.Overflow class method what value) told = told
-types_are_found program typable (refusals.LongCertificate value) told = told
-types_are_found program typable (refusals.NotEnabled index) told = told
-types_are_found program typable refusals.Memory told = told
+pub types_are_found : (program : Program) → IsTypable program → (e : Ended) → Types program (Err e) → ⊥
+types_are_found program typable e (class, method, at, is, untyped) = typed_nowhere program class method at typable untyped
 
 -- ---- what is told
 
 module _ (files : Files) (count : Count) (named : NamedReplay) (quiet : Rose count.before count.now → ⊥) (names : NamesRun files named) where
-  run_decides : (program : Program) (n : ℕ) (result : Result Replayed ReplayFault) → IsDecision (status_of (replay_answer (run_told program n result)))
-  run_decides program n (Ok run) = inl refl
-  run_decides program n (Err (faults.NotEnabled index)) = inr (inl refl)
-  run_decides program n (Err faults.Memory) = inr (inr refl)
-
-  steps_decide : (program : Program) (inputs : ReplayInputs) (told : Step (List ℕ)) → told ≡ steps_told program inputs.recorded.steps → IsDecision (status_of (replay_answer told))
-  steps_decide program inputs told is =
-      subst (λ (t : Step (List ℕ)). IsDecision (status_of (replay_answer t))) (sym is) (run_decides program (length inputs.recorded.steps) (replayed program inputs.recorded.steps))
+  run_decides : (program : Program) (n : ℕ) (result : Result Replayed ReplayFault) (refusal : Refusal) → Err (ends.Refused refusal) ≡ run_told program n result → IsDecision (refusal_status refusal)
+  run_decides program n (Ok run) refusal is = absurd cc
+  run_decides program n (Err (faults.NotEnabled index)) refusal is =
+      let same : refusal ≡ refusals.NotEnabled index = cc in
+      inr (ap refusal_status same)
+  run_decides program n (Err faults.Memory) refusal is = absurd cc
 
   -- the inputs are those that the files are
   same_listing : (listing : Listing) → ReadsForm files count named.listing listing_form (Ok listing) → listing ≡ names.listing
@@ -77,17 +69,17 @@ module _ (files : Files) (count : Count) (named : NamedReplay) (quiet : Rose cou
       same_classes files count names.told quiet named.classes classes names.classes read (may_classes files named.classes names.classes.files names.classes.total names.classes_read) in
       rw (same, is) names.links
 
-  told_decides : (inputs : ReplayInputs) (told : Step (List ℕ)) → program_of inputs.listing inputs.classes named.main Inlined ≡ Ok names.program → Tells named.main inputs told
-      → IsDecision (status_of (replay_answer told))
-  told_decides inputs (Ok text) links (program, first, (typing, typed, is)) = steps_decide program inputs (Ok text) is
-  told_decides inputs (Err e) links (inl first) =
-      let wrong : ◌≡◌ {A = Step Program} (Err e) (Ok names.program) = first ∙ links in
+  told_decides : (inputs : ReplayInputs) (refusal : Refusal) → program_of inputs.listing inputs.classes named.main Inlined ≡ Ok names.program → Tells named.main inputs (Err (ends.Refused refusal))
+      → IsDecision (refusal_status refusal)
+  told_decides inputs refusal links (inl first) =
+      let wrong : ◌≡◌ {A = Step Program} (Err (ends.Refused refusal)) (Ok names.program) = first ∙ links in
       absurd cc
-  told_decides inputs (Err e) links (inr (program, first, inl untyped)) =
+  told_decides inputs refusal links (inr (program, first, inl untyped)) =
       let right : ◌≡◌ {A = Step Program} (Ok program) (Ok names.program) = first ∙ links in
       let same : program ≡ names.program = cc in
-      absurd (types_are_found program (subst IsTypable (sym same) names.typable) e untyped)
-  told_decides inputs (Err e) links (inr (program, first, inr (typing, typed, is))) = steps_decide program inputs (Err e) is
+      absurd (types_are_found program (subst IsTypable (sym same) names.typable) (ends.Refused refusal) untyped)
+  told_decides inputs refusal links (inr (program, first, inr (typing, typed, is))) =
+      run_decides program (length inputs.recorded.steps) (replayed program inputs.recorded.steps) refusal is
 
   read_links : (inputs : ReplayInputs) → ReadsReplay files count named (Ok inputs) → program_of inputs.listing inputs.classes named.main Inlined ≡ Ok names.program
   read_links inputs (listing, first, (recorded, second, (classes, third, is))) =
@@ -107,15 +99,14 @@ module _ (files : Files) (count : Count) (named : NamedReplay) (quiet : Rose cou
       classes_stop files count names.told quiet named.classes names.classes.files names.classes.total stop (may_classes files named.classes names.classes.files names.classes.total names.classes_read) third
   run_stops stop (inr (listing, first, inr (recorded, second, inr (classes, third, none)))) = absurd none
 
-  replays_decide : (new : Files) (answer : Answer) → Replays (record { old = files; new = new; count = count }) named answer → IsDecision (status_of answer)
-  replays_decide new answer (inl (stop, read, is)) =
-      let memory : answer ≡ answers.Memory = is ∙ ap stopped (run_stops stop read) in
-      subst (λ (a : Answer). IsDecision (status_of a)) (sym memory) (inr (inr refl))
-  replays_decide new answer (inr (inputs, read, told, tells, is)) =
-      subst (λ (a : Answer). IsDecision (status_of a)) (sym is) (told_decides inputs told (read_links inputs read) tells)
+  replays_decide : (outcome : Outcome) → Then (Then (Reading (ReadsReplay files count named)) (Replays named.main)) (λ made. Yields made.answer) (outcome_step outcome) → IsDecision (status_of outcome)
+  replays_decide (Ok answer) (made, (inputs, read, (text, tells, same)), is) = inl (ap answer_status (is ∙ ap (λ (m : Made). m.answer) same))
+  replays_decide (Err refusal) (inl (inl (stop, read, is))) =
+      let wrong : ends.Refused refusal ≡ ends.Memory = is ∙ ap stopped (run_stops stop read) in
+      absurd cc
+  replays_decide (Err refusal) (inl (inr (inputs, read, inl tells))) = told_decides inputs refusal (read_links inputs read) tells
+  replays_decide (Err refusal) (inl (inr (inputs, read, inr (text, tells, none)))) = absurd none
+  replays_decide (Err refusal) (inr (made, makes, none)) = absurd none
 
 pub replay_decides : ReplayDecides
-replay_decides seen named answer is quiet names = by (says_of (CarriesOut seen (Replay named)) answer is) where
-  by : (Replays seen named answer × (seen.new ≡ seen.old)) ⊎ (answer ≡ answers.Memory) → IsDecision (status_of answer)
-  by (inl says) = replays_decide seen.old seen.count named quiet names seen.new answer says.0
-  by (inr memory) = subst (λ (a : Answer). IsDecision (status_of a)) (sym memory) (inr (inr refl))
+replay_decides seen named outcome carries quiet names = replays_decide seen.old seen.count named quiet names outcome (quiet_so seen (Replay named) quiet (outcome_step outcome) carries)

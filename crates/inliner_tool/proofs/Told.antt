@@ -1,4 +1,4 @@
--- What is read of files that the store tells, without a fault, and what an answer of its case is.
+-- What is read of files that the store tells, without a fault.
 use Rattle.std.proofs.Common.{◌≡◌, ◌⊎◌, inl, inr, ℕ, List, length, ◌≤◌, Option, Some, None, Result, Ok, Err, refl, sym, ap, subst, ◌∙◌, arith, ⊎_elim}
 use Rattle.std.specs.Prelude.{IsSome, IsSomeAnd}
 use Rattle.mon_store.specs.Store.{Files, HasFile, Lacks, Rose}
@@ -7,9 +7,6 @@ use Rattle.input_files.specs.declared.files.Stop.{Stop}
 use Rattle.input_files.specs.declared.files.Stop.TheVariants as stops
 use Rattle.input_files.specs.declared.fault.InputFault.TheVariants as faults
 use Rattle.input_files.specs.Forms.{Count, Form, HasText, IsNoMemory, IsRead, IsRefused, IsTooLong, IsUnread, ReadsForm}
-use Rattle.inliner_tool.specs.declared.answer.Answer.{Answer}
-use Rattle.inliner_tool.specs.declared.answer.Answer.TheVariants as answers
-use Rattle.inliner_tool.specs.Tool.{IsAnswer}
 
 -- ---- a file that is told and read
 
@@ -86,21 +83,3 @@ module _ {A : Type 0} (files : Files) (count : Count) (name : List ℕ) (form : 
   stops_once (stops.Input bad fault) is = absurd (not_refused fault is.2 is.1)
   stops_once (stops.Unread bad) is = absurd (not_unread is.1)
   stops_once stops.Memory is = refl
-
--- ---- answers
-
--- An answer of its case is so, or memory ran out.
-pub says_of : (P : Answer → Type 0) (answer : Answer) → IsAnswer P answer → P answer ⊎ (answer ≡ answers.Memory)
-says_of P (answers.Accepted accepted) is = inl is
-says_of P (answers.Denied fault label) is = inl is
-says_of P (answers.Shown text) is = inl is
-says_of P (answers.Judged verdict) is = inl is
-says_of P answers.RaceFree is = inl is
-says_of P (answers.Inlined accepted classes) is = inl is
-says_of P (answers.Replayed text) is = inl is
-says_of P (answers.Input name fault) is = inl is
-says_of P (answers.Refused refusal) is = inl is
-says_of P (answers.Unread name) is = inl is
-says_of P (answers.Unwritten name) is = inl is
-says_of P answers.Usage is = absurd is
-says_of P answers.Memory is = inr refl

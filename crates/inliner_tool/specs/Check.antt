@@ -18,17 +18,20 @@ use Rattle.cert_format.specs.declared.certificate.Mode.TheVariants.{Hold}
 use Rattle.conspec_automaton.specs.declared.policy.Policy.{Policy}
 use Rattle.conspec_automaton.specs.Building.{built}
 use Rattle.conspec_tree.specs.declared.types.PolicyTree.{PolicyTree}
-use Rattle.inliner_tool.specs.declared.answer.Answer.{Answer}
 use Rattle.inliner_tool.specs.declared.answer.Answer.TheVariants as answers
+use Rattle.inliner_tool.specs.declared.answer.Made.{Made}
+use Rattle.inliner_tool.specs.declared.refusal.Ended.{Ended}
+use Rattle.inliner_tool.specs.declared.refusal.Ended.TheVariants as ends
+use Rattle.input_files.specs.Forms.{Then}
 use Rattle.input_files.specs.declared.check_inputs.CheckInputs.{CheckInputs}
 use Rattle.input_files.specs.Named.{IsPolicyOf}
 use Rattle.inliner_tool.specs.declared.check.Checked.{Checked}
 use Rattle.inliner_tool.specs.declared.refusal.Refusal.TheVariants as refusals
-use Rattle.inliner_tool.specs.Answers.{refused}
 use Rattle.inliner_tool.specs.Classes.{label_of}
-use Rattle.inliner_tool.specs.Programs.{Step, program_of}
+use Rattle.inliner_tool.specs.Programs.{program_of}
 use Rattle.inliner_tool.specs.Race.{racy}
 use Rattle.inliner_tool.specs.Running.{RunsTyped}
+use Rattle.inliner_tool.specs.Steps.{Equals, Just, Step}
 
 -- the number of the class that a fault is told of, if it is of one
 abbrev pub faulty_class : CheckFault → Option ℕ
@@ -40,29 +43,34 @@ faulty_class (Local class method at rule) = Some class
 abbrev pub label_for : Program → CheckFault → List ℕ
 label_for program fault = option_map_or (λ (class : ℕ). label_of program class) (faulty_class fault) (codes "-")
 
--- with the name of the class that a fault is told of; of races, with what shows them
-abbrev pub denied_answer : PolicyTree → Program → Denial → Answer
-denied_answer policy program (denials.Fault fault) = answers.Denied fault (label_for program fault)
-denied_answer policy program (denials.CellLimit first second count) = answers.Refused (refusals.CellLimit first second count)
-denied_answer policy program (denials.Racy condition state first second) = answers.Refused (racy policy program.listing condition state first second)
-denied_answer policy program denials.Memory = answers.Memory
+-- why a program is not accepted: with the name of the class that a fault is told of; of races, with what shows them
+abbrev pub denied : PolicyTree → Program → Denial → Ended
+denied policy program (denials.Fault fault) = ends.Refused (refusals.Denied fault (label_for program fault))
+denied policy program (denials.CellLimit first second count) = ends.Refused (refusals.CellLimit first second count)
+denied policy program (denials.Racy condition state first second) = ends.Refused (racy policy program.listing condition state first second)
+denied policy program denials.Memory = ends.Memory
 
-abbrev pub verdict_answer : PolicyTree → Program → Result Accepted Denial → Answer
-verdict_answer policy program (Ok accepted) = answers.Accepted accepted
-verdict_answer policy program (Err denial) = denied_answer policy program denial
+abbrev pub verdict_step : PolicyTree → Program → Result Accepted Denial → Step Accepted
+verdict_step policy program (Ok accepted) = Ok accepted
+verdict_step policy program (Err denial) = Err (denied policy program denial)
 
-abbrev pub program_answer : PolicyTree → Certificate → Program → Answer
-program_answer policy certificate program = verdict_answer policy program (judged program (built policy) certificate)
+-- what the program is accepted as with the certificate, or why it is not
+abbrev pub judged_step : PolicyTree → Certificate → Program → Step Accepted
+judged_step policy certificate program = verdict_step policy program (judged program (built policy) certificate)
 
-abbrev pub linked_answer : PolicyTree → Certificate → Step Program → Answer
-linked_answer policy certificate (Ok program) = program_answer policy certificate program
-linked_answer policy certificate (Err refusal) = refused refusal
+-- This links to a program that is accepted with the certificate.
+abbrev pub ChecksLinked : PolicyTree → Certificate → Step Program → Step Made → Type 0
+ChecksLinked policy certificate linked =
+    Then (Equals linked) (λ program.
+    Then (Equals (judged_step policy certificate program)) (λ accepted.
+    Just (answers.Accepted accepted)))
 
 abbrev pub link_inputs : List ℕ → CheckInputs → Step Program
 link_inputs main inputs = program_of inputs.listing inputs.classes main Inlined
 
-abbrev pub check_answer : List ℕ → CheckInputs → Answer
-check_answer main inputs = linked_answer inputs.policy inputs.certificate (link_inputs main inputs)
+-- The class files link to a program that is accepted with the certificate.
+abbrev pub Checks : List ℕ → CheckInputs → Step Made → Type 0
+Checks main inputs = ChecksLinked inputs.policy inputs.certificate (link_inputs main inputs)
 
 -- The program is accepted with the certificate, and obeys the policy for every list of guest steps, as its mode promises; in mode
 -- hold each event with a clause is of the thread that holds the lock; an error that a Java machine throws in a block leads out of
@@ -75,10 +83,10 @@ pub record ProgramIsChecked (policy : PolicyTree) (certificate : Certificate) (p
   pub read : IsPolicyOf program.listing policy
   pub runs : RunsTyped program certificate.typing
 
--- It is checked so with the automaton of the policy, and the answer is that it was accepted as this.
+-- It is checked so with the automaton of the policy, and was accepted as this.
 pub record ProgramIsCheckedAs (tree : PolicyTree) (certificate : Certificate) (program : Program) (policy : Policy) (accepted : Accepted) : Type 0 where
   pub policy_is : policy ≡ built tree
-  pub answer : program_answer tree certificate program ≡ answers.Accepted accepted
+  pub accepts : judged_step tree certificate program ≡ Ok accepted
   pub checked : ProgramIsChecked tree certificate program
 
 -- The inputs link to the program, which is checked so.

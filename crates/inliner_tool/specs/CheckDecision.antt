@@ -1,4 +1,4 @@
--- That `check` decides: of files in their grammars and limits that link it answers yes or no, or memory runs out. (docs/COMMANDS.md)
+-- That `check` decides: of files in their grammars and limits that link it answers yes or no, unless memory runs out. (docs/COMMANDS.md)
 use Rattle.std.specs.Prelude.{◌≡◌, length, Ok, IsSome}
 use Rattle.api_listing.specs.declared.types.Listing.{Listing}
 use Rattle.bytecode_model.specs.declared.program.Program.{Program}
@@ -11,11 +11,12 @@ use Rattle.input_files.specs.declared.named.ReadClasses.{ReadClasses as Classes}
 use Rattle.input_files.specs.Forms.{IsRead}
 use Rattle.input_files.specs.Kinds.{certificate_form, listing_form, policy_form}
 use Rattle.input_files.specs.Named.{AreClasses}
-use Rattle.inliner_tool.specs.declared.answer.Answer.{Answer}
 use Rattle.inliner_tool.specs.Decision.{IsDecision}
 use Rattle.inliner_tool.specs.Programs.{program_of}
 use Rattle.inliner_tool.specs.Seen.{Seen}
-use Rattle.inliner_tool.specs.Tool.{CarriesOut, IsAnswer, status_of}
+use Rattle.inliner_tool.specs.Steps.{Outcome, outcome_step}
+use Rattle.inliner_tool.specs.Tool.{status_of}
+use Rattle.inliner_tool.specs.Writing.{CarriesOut}
 
 -- The files are told, and those of these names are a listing, a policy over it, a certificate for its variables and class files, in
 -- their grammars and limits; and the class files link.
@@ -32,9 +33,8 @@ pub record NamesChecked (files : Files) (named : NamedCheck) : Type 0 where
   pub program : Program
   pub links : program_of listing classes named.main Inlined ≡ Ok program
 
--- What `check` answers to such files, without a fault of the store, is a decision.
+-- What `check` comes to over such files, without a fault of the store, is a decision.
 abbrev pub CheckDecides : Type 0
 CheckDecides =
-    (seen : Seen) (named : NamedCheck) (answer : Answer)
-    → IsAnswer (λ answer. CarriesOut seen (Check named) answer) answer
-    → (Rose seen.count.before seen.count.now → ⊥) → NamesChecked seen.old named → IsDecision (status_of answer)
+    (seen : Seen) (named : NamedCheck) (outcome : Outcome) → CarriesOut seen (Check named) (outcome_step outcome)
+    → (Rose seen.count.before seen.count.now → ⊥) → NamesChecked seen.old named → IsDecision (status_of outcome)

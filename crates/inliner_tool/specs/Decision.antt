@@ -1,4 +1,4 @@
--- That `race` decides: to a listing and a policy in their grammars and limits it answers yes or no, or memory runs out.
+-- That `race` decides: to a listing and a policy in their grammars and limits it answers yes or no, unless memory runs out.
 -- (docs/COMMANDS.md)
 use Rattle.std.specs.Prelude.{◌≡◌, ◌⊎◌, Ok, IsSome}
 use Rattle.api_listing.specs.declared.types.Listing.{Listing}
@@ -7,11 +7,12 @@ use Rattle.mon_store.specs.Store.{Files, Rose}
 use Rattle.command_words.specs.Words.{NamedRace, Race}
 use Rattle.input_files.specs.Forms.{IsRead}
 use Rattle.input_files.specs.Kinds.{listing_form, policy_form}
-use Rattle.inliner_tool.specs.declared.answer.Answer.{Answer}
 use Rattle.inliner_tool.specs.declared.tool.Status.{Status}
 use Rattle.inliner_tool.specs.declared.tool.Status.TheVariants as statuses
 use Rattle.inliner_tool.specs.Seen.{Seen}
-use Rattle.inliner_tool.specs.Tool.{CarriesOut, IsAnswer, status_of}
+use Rattle.inliner_tool.specs.Steps.{Outcome, outcome_step}
+use Rattle.inliner_tool.specs.Tool.{status_of}
+use Rattle.inliner_tool.specs.Writing.{CarriesOut}
 
 -- The files are told, and those of these names are a listing and a policy over it, in their grammars and limits.
 pub record NamesPolicy (files : Files) (named : NamedRace) : Type 0 where
@@ -21,13 +22,12 @@ pub record NamesPolicy (files : Files) (named : NamedRace) : Type 0 where
   pub policy : PolicyTree
   pub policy_read : IsRead files named.policy (policy_form listing) (Ok policy)
 
--- 0, 1 or 7: yes, no, or no memory.
+-- 0 or 1: yes or no.
 abbrev pub IsDecision : Status → Type 0
-IsDecision status = (status ≡ statuses.Done) ⊎ ((status ≡ statuses.Denied) ⊎ (status ≡ statuses.Memory))
+IsDecision status = (status ≡ statuses.Done) ⊎ (status ≡ statuses.Denied)
 
--- What `race` answers to such files, without a fault of the store, is a decision.
+-- What `race` comes to over such files, without a fault of the store, is a decision.
 abbrev pub RaceDecides : Type 0
 RaceDecides =
-    (seen : Seen) (named : NamedRace) (answer : Answer)
-    → IsAnswer (λ answer. CarriesOut seen (Race named) answer) answer
-    → (Rose seen.count.before seen.count.now → ⊥) → NamesPolicy seen.old named → IsDecision (status_of answer)
+    (seen : Seen) (named : NamedRace) (outcome : Outcome) → CarriesOut seen (Race named) (outcome_step outcome)
+    → (Rose seen.count.before seen.count.now → ⊥) → NamesPolicy seen.old named → IsDecision (status_of outcome)

@@ -1,9 +1,10 @@
 -- That `inline` weaves: of files in their grammars and limits that link to a program with types, a policy that is woven in this mode,
--- and sizes that fit, everything is written, or the certificate is too long, or memory runs out. (docs/COMMANDS.md)
-use Rattle.std.specs.Prelude.{◌≡◌, Ok, IsSome}
+-- and sizes that fit, everything is written, or the certificate is too long, unless memory runs out. (docs/COMMANDS.md)
+use Rattle.std.specs.Prelude.{◌≡◌, ℕ, Ok, Err, IsSome}
 use Rattle.api_listing.specs.declared.types.Listing.{Listing}
 use Rattle.bytecode_model.specs.declared.program.Program.{Program}
 use Rattle.block_template.specs.Blocks.{plan_of}
+use Rattle.cert_checker.specs.declared.checking.Accepted.{Accepted}
 use Rattle.cert_format.specs.declared.certificate.Mode.{Mode}
 use Rattle.class_weaving.specs.declared.woven.Woven.{Woven}
 use Rattle.class_weaving.specs.Woven.{woven}
@@ -17,11 +18,11 @@ use Rattle.input_files.specs.Forms.{IsRead}
 use Rattle.input_files.specs.Kinds.{listing_form, policy_form}
 use Rattle.input_files.specs.Named.{AreClasses}
 use Rattle.type_infer.specs.Untyped.{IsTypable}
-use Rattle.inliner_tool.specs.declared.answer.Answer.{Answer}
 use Rattle.inliner_tool.specs.declared.answer.Answer.TheVariants as answers
 use Rattle.inliner_tool.specs.declared.refusal.Refusal.TheVariants as refusals
 use Rattle.inliner_tool.specs.Seen.{Seen}
-use Rattle.inliner_tool.specs.Tool.{CarriesOut, IsAnswer}
+use Rattle.inliner_tool.specs.Steps.{Outcome, outcome_step}
+use Rattle.inliner_tool.specs.Writing.{CarriesOut}
 use Rattle.inliner_tool.specs.Weaving.{mode_for, original}
 
 -- The files are told, and those of these names are a listing, a policy over it and class files, in their grammars and limits; the
@@ -42,16 +43,13 @@ pub record NamesWoven (files : Files) (named : NamedInline) : Type 0 where
   pub made : Woven
   pub fits : woven client (plan_of (built policy) mode) (built policy).vars ≡ Ok made
 
--- Everything is written, a certificate is too long, or memory ran out: the statuses 0, 4 and 7.
-abbrev pub IsWeaving : Answer → Type 0
-IsWeaving (answers.Inlined accepted classes) = Unit {0}
-IsWeaving (answers.Refused (refusals.LongCertificate value)) = Unit {0}
-IsWeaving answers.Memory = Unit {0}
-IsWeaving other = ⊥
+-- Everything is written, or a certificate is too long: the statuses 0 and 4.
+abbrev pub IsWeaving : Outcome → Type 0
+IsWeaving (Ok answer) = (accepted : Accepted) × (classes : ℕ) × (answer ≡ answers.Inlined accepted classes)
+IsWeaving (Err refusal) = (value : ℕ) × (refusal ≡ refusals.LongCertificate value)
 
--- What `inline` answers to such files, without a fault of the store, is such an answer.
+-- What `inline` comes to over such files, without a fault of the store, is such an outcome.
 abbrev pub InlineDecides : Type 0
 InlineDecides =
-    (seen : Seen) (named : NamedInline) (answer : Answer)
-    → IsAnswer (λ answer. CarriesOut seen (Inline named) answer) answer
-    → (Rose seen.count.before seen.count.now → ⊥) → NamesWoven seen.old named → IsWeaving answer
+    (seen : Seen) (named : NamedInline) (outcome : Outcome) → CarriesOut seen (Inline named) (outcome_step outcome)
+    → (Rose seen.count.before seen.count.now → ⊥) → NamesWoven seen.old named → IsWeaving outcome

@@ -1,4 +1,4 @@
-pub mod Answers
+pub mod Steps
 pub mod Seen
 pub mod Classes
 pub mod Running
@@ -15,6 +15,8 @@ pub mod Expected
 pub mod Inline
 pub mod Replay
 pub mod Headline
+pub mod Commands
+pub mod Writing
 pub mod Tool
 pub mod Decides
 pub mod Decision

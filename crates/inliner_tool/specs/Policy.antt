@@ -6,13 +6,15 @@ use Rattle.conspec_automaton.specs.declared.policy.Policy.{Policy}
 use Rattle.conspec_automaton.specs.Building.{built}
 use Rattle.conspec_automaton.specs.Sound.{IsPolicy, NamesMethods}
 use Rattle.conspec_automaton.specs.Verdict.{verdict as judged}
-use Rattle.inliner_tool.specs.declared.answer.Answer.{Answer}
 use Rattle.inliner_tool.specs.declared.answer.Answer.TheVariants as answers
+use Rattle.inliner_tool.specs.declared.answer.Made.{Made}
+use Rattle.inliner_tool.specs.Steps.{Just, Step}
 use Rattle.input_files.specs.declared.policy_inputs.PolicyInputs.{PolicyInputs}
 use Rattle.typed_runs.specs.Formed.{TellsTypes}
 
-abbrev pub policy_answer : PolicyInputs → Answer
-policy_answer inputs = answers.Judged (judged (built inputs.policy) inputs.recorded.events)
+-- The events of the run are judged.
+abbrev pub Judges : PolicyInputs → Step Made → Type 0
+Judges inputs = Just (answers.Judged (judged (built inputs.policy) inputs.recorded.events))
 
 -- What is known of a policy that was read over a listing.
 pub record IsSoundFor (listing : Listing) (policy : Policy) : Type 0 where

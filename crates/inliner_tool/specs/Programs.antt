@@ -1,5 +1,5 @@
 -- The program that class files link to, and its types; or the first thing for which a command ends there. (docs/COMMANDS.md)
-use Rattle.std.specs.Prelude.{◌≡◌, ◌⊎◌, ℕ, nat_lt, List, if◌then◌else◌, Result, Ok, Err}
+use Rattle.std.specs.Prelude.{◌≡◌, ℕ, nat_lt, List, if◌then◌else◌, Ok, Err}
 use Rattle.api_listing.specs.declared.types.Listing.{Listing}
 use Rattle.bytecode_model.specs.declared.program.Program.{Program}
 use Rattle.bytecode_model.specs.declared.program.Side.{Side}
@@ -12,39 +12,27 @@ use Rattle.class_linking.specs.Fault.{Linked}
 use Rattle.class_linking.specs.Linking.{assembled, linked}
 use Rattle.class_codec.specs.declared.tree.ClassFile.{ClassFile}
 use Rattle.input_files.specs.declared.named.ReadClasses.{ReadClasses as Classes}
-use Rattle.inliner_tool.specs.declared.refusal.Refusal.{Refusal}
+use Rattle.inliner_tool.specs.declared.refusal.Ended.{Ended}
+use Rattle.inliner_tool.specs.declared.refusal.Ended.TheVariants as ends
 use Rattle.inliner_tool.specs.declared.refusal.Refusal.TheVariants as refusals
 use Rattle.inliner_tool.specs.Classes.{label_of}
+use Rattle.inliner_tool.specs.Steps.{Step}
 use Rattle.type_infer.specs.Untyped.{IsLeast, IsUntypedAt}
-
--- ---- steps
-
--- a step's value, or why the command ends there
-abbrev pub Step : Type 0 → Type 0
-Step A = Result A Refusal
-
--- It is what this definition gives.
-abbrev pub Equals : {A : Type 0} → Step A → Step A → Type 0
-Equals wanted result = result ≡ wanted
-
--- It is so, or memory ran out.
-abbrev pub UnlessMemory : {A : Type 0} → (Step A → Type 0) → Step A → Type 0
-UnlessMemory Says (Ok value) = Says (Ok value)
-UnlessMemory Says (Err refusal) = Says (Err refusal) ⊎ (refusal ≡ refusals.Memory)
 
 -- ---- programs
 
-abbrev pub link_refusal : LinkFault → Refusal
-link_refusal links.Memory = refusals.Memory
-link_refusal fault = refusals.Link fault
+-- why files do not link
+abbrev pub link_end : LinkFault → Ended
+link_end links.Memory = ends.Memory
+link_end fault = ends.Refused (refusals.Link fault)
 
 abbrev pub link_step : Linked Program → Step Program
 link_step (Ok program) = Ok program
-link_step (Err fault) = Err (link_refusal fault)
+link_step (Err fault) = Err (link_end fault)
 
 -- what a step gives, where the class files have at most 16 MiB in all
 abbrev pub within_total : {A : Type 0} → Classes → Step A → Step A
-within_total classes step = if nat_lt 16777216 classes.total then Err (refusals.TotalLong classes.total) else step
+within_total classes step = if nat_lt 16777216 classes.total then Err (ends.Refused (refusals.TotalLong classes.total)) else step
 
 -- The class files are not too long in all, and link on this side.
 abbrev pub program_of : Listing → Classes → List ℕ → Side → Step Program
@@ -63,5 +51,4 @@ pub record AreTypes (program : Program) (typing : Typing) : Type 0 where
 -- without types.
 abbrev pub Types : Program → Step Typing → Type 0
 Types program (Ok typing) = AreTypes program typing
-Types program (Err (refusals.Untyped label method at)) = (class : ℕ) × (label ≡ label_of program class) × IsUntypedAt program class method at
-Types program (Err other) = ⊥
+Types program (Err ended) = (class : ℕ) × (method : ℕ) × (at : ℕ) × (ended ≡ ends.Refused (refusals.Untyped (label_of program class) method at)) × IsUntypedAt program class method at

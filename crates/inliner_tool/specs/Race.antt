@@ -5,13 +5,15 @@ use Rattle.api_listing.specs.declared.types.Listing.{Listing}
 use Rattle.conspec_automaton.specs.declared.state.State.{State}
 use Rattle.conspec_automaton.specs.Building.{built}
 use Rattle.conspec_tree.specs.declared.types.PolicyTree.{PolicyTree}
+use Rattle.input_files.specs.Forms.{Then}
 use Rattle.input_files.specs.declared.race_inputs.RaceInputs.{RaceInputs}
-use Rattle.inliner_tool.specs.declared.answer.Answer.{Answer}
 use Rattle.inliner_tool.specs.declared.answer.Answer.TheVariants as answers
+use Rattle.inliner_tool.specs.declared.answer.Made.{Made}
+use Rattle.inliner_tool.specs.declared.refusal.Ended.{Ended}
+use Rattle.inliner_tool.specs.declared.refusal.Ended.TheVariants as ends
 use Rattle.inliner_tool.specs.declared.refusal.Refusal.{Refusal}
 use Rattle.inliner_tool.specs.declared.refusal.Refusal.TheVariants as refusals
-use Rattle.inliner_tool.specs.Answers.{refused}
-use Rattle.inliner_tool.specs.Programs.{Step}
+use Rattle.inliner_tool.specs.Steps.{Equals, Just, Step}
 use Rattle.race_example.specs.Example.{example_text}
 use Rattle.race_free_check.specs.declared.fault.RaceFault.{RaceFault}
 use Rattle.race_free_check.specs.declared.fault.RaceFault.TheVariants as faults
@@ -24,20 +26,18 @@ abbrev pub racy : PolicyTree → Listing → ℕ → State → Event → Option 
 racy policy listing condition state first second = refusals.Racy condition (example_text policy listing state first second)
 
 -- why it is not decided
-abbrev pub undecided : RaceFault → Refusal
-undecided (faults.CellLimit first second count) = refusals.CellLimit first second count
-undecided faults.Memory = refusals.Memory
+abbrev pub undecided : RaceFault → Ended
+undecided (faults.CellLimit first second count) = ends.Refused (refusals.CellLimit first second count)
+undecided faults.Memory = ends.Memory
 
 -- that the policy is race-free, or why it is denied
 abbrev pub race_step : PolicyTree → Listing → Result RaceVerdict RaceFault → Step (Unit {0})
 race_step policy listing (Ok verdicts.Free) = Ok tt
-race_step policy listing (Ok (verdicts.Racy condition state first second)) = Err (racy policy listing condition state first second)
+race_step policy listing (Ok (verdicts.Racy condition state first second)) = Err (ends.Refused (racy policy listing condition state first second))
 race_step policy listing (Err fault) = Err (undecided fault)
 
-abbrev pub free_answer : Step (Unit {0}) → Answer
-free_answer (Ok free) = answers.RaceFree
-free_answer (Err refusal) = refused refusal
-
--- what is decided of the policy
-abbrev pub race_answer : RaceInputs → Answer
-race_answer inputs = free_answer (race_step inputs.policy inputs.listing (decided (built inputs.policy)))
+-- The policy is race-free.
+abbrev pub Races : RaceInputs → Step Made → Type 0
+Races inputs =
+    Then (Equals (race_step inputs.policy inputs.listing (decided (built inputs.policy)))) (λ free.
+    Just answers.RaceFree)

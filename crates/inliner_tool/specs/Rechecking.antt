@@ -1,5 +1,5 @@
 -- That `check` accepts what `inline` wrote. (docs/COMMANDS.md)
-use Rattle.std.specs.Prelude.{◌≡◌, ◌⊎◌, ◌≤◌, ℕ, ◌+◌, List, [], ◌∷◌, length, map, Ok, IsSome}
+use Rattle.std.specs.Prelude.{◌≡◌, ◌≤◌, ℕ, ◌+◌, List, [], ◌∷◌, length, map, Ok, IsSome}
 use Rattle.std.specs.List.{AllByRecursion}
 use Rattle.bytecode_model.specs.declared.program.LinkedClass.{LinkedClass}
 use Rattle.bytecode_model.specs.Files.{max_files}
@@ -10,11 +10,12 @@ use Rattle.mon_store.specs.Store.{Rose}
 use Rattle.input_files.specs.Forms.{IsRead}
 use Rattle.input_files.specs.Kinds.{listing_form, policy_form}
 use Rattle.output_files.specs.Outputs.{certificate_name, class_name}
-use Rattle.inliner_tool.specs.declared.answer.Answer.{Answer}
 use Rattle.inliner_tool.specs.declared.tool.Status.TheVariants as statuses
 use Rattle.inliner_tool.specs.Inline.{IsInlined}
 use Rattle.inliner_tool.specs.Seen.{Seen}
-use Rattle.inliner_tool.specs.Tool.{CarriesOut, IsAnswer, status_of}
+use Rattle.inliner_tool.specs.Steps.{Outcome, outcome_step}
+use Rattle.inliner_tool.specs.Tool.{status_of}
+use Rattle.inliner_tool.specs.Writing.{CarriesOut}
 
 -- how many bytes a class file has
 abbrev pub size_of : LinkedClass → ℕ
@@ -36,10 +37,10 @@ pub record NamesWritten {seen : Seen} {named : NamedInline} (inlined : IsInlined
   pub short : AllByRecursion (λ (c : LinkedClass). size_of c ≤ 1048576) inlined.planned.rewoven.program.classes
   pub total : sizes_of inlined.planned.rewoven.program.classes ≤ 16777216
 
--- What `check` answers then, without a fault of the store, is yes, or memory ran out: its status is 0 or 7.
+-- What `check` comes to then, without a fault of the store, is yes: its status is 0.
 abbrev pub WrittenIsAccepted : Type 0
 WrittenIsAccepted =
     (seen : Seen) (named : NamedInline) → IsSome seen.old → (inlined : IsInlined seen named)
-    → (check : NamedCheck) → NamesWritten inlined check → (again : Seen) (answer : Answer) → again.old ≡ seen.new
-    → IsAnswer (λ answer. CarriesOut again (Check check) answer) answer → (Rose again.count.before again.count.now → ⊥)
-    → (status_of answer ≡ statuses.Done) ⊎ (status_of answer ≡ statuses.Memory)
+    → (check : NamedCheck) → NamesWritten inlined check → (again : Seen) (outcome : Outcome) → again.old ≡ seen.new
+    → CarriesOut again (Check check) (outcome_step outcome) → (Rose again.count.before again.count.now → ⊥)
+    → status_of outcome ≡ statuses.Done

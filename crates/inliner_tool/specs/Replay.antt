@@ -1,5 +1,5 @@
 -- What the command `replay` tells of a recorded run. (docs/COMMANDS.md)
-use Rattle.std.specs.Prelude.{◌≡◌, ◌⊎◌, ℕ, List, length, Option, Some, None, Result, Ok, Err}
+use Rattle.std.specs.Prelude.{◌≡◌, ℕ, List, length, Option, Some, None, Result, Ok, Err}
 use Rattle.bytecode_model.specs.declared.program.Program.{Program}
 use Rattle.bytecode_model.specs.declared.program.Side.TheVariants.{Inlined}
 use Rattle.cert_format.specs.declared.typing.Typing.{Typing}
@@ -15,18 +15,18 @@ use Rattle.guest_replay.specs.declared.replaying.Replayed.{Replayed}
 use Rattle.guest_replay.specs.declared.replaying.ReplayFault.{ReplayFault}
 use Rattle.guest_replay.specs.declared.replaying.ReplayFault.TheVariants as faults
 use Rattle.guest_replay.specs.Replaying.{replayed}
-use Rattle.input_files.specs.declared.files.Stop.{Stop}
 use Rattle.input_files.specs.declared.replay_inputs.ReplayInputs.{ReplayInputs}
 use Rattle.input_files.specs.Forms.{Then}
 use Rattle.input_files.specs.ReplayInputs.{ReadsReplay}
-use Rattle.inliner_tool.specs.declared.answer.Answer.{Answer}
 use Rattle.inliner_tool.specs.declared.answer.Answer.TheVariants as answers
-use Rattle.inliner_tool.specs.declared.refusal.Refusal.{Refusal}
+use Rattle.inliner_tool.specs.declared.answer.Made.{Made}
+use Rattle.inliner_tool.specs.declared.refusal.Ended.{Ended}
+use Rattle.inliner_tool.specs.declared.refusal.Ended.TheVariants.{Refused, Memory}
 use Rattle.inliner_tool.specs.declared.refusal.Refusal.TheVariants as refusals
-use Rattle.inliner_tool.specs.Answers.{refused, stopped}
-use Rattle.inliner_tool.specs.Programs.{Equals, Step, Types, program_of}
+use Rattle.inliner_tool.specs.Programs.{Types, program_of}
 use Rattle.inliner_tool.specs.Running.{RunsTyped}
 use Rattle.inliner_tool.specs.Seen.{Seen}
+use Rattle.inliner_tool.specs.Steps.{Equals, Just, Step}
 
 -- ---- a run
 
@@ -41,19 +41,20 @@ end_told (Some (ends.Stopped value)) = lines.Stopped value
 abbrev pub run_text : Program → ℕ → Replayed → List ℕ
 run_text program count run = events_text program.listing run.events (end_told (end_of program run.machine)) count
 
-abbrev pub replay_refusal : ReplayFault → Refusal
-replay_refusal (faults.NotEnabled index) = refusals.NotEnabled index
-replay_refusal faults.Memory = refusals.Memory
+-- why no run is told
+abbrev pub replay_end : ReplayFault → Ended
+replay_end (faults.NotEnabled index) = Refused (refusals.NotEnabled index)
+replay_end faults.Memory = Memory
 
 abbrev pub run_told : Program → ℕ → Result Replayed ReplayFault → Step (List ℕ)
 run_told program count (Ok run) = Ok (run_text program count run)
-run_told program count (Err fault) = Err (replay_refusal fault)
+run_told program count (Err fault) = Err (replay_end fault)
 
 -- what is told of the run that these steps are
 abbrev pub steps_told : Program → List GuestStep → Step (List ℕ)
 steps_told program steps = run_told program (length steps) (replayed program steps)
 
--- ---- the answer
+-- ---- the steps
 
 abbrev pub link_run : List ℕ → ReplayInputs → Step Program
 link_run main inputs = program_of inputs.listing inputs.classes main Inlined
@@ -66,15 +67,11 @@ Tells main inputs =
     Then (Types program) (λ typing.
     Equals (steps_told program inputs.recorded.steps)))
 
-abbrev pub replay_answer : Step (List ℕ) → Answer
-replay_answer (Ok text) = answers.Replayed text
-replay_answer (Err refusal) = refused refusal
-
--- The files are read, and this is told of what they are; or the reading of them stops, and this says where.
-abbrev pub Replays : Seen → NamedReplay → Answer → Type 0
-Replays seen named answer =
-    ((stop : Stop) × ReadsReplay seen.old seen.count named (Err stop) × (answer ≡ stopped stop))
-    ⊎ ((inputs : ReplayInputs) × ReadsReplay seen.old seen.count named (Ok inputs) × (told : Step (List ℕ)) × Tells named.main inputs told × (answer ≡ replay_answer told))
+-- The run is told.
+abbrev pub Replays : List ℕ → ReplayInputs → Step Made → Type 0
+Replays main inputs =
+    Then (Tells main inputs) (λ text.
+    Just (answers.Replayed text))
 
 -- ---- the run
 

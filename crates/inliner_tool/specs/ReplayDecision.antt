@@ -1,5 +1,5 @@
 -- That `replay` decides: of files in their grammars and limits that link to a program with types it tells the run, or the first
--- step that is not enabled, or memory runs out. (docs/COMMANDS.md)
+-- step that is not enabled, unless memory runs out. (docs/COMMANDS.md)
 use Rattle.std.specs.Prelude.{◌≡◌, Ok, IsSome}
 use Rattle.api_listing.specs.declared.types.Listing.{Listing}
 use Rattle.bytecode_model.specs.declared.program.Program.{Program}
@@ -12,11 +12,12 @@ use Rattle.input_files.specs.declared.named.ReadClasses.{ReadClasses as Classes}
 use Rattle.input_files.specs.Forms.{IsRead}
 use Rattle.input_files.specs.Kinds.{listing_form, record_form}
 use Rattle.input_files.specs.Named.{AreClasses}
-use Rattle.inliner_tool.specs.declared.answer.Answer.{Answer}
 use Rattle.inliner_tool.specs.Decision.{IsDecision}
 use Rattle.inliner_tool.specs.Programs.{program_of}
 use Rattle.inliner_tool.specs.Seen.{Seen}
-use Rattle.inliner_tool.specs.Tool.{CarriesOut, IsAnswer, status_of}
+use Rattle.inliner_tool.specs.Steps.{Outcome, outcome_step}
+use Rattle.inliner_tool.specs.Tool.{status_of}
+use Rattle.inliner_tool.specs.Writing.{CarriesOut}
 use Rattle.type_infer.specs.Untyped.{IsTypable}
 
 -- The files are told, and those of these names are a listing, a record over it and class files, in their grammars and limits;
@@ -33,9 +34,8 @@ pub record NamesRun (files : Files) (named : NamedReplay) : Type 0 where
   pub links : program_of listing classes named.main Inlined ≡ Ok program
   pub typable : IsTypable program
 
--- What `replay` answers to such files, without a fault of the store, is a decision.
+-- What `replay` comes to over such files, without a fault of the store, is a decision.
 abbrev pub ReplayDecides : Type 0
 ReplayDecides =
-    (seen : Seen) (named : NamedReplay) (answer : Answer)
-    → IsAnswer (λ answer. CarriesOut seen (Replay named) answer) answer
-    → (Rose seen.count.before seen.count.now → ⊥) → NamesRun seen.old named → IsDecision (status_of answer)
+    (seen : Seen) (named : NamedReplay) (outcome : Outcome) → CarriesOut seen (Replay named) (outcome_step outcome)
+    → (Rose seen.count.before seen.count.now → ⊥) → NamesRun seen.old named → IsDecision (status_of outcome)

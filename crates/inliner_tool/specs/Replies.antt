@@ -1,10 +1,10 @@
--- What is printed for an answer. (docs/COMMANDS.md)
-use Rattle.std.specs.Prelude.{ℕ, List, Option, Some, None, codes}
+-- What is printed for an outcome. (docs/COMMANDS.md)
+use Rattle.std.specs.Prelude.{ℕ, List, Option, Some, None, Ok, Err, codes}
 use Rattle.answer_text.specs.declared.field.Report.{Report}
 use Rattle.answer_text.specs.declared.line.Line.TheVariants as lines
 use Rattle.answer_text.specs.declared.reply.Reply.{Reply}
 use Rattle.answer_text.specs.declared.reply.Reply.TheVariants as replies
-use Rattle.answer_text.specs.Lines.{text_of as text_of_reply}
+use Rattle.answer_text.specs.Lines.{text_of}
 use Rattle.cert_format.specs.declared.certificate.Mode.{Mode}
 use Rattle.cert_format.specs.declared.certificate.Mode.TheVariants as modes
 use Rattle.conspec_automaton.specs.declared.running.Verdict.{Verdict}
@@ -14,6 +14,7 @@ use Rattle.inliner_tool.specs.declared.answer.Answer.TheVariants as answers
 use Rattle.inliner_tool.specs.declared.refusal.Refusal.{Refusal}
 use Rattle.inliner_tool.specs.declared.refusal.Refusal.TheVariants as refusals
 use Rattle.inliner_tool.specs.Numbers.{cells_report, check_report, event_report, input_report, length_report, link_report, race_report, size_report, step_report, total_report, untyped_report}
+use Rattle.inliner_tool.specs.Steps.{Outcome}
 
 abbrev pub mode_name : Mode → List ℕ
 mode_name modes.Hold = codes "hold"
@@ -28,32 +29,44 @@ verdict_reply verdicts.Accepted = replies.Line lines.Obeyed
 verdict_reply (verdicts.StoppedAt index) = replies.Line (lines.Stopped index)
 verdict_reply (verdicts.Refused index) = replies.Line (lines.Denied (event_report index))
 
+-- the answer no
+abbrev pub denied : Report → Reply
+denied report = replies.Line (lines.Denied report)
+
+-- a size that does not fit
+abbrev pub overflow : Report → Reply
+overflow report = replies.Line (lines.Overflow report.fields)
+
+abbrev pub answer_reply : Answer → Reply
+answer_reply (answers.Accepted accepted) = replies.Line (lines.Accepted (mode_name accepted.mode) accepted.sites)
+answer_reply (answers.Shown text) = replies.Text text
+answer_reply (answers.Judged verdict) = verdict_reply verdict
+answer_reply answers.RaceFree = replies.Line lines.Free
+answer_reply (answers.Inlined accepted classes) = replies.Line (lines.Inlined (mode_name accepted.mode) accepted.sites classes)
+answer_reply (answers.Replayed text) = replies.Text text
+
 abbrev pub refusal_reply : Refusal → Reply
+refusal_reply (refusals.Input name fault) = input (Some name) (input_report fault)
+refusal_reply (refusals.Unread name) = replies.Line (lines.Store name)
 refusal_reply (refusals.TotalLong len) = input None (total_report len)
 refusal_reply (refusals.Link fault) = input None (link_report fault)
 refusal_reply (refusals.Untyped class method at) = input None (untyped_report class method at)
-refusal_reply (refusals.Racy condition example) = replies.Line (lines.Denied (race_report condition example))
-refusal_reply (refusals.CellLimit first second count) = replies.Line (lines.Denied (cells_report first second count))
-refusal_reply (refusals.Overflow class method what value) = replies.Line (lines.Overflow (size_report class method what value).fields)
-refusal_reply (refusals.LongCertificate value) = replies.Line (lines.Overflow (length_report value).fields)
-refusal_reply (refusals.NotEnabled index) = replies.Line (lines.Denied (step_report index))
-refusal_reply refusals.Memory = replies.Nothing
+refusal_reply (refusals.Denied fault label) = denied (check_report fault label)
+refusal_reply (refusals.Racy condition example) = denied (race_report condition example)
+refusal_reply (refusals.CellLimit first second count) = denied (cells_report first second count)
+refusal_reply (refusals.Overflow class method what value) = overflow (size_report class method what value)
+refusal_reply (refusals.LongCertificate value) = overflow (length_report value)
+refusal_reply (refusals.NotEnabled index) = denied (step_report index)
+refusal_reply (refusals.Unwritten name) = replies.Line (lines.Store name)
 
-abbrev pub reply_of : Answer → Reply
-reply_of (answers.Accepted accepted) = replies.Line (lines.Accepted (mode_name accepted.mode) accepted.sites)
-reply_of (answers.Denied fault label) = replies.Line (lines.Denied (check_report fault label))
-reply_of (answers.Shown text) = replies.Text text
-reply_of (answers.Judged verdict) = verdict_reply verdict
-reply_of answers.RaceFree = replies.Line lines.Free
-reply_of (answers.Inlined accepted classes) = replies.Line (lines.Inlined (mode_name accepted.mode) accepted.sites classes)
-reply_of (answers.Replayed text) = replies.Text text
-reply_of (answers.Input name fault) = input (Some name) (input_report fault)
-reply_of (answers.Refused refusal) = refusal_reply refusal
-reply_of (answers.Unread name) = replies.Line (lines.Store name)
-reply_of (answers.Unwritten name) = replies.Line (lines.Store name)
-reply_of answers.Usage = replies.Line lines.Usage
-reply_of answers.Memory = replies.Nothing
+abbrev pub reply_of : Outcome → Reply
+reply_of (Ok answer) = answer_reply answer
+reply_of (Err refusal) = refusal_reply refusal
 
 -- the whole output
-abbrev pub answer_spelled : Answer → List ℕ
-answer_spelled answer = text_of_reply (reply_of answer)
+abbrev pub outcome_spelled : Outcome → List ℕ
+outcome_spelled outcome = text_of (reply_of outcome)
+
+-- the output for words that are no command's
+abbrev pub usage_spelled : List ℕ
+usage_spelled = text_of (replies.Line lines.Usage)

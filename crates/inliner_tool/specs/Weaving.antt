@@ -25,7 +25,6 @@ use Rattle.class_weaving.specs.Outcome.{IsWoven}
 use Rattle.class_weaving.specs.Woven.{woven}
 use Rattle.command_words.specs.declared.inline_words.Weaving.{Weaving}
 use Rattle.command_words.specs.declared.inline_words.Weaving.TheVariants as weavings
-use Rattle.command_words.specs.InlineWords.{NamedInline}
 use Rattle.conspec_automaton.specs.declared.policy.Policy.{Policy}
 use Rattle.conspec_automaton.specs.Building.{built}
 use Rattle.conspec_automaton.specs.Racing.{IsRaceFree, all_pairs}
@@ -43,12 +42,14 @@ use Rattle.race_free_check.specs.Deciding.{decided}
 use Rattle.race_free_check.specs.Limit.{AllHaveFewPoints}
 use Rattle.cert_maker.specs.Told.{told}
 use Rattle.woven_typing.specs.Framing.{typing_of}
-use Rattle.inliner_tool.specs.declared.refusal.Refusal.{Refusal}
+use Rattle.inliner_tool.specs.declared.refusal.Ended.{Ended}
+use Rattle.inliner_tool.specs.declared.refusal.Ended.TheVariants as ends
 use Rattle.inliner_tool.specs.declared.refusal.Refusal.TheVariants as refusals
 use Rattle.inliner_tool.specs.declared.inline.Given.{Given}
 use Rattle.inliner_tool.specs.declared.inline.Ready.{Ready}
-use Rattle.inliner_tool.specs.Programs.{AreTypes, Equals, Step, Types, program_of, woven_links}
+use Rattle.inliner_tool.specs.Programs.{AreTypes, Types, program_of, woven_links}
 use Rattle.inliner_tool.specs.Race.{race_step}
+use Rattle.inliner_tool.specs.Steps.{Equals, Step}
 
 -- ---- the steps
 
@@ -99,20 +100,21 @@ pub record IsGathered (tree : PolicyTree) (program : Program) (given : Given) : 
   pub policy : given.policy ≡ built tree
   pub free : given.mode ≡ modes.Release → IsFreeOfRaces given.policy
 
-abbrev pub splice_refusal : SpliceFault → Refusal
-splice_refusal (splices.Overflow class method what value) = refusals.Overflow class method what value
-splice_refusal splices.Memory = refusals.Memory
+-- why nothing is woven
+abbrev pub splice_end : SpliceFault → Ended
+splice_end (splices.Overflow class method what value) = ends.Refused (refusals.Overflow class method what value)
+splice_end splices.Memory = ends.Memory
 
 abbrev pub weave_step : Result Woven SpliceFault → Step Woven
 weave_step (Ok made) = Ok made
-weave_step (Err fault) = Err (splice_refusal fault)
+weave_step (Err fault) = Err (splice_end fault)
 
 -- ---- the outputs
 
 -- A certificate has at most 64 MiB, and its names at most 65,535 bytes; else nothing is written, and its length is told.
 abbrev pub outputs_step : List ℕ → Program → Certificate → Step (List Output)
 outputs_step folder program certificate =
-    if is_written certificate then Ok (outputs_of folder program certificate) else Err (refusals.LongCertificate (length (spell_certificate certificate)))
+    if is_written certificate then Ok (outputs_of folder program certificate) else Err (ends.Refused (refusals.LongCertificate (length (spell_certificate certificate))))
 
 -- ---- all steps
 
@@ -143,18 +145,19 @@ abbrev pub Fits : List ℕ → List ℕ → Given → Step Ready → Type 0
 Fits main folder given = Then (Equals (weave_step (woven given.client (plan_of given.policy given.mode) given.policy.vars))) (Remakes main folder given)
 
 -- There is a mode in which the policy is woven.
-abbrev pub Chosen : NamedInline → PolicyTree → Program → Typing → Step Ready → Type 0
-Chosen named policy client typing =
-    Then (Equals (mode_for named.weaving policy client.listing)) (λ mode.
-    Fits named.main named.folder (record { client = client; typing = typing; policy = built policy; mode = mode }))
+abbrev pub Chosen : List ℕ → List ℕ → Weaving → PolicyTree → Program → Typing → Step Ready → Type 0
+Chosen main folder weaving policy client typing =
+    Then (Equals (mode_for weaving policy client.listing)) (λ mode.
+    Fits main folder (record { client = client; typing = typing; policy = built policy; mode = mode }))
 
 -- The program is typed.
-abbrev pub Typed : NamedInline → PolicyTree → Program → Step Ready → Type 0
-Typed named policy client = Then (Types client) (Chosen named policy client)
+abbrev pub Typed : List ℕ → List ℕ → Weaving → PolicyTree → Program → Step Ready → Type 0
+Typed main folder weaving policy client = Then (Types client) (Chosen main folder weaving policy client)
 
--- The inputs link. These are all steps, each after the one above it: the first that fails is the answer.
-abbrev pub Plans : NamedInline → InlineInputs → Step Ready → Type 0
-Plans named inputs = Then (Equals (original inputs.listing inputs.classes named.main)) (Typed named inputs.policy)
+-- The inputs link, with a main class of this name, and are woven so, to be written to this folder. These are all steps, each after
+-- the one above it: the first that fails is the answer.
+abbrev pub Plans : List ℕ → List ℕ → Weaving → InlineInputs → Step Ready → Type 0
+Plans main folder weaving inputs = Then (Equals (original inputs.listing inputs.classes main)) (Typed main folder weaving inputs.policy)
 
 -- The program is accepted, and these are its outputs, or its certificate is too long.
 abbrev pub Accepts : List ℕ → Policy → Program → Certificate → Step Ready → Type 0
@@ -166,9 +169,9 @@ Accepts folder policy program certificate result =
 
 -- What is woven links to a program of these files, which is accepted with a certificate, and obeys the policy for every
 -- list of guest steps; it and the certificate, which can be read again, are to be written.
-pub record IsRewoven (named : NamedInline) (given : Given) (files : List ClassFile) (ready : Ready) : Type 0 where
+pub record IsRewoven (main folder : List ℕ) (given : Given) (files : List ClassFile) (ready : Ready) : Type 0 where
   pub program : Program
-  pub links : woven_links files given.client.listing named.main ≡ Ok program
+  pub links : woven_links files given.client.listing main ≡ Ok program
   pub same : unlinked program ≡ files
   pub sound : IsSound program
   pub certificate : Certificate
@@ -178,19 +181,19 @@ pub record IsRewoven (named : NamedInline) (given : Given) (files : List ClassFi
   pub secure : Secure given.mode program given.policy
   pub spells : CanSpell (length given.policy.vars) certificate
   pub written : is_written certificate ≡ true
-  pub outputs : ready.outputs ≡ outputs_of named.folder program certificate
+  pub outputs : ready.outputs ≡ outputs_of folder program certificate
 
 -- The inputs link to a program, and what the weaving of the policy makes of it, in this mode, is to be written: it links to the same
 -- classes in their order, where each call that the policy has clauses for, and no other, stands in its block, and conspec/State
 -- behind them.
-pub record IsPlanned (named : NamedInline) (inputs : InlineInputs) (ready : Ready) : Type 0 where
+pub record IsPlanned (main folder : List ℕ) (weaving : Weaving) (inputs : InlineInputs) (ready : Ready) : Type 0 where
   pub given : Given
-  pub links : original inputs.listing inputs.classes named.main ≡ Ok given.client
+  pub links : original inputs.listing inputs.classes main ≡ Ok given.client
   pub listing : given.client.listing ≡ inputs.listing
   pub typed : AreTypes given.client given.typing
   pub policy : given.policy ≡ built inputs.policy
-  pub chosen : mode_for named.weaving inputs.policy given.client.listing ≡ Ok given.mode
+  pub chosen : mode_for weaving inputs.policy given.client.listing ≡ Ok given.mode
   pub made : Woven
   pub woven : woven given.client (plan_of given.policy given.mode) given.policy.vars ≡ Ok made
-  pub rewoven : IsRewoven named given made.files ready
+  pub rewoven : IsRewoven main folder given made.files ready
   pub blocks : IsWoven given.client (plan_of given.policy given.mode) given.policy.vars rewoven.program

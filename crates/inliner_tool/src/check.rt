@@ -1,34 +1,35 @@
-//! The command `check`: its inputs, what they link to, and what is answered.
+//! The command `check`: its inputs, what they link to, and what is made of it.
 
-ghost use Rattle.std.specs.Prelude.{◌≡◌, ◌≤◌, IfErr, IfOk, Ok};
+ghost use Rattle.std.specs.Prelude.{◌≡◌, ◌≤◌, ◌⊎◌, Err, IfErr, IfOk, Ok};
 ghost use Rattle.bytecode_model.specs.declared.program.Program.{Program};
 ghost use Rattle.command_words.specs.Words.{Check, check_named};
-ghost use Rattle.inliner_tool.specs.Seen.{seen};
-ghost use Rattle.inliner_tool.specs.Answers.{EndsWell, Is, stopped};
+ghost use Rattle.input_files.specs.CheckInputs.{AreSound};
+ghost use Rattle.input_files.specs.Named.{IsPolicyOf};
 ghost use Rattle.inliner_tool.specs.Check.{
+  Checks,
+  ChecksLinked,
   IsChecked,
   IsCheckedAs,
   ProgramIsCheckedAs,
-  check_answer,
+  denied,
   faulty_class,
-  denied_answer,
+  judged_step,
   label_for,
-  linked_answer,
-  program_answer,
 };
 ghost use Rattle.inliner_tool.specs.CheckDecision.{CheckDecides};
-ghost use Rattle.inliner_tool.specs.declared.answer.Answer.TheVariants.{Denied};
-ghost use Rattle.inliner_tool.specs.Programs.{Equals, Step, UnlessMemory};
-ghost use Rattle.inliner_tool.specs.Tool.{CarriesOut, Holds, IsAnswer};
-ghost use Rattle.input_files.specs.CheckInputs.{AreSound};
-ghost use Rattle.input_files.specs.Named.{IsPolicyOf};
+ghost use Rattle.inliner_tool.specs.Commands.{Makes, readings_of};
+ghost use Rattle.inliner_tool.specs.Seen.{seen};
+ghost use Rattle.inliner_tool.specs.Steps.{Equals, Step, UnlessMemory};
+ghost use Rattle.inliner_tool.specs.Tool.{Holds};
+ghost use Rattle.inliner_tool.specs.declared.refusal.Ended.TheVariants as ends;
+ghost use Rattle.inliner_tool.specs.declared.refusal.Refusal.TheVariants as refusals;
 ghost use Rattle.typed_runs.specs.Programs.{IsLinkedProgram};
 
-use crate::answer::{Answer, refused, stopped};
+use crate::answer::{Answer, Made};
 use crate::classes::label_of;
 use crate::programs::program_of;
 use crate::race::racy;
-use crate::refusal::Refusal;
+use crate::refusal::{Ended, Refusal, stopped};
 use crate::running::linked_programs_run_typed;
 use bytecode_model::{Program, Side};
 use cert_checker::{Accepted, CheckFault, Denial, check};
@@ -52,26 +53,25 @@ pub struct Checked {
     pub accepted: Accepted,
 }
 
-/// The answer to `check`.
-pub fn answer_check<S: Store>(alloc: Global, words: &CheckWords, store: &mut S) -> Answer
-    ensures says { IsAnswer (λ answer. CarriesOut (seen S.files S.faults S.last store.old store.new)
-        (Check (check_named words.now)) answer) result }
-    ensures holds { EndsWell result
-        → Holds (seen S.files S.faults S.last store.old store.new) (check_named words.now) }
+/// What `check` makes of its files.
+pub fn make_check<S: Store>(alloc: Global, words: &CheckWords, store: &mut S) -> Result<Made, Ended>
+    ensures makes { UnlessMemory (Makes (readings_of (seen S.files S.faults S.last store.old store.new))
+        (Check (check_named words.now))) result }
+    ensures holds { IfOk result (λ made. Holds (seen S.files S.faults S.last store.old store.new) (check_named words.now)) }
     ensures files { S.files store.new ≡ S.files store.old }
     ensures faults { S.faults store.old ≤ S.faults store.new }
 {
     match read_check(alloc, store, words) {
-        Ok(inputs) => check_answer(alloc, inputs, words.main),
-        Err(stop) => stopped(stop),
+        Ok(inputs) => check_made(alloc, inputs, words.main),
+        Err(stop) => Err(stopped(stop)),
     }
 }
 
-/// What is answered to a check of these inputs.
-fn check_answer(alloc: Global, inputs: CheckInputs, main: &Bytes) -> Answer
+/// What is made of these inputs.
+fn check_made(alloc: Global, inputs: CheckInputs, main: &Bytes) -> Result<Made, Ended>
     requires { AreSound inputs }
-    ensures is { Is result (check_answer main.now inputs) }
-    ensures checked { EndsWell result → IsChecked main.now inputs }
+    ensures checks { UnlessMemory (Checks main.now inputs) result }
+    ensures checked { IfOk result (λ made. IsChecked main.now inputs) }
 {
     match inputs_checked(alloc, inputs, main) {
         Ok(
@@ -83,18 +83,17 @@ fn check_answer(alloc: Global, inputs: CheckInputs, main: &Bytes) -> Answer
         ) => {
             drop(policy);
             drop(program);
-            Answer::Accepted(accepted)
+            Ok(Made::just(alloc, Answer::Accepted(accepted)))
         }
-        Err(answer) => answer,
+        Err(ended) => Err(ended),
     }
 }
 
-/// Links the class files of these inputs and checks the program: what was accepted, or what is answered instead.
-fn inputs_checked(alloc: Global, inputs: CheckInputs, main: &Bytes) -> Result<Checked, Answer>
+/// Links the class files of these inputs and checks the program: what was accepted, or why nothing was.
+fn inputs_checked(alloc: Global, inputs: CheckInputs, main: &Bytes) -> Result<Checked, Ended>
     requires { AreSound inputs }
     ensures checked { IfOk result (IsCheckedAs main.now inputs) }
-    ensures answer { IfErr result (λ answer. Is answer (check_answer main.now inputs)) }
-    ensures no { IfErr result (λ answer. EndsWell answer → ⊥) }
+    ensures ends { IfErr result (λ ended. UnlessMemory (Checks main.now inputs) (Err ended)) }
 {
     let CheckInputs {
         listing,
@@ -112,18 +111,17 @@ fn inputs_checked(alloc: Global, inputs: CheckInputs, main: &Bytes) -> Result<Ch
 /// The same of what class files link to.
 fn linked_checked(
     alloc: Global,
-    linked: Result<Indexed, Refusal>,
+    linked: Result<Indexed, Ended>,
     policy: &PolicyTree,
     certificate: &Certificate,
-) -> Result<Checked, Answer>
+) -> Result<Checked, Ended>
     requires linked { IfOk linked IsLinkedProgram }
     requires policy { IfOk linked (λ program. IsPolicyOf program.listing policy.now) }
     ensures program { IfOk result (λ checked. linked ≡ Ok checked.program) }
     ensures checked { IfOk result (λ checked.
         ProgramIsCheckedAs policy.now certificate.now checked.program checked.policy checked.accepted) }
-    ensures answer { (step : Step Program) → UnlessMemory (Equals step) linked
-        → IfErr result (λ answer. Is answer (linked_answer policy.now certificate.now step)) }
-    ensures no { IfErr result (λ answer. EndsWell answer → ⊥) }
+    ensures ends { (step : Step Program) → UnlessMemory (Equals step) linked
+        → IfErr result (λ ended. UnlessMemory (ChecksLinked policy.now certificate.now step) (Err ended)) }
 {
     match linked {
         Ok(program) => match program_checked(alloc, &program, policy, certificate) {
@@ -132,30 +130,30 @@ fn linked_checked(
                 policy,
                 accepted,
             }),
-            Err(answer) => {
+            Err(ended) => {
                 drop(program);
-                Err(answer)
+                Err(ended)
             }
         },
-        Err(refusal) => Err(refused(refusal)),
+        Err(ended) => Err(ended),
     }
 }
 
-/// The policy, and what the program was accepted as, of a linked program; or what is answered instead.
+/// The policy, and what the program was accepted as, of a linked program; or why it was not.
 fn program_checked(
     alloc: Global,
     program: &Indexed,
     policy: &PolicyTree,
     certificate: &Certificate,
-) -> Result<(Policy, Accepted), Answer>
+) -> Result<(Policy, Accepted), Ended>
     requires linked { IsLinkedProgram program.now }
     requires policy { IsPolicyOf program.now.listing policy.now }
     ensures checked { IfOk result (λ r. ProgramIsCheckedAs policy.now certificate.now program.now r.0 r.1) }
-    ensures answer { IfErr result (λ answer. Is answer (program_answer policy.now certificate.now program.now)) }
-    ensures no { IfErr result (λ answer. EndsWell answer → ⊥) }
+    ensures ends { IfErr result (λ ended.
+        UnlessMemory (Equals (judged_step policy.now certificate.now program.now)) (Err ended)) }
 {
     let Ok(automaton) = build(alloc, policy) else {
-        return Err(Answer::Memory);
+        return Err(Ended::Memory);
     };
     kinds_are_told();
     policies_tell_types();
@@ -166,10 +164,9 @@ fn program_checked(
     }
 }
 
-/// The answer no, with the name of the class that it is told of, or with what shows a race.
-fn denied(alloc: Global, policy: &PolicyTree, program: &Program, denial: Denial) -> Answer
-    ensures is { Is result (denied_answer policy.now program.now denial) }
-    ensures no { EndsWell result → ⊥ }
+/// Why a program is not accepted, with the name of the class that it is told of, or with what shows a race.
+fn denied(alloc: Global, policy: &PolicyTree, program: &Program, denial: Denial) -> Ended
+    ensures { (result ≡ denied policy.now program.now denial) ⊎ (result ≡ ends.Memory) }
 {
     match denial {
         Denial::Fault(fault) => at_fault(alloc, program, fault),
@@ -177,7 +174,7 @@ fn denied(alloc: Global, policy: &PolicyTree, program: &Program, denial: Denial)
             first,
             second,
             count,
-        } => Answer::Refused(Refusal::CellLimit {
+        } => Ended::Refused(Refusal::CellLimit {
             first,
             second,
             count,
@@ -189,20 +186,19 @@ fn denied(alloc: Global, policy: &PolicyTree, program: &Program, denial: Denial)
             second,
         } => {
             let listing = &program.listing;
-            refused(racy(alloc, policy, listing, condition, &state, &first, &second))
+            racy(alloc, policy, listing, condition, &state, &first, &second)
         }
-        Denial::Memory => Answer::Memory,
+        Denial::Memory => Ended::Memory,
     }
 }
 
-/// The answer no, with the name of the class that the fault is told of.
-fn at_fault(alloc: Global, program: &Program, fault: CheckFault) -> Answer
-    ensures is { Is result (Denied fault (label_for program.now fault)) }
-    ensures no { EndsWell result → ⊥ }
+/// The same, with the name of the class that the fault is told of.
+fn at_fault(alloc: Global, program: &Program, fault: CheckFault) -> Ended
+    ensures { (result ≡ ends.Refused (refusals.Denied fault (label_for program.now fault))) ⊎ (result ≡ ends.Memory) }
 {
     match label_for(alloc, program, &fault) {
-        Ok(label) => Answer::Denied(fault, label),
-        Err(NoMemory) => Answer::Memory,
+        Ok(label) => Ended::Refused(Refusal::Denied(fault, label)),
+        Err(NoMemory) => Ended::Memory,
     }
 }
 
@@ -227,8 +223,8 @@ fn faulty_class(fault: &CheckFault) -> Option<u32>
     }
 }
 
-/// To files in their grammars and limits that link, where the store tells them and counts no fault, `check` answers yes or no, or
-/// that memory ran out: its status is 0, 1 or 7.
+/// To files in their grammars and limits that link, where the store tells them and counts no fault, `check` answers yes or no,
+/// unless memory runs out: its status is 0, 1 or 7.
 pub fn check_decides()
     ensures { CheckDecides }
 {}

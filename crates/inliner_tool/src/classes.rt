@@ -4,7 +4,7 @@ ghost use Rattle.std.specs.Prelude.{◌≡◌, IfOk, Ok};
 ghost use Rattle.inliner_tool.specs.Classes.{label_of};
 ghost use Rattle.inliner_tool.specs.Programs.{within_total};
 
-use crate::refusal::Refusal;
+use crate::refusal::{Ended, Refusal};
 use bytecode_model::Program;
 use input_files::ReadClasses;
 use mon_base::{Bytes, NoMemory};
@@ -14,12 +14,12 @@ use std::alloc::Global;
 const TOTAL_LIMIT: u64 = 16_777_216;
 
 /// Refuses class files that are too long in all.
-pub fn within_total(classes: &ReadClasses) -> Result<(), Refusal>
+pub fn within_total(classes: &ReadClasses) -> Result<(), Ended>
     ensures { result ≡ within_total classes.now (Ok tt) }
 {
     let len = classes.total;
     if len > TOTAL_LIMIT {
-        return Err(Refusal::TotalLong { len });
+        return Err(Ended::Refused(Refusal::TotalLong { len }));
     }
     Ok(())
 }

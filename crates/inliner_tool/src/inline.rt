@@ -20,7 +20,6 @@ ghost use Rattle.conspec_automaton.specs.Sound.{IsPolicy, NamesMethods};
 ghost use Rattle.conspec_tree.specs.Tree.{IsPolicyTree};
 ghost use Rattle.input_files.specs.InlineInputs.{InlineSound};
 ghost use Rattle.input_files.specs.Named.{IsListed};
-ghost use Rattle.mon_base.specs.Answer.{Answers};
 ghost use Rattle.output_files.specs.Outputs.{is_written, outputs_of};
 ghost use Rattle.cert_maker.specs.Told.{FitsTyping, told};
 ghost use Rattle.typed_runs.specs.Programs.{IsLinkedProgram};
@@ -29,7 +28,7 @@ ghost use Rattle.woven_typing.specs.Framing.{typing_of};
 ghost use Rattle.inliner_tool.specs.Seen.{seen};
 ghost use Rattle.inliner_tool.specs.Expected.{IsExpected, WovenHasBlocks, WovenIsExpected};
 ghost use Rattle.inliner_tool.specs.Policy.{IsSoundFor};
-ghost use Rattle.inliner_tool.specs.Programs.{Equals, UnlessMemory};
+ghost use Rattle.inliner_tool.specs.Steps.{Equals, UnlessMemory};
 ghost use Rattle.inliner_tool.specs.Weaving.{
   Accepts,
   Gathers,
@@ -42,21 +41,20 @@ ghost use Rattle.inliner_tool.specs.Weaving.{
   Remakes,
   mode_for,
   outputs_step,
-  splice_refusal,
+  splice_end,
   weave_step,
 };
 ghost use Rattle.input_files.specs.Forms.{Then};
-ghost use Rattle.inliner_tool.specs.Inline.{Begins, IsInlined, Outputs};
-ghost use Rattle.inliner_tool.specs.Answers.{EndsWell};
+ghost use Rattle.inliner_tool.specs.Commands.{Makes, readings_of};
+ghost use Rattle.inliner_tool.specs.Inline.{IsReadyToWrite, ready_made};
 ghost use Rattle.inliner_tool.specs.InlineDecision.{InlineDecides};
 ghost use Rattle.inliner_tool.specs.Rechecking.{WrittenIsAccepted};
-ghost use Rattle.inliner_tool.specs.Tool.{CarriesOut, IsAnswer};
 ghost use Rattle.command_words.specs.Words.{Inline};
 
-use crate::answer::{Answer, refused, stopped};
+use crate::answer::{Answer, Made};
 use crate::programs::{program_of, types_of};
 use crate::race::{auto_mode, race_step};
-use crate::refusal::Refusal;
+use crate::refusal::{Ended, Refusal, stopped};
 use api_listing::Listing;
 use block_template::plans_are_good;
 use bytecode_model::{LinkedClass, Method, Program, Side};
@@ -72,7 +70,7 @@ use conspec_parse::kinds_are_told;
 use conspec_tree::PolicyTree;
 use input_files::{InlineInputs, read_inline};
 use mon_base::{Bytes, List, NoMemory};
-use mon_store::{Output, Store, WriteFault, write_all};
+use mon_store::{Output, Store};
 use offset_patch::SpliceFault;
 use policy_weaving::inline;
 use std::alloc::Global;
@@ -101,66 +99,75 @@ pub struct Given {
     pub mode: Mode,
 }
 
-/// The answer to `inline`.
-pub fn answer_inline<S: Store>(alloc: Global, words: &InlineWords, store: &mut S) -> Answer
-    ensures says { IsAnswer (λ answer. CarriesOut (seen S.files S.faults S.last store.old store.new)
-        (Inline (inline_named words.now)) answer) result }
-    ensures inlined { EndsWell result → IsInlined (seen S.files S.faults S.last store.old store.new) (inline_named words.now) }
-    ensures files { Begins (seen S.files S.faults S.last store.old store.new) (inline_named words.now) }
+/// What `inline` makes of its files.
+pub fn make_inline<S: Store>(
+    alloc: Global,
+    words: &InlineWords,
+    store: &mut S,
+) -> Result<Made, Ended>
+    ensures makes { UnlessMemory (Makes (readings_of (seen S.files S.faults S.last store.old store.new))
+        (Inline (inline_named words.now))) result }
+    ensures ready { IfOk result
+        (IsReadyToWrite (seen S.files S.faults S.last store.old store.new) (inline_named words.now)) }
+    ensures files { S.files store.new ≡ S.files store.old }
     ensures faults { S.faults store.old ≤ S.faults store.new }
 {
     match read_inline(alloc, store, words) {
-        Ok(inputs) => {
-            match plan(alloc, inputs, words) {
-                Ok(ready) => write_out(alloc, ready, store),
-                Err(refusal) => refused(refusal),
-            }
-        }
-        Err(stop) => stopped(stop),
+        Ok(inputs) => match plan(alloc, inputs, words.main, words.folder, words.weaving) {
+            Ok(ready) => Ok(ready_made(ready)),
+            Err(ended) => Err(ended),
+        },
+        Err(stop) => Err(stopped(stop)),
     }
 }
 
-/// The answer once all is ready to be written.
-fn write_out<S: Store>(alloc: Global, ready: Ready, store: &mut S) -> Answer
-    ensures writes { Outputs (seen S.files S.faults S.last store.old store.new) ready result }
-    ensures faults { S.faults store.old ≤ S.faults store.new }
+/// What is written, and then answered.
+fn ready_made(ready: Ready) -> Made
+    ensures { result ≡ ready_made ready }
 {
-    match write_all(alloc, store, ready.outputs.as_slice()) {
-        Ok(()) => Answer::Inlined {
-            accepted: ready.accepted,
-            classes: ready.classes,
-        },
-        Err(WriteFault::Failed(name)) => Answer::Unwritten(name),
-        Err(WriteFault::Memory) => Answer::Memory,
+    let Ready {
+        outputs,
+        accepted,
+        classes,
+    } = ready;
+    Made {
+        answer: Answer::Inlined { accepted, classes },
+        outputs,
     }
 }
 
 /// Links and types the inputs, weaves them, and checks what is woven.
-pub fn plan(alloc: Global, inputs: InlineInputs, words: &InlineWords) -> Result<Ready, Refusal>
+pub fn plan(
+    alloc: Global,
+    inputs: InlineInputs,
+    main: &Bytes,
+    folder: &Bytes,
+    weaving: Weaving,
+) -> Result<Ready, Ended>
     requires { InlineSound inputs }
     // The first step that fails is told.
-    ensures plans { UnlessMemory (Plans (inline_named words.now) inputs) result }
+    ensures plans { UnlessMemory (Plans main.now folder.now weaving inputs) result }
     // What is ready is the program with its blocks, and is accepted.
-    ensures planned { IfOk result (λ ready. IsPlanned (inline_named words.now) inputs ready) }
+    ensures planned { IfOk result (λ ready. IsPlanned main.now folder.now weaving inputs ready) }
 {
     let InlineInputs {
         listing,
         policy,
         classes,
     } = inputs;
-    let client = program_of(alloc, listing, classes, words.main, Side::Original)?;
-    let given = given_of(alloc, words.weaving, policy, client)?;
+    let client = program_of(alloc, listing, classes, main, Side::Original)?;
+    let given = given_of(alloc, weaving, policy, client)?;
     let made = match woven(alloc, &given.client, &given.policy, given.mode) {
         Ok(made) => made,
-        Err(refusal) => {
+        Err(ended) => {
             drop(given);
-            return Err(refusal);
+            return Err(ended);
         }
     };
     kinds_are_told();
     policies_tell_types();
     woven_is_expected();
-    rewoven(alloc, words, given, made)
+    rewoven(alloc, main, folder, given, made)
 }
 
 /// What is woven of inputs links to their program with its blocks, and is as is expected.
@@ -190,7 +197,7 @@ fn given_of(
     weaving: Weaving,
     tree: PolicyTree,
     client: Indexed,
-) -> Result<Given, Refusal>
+) -> Result<Given, Ended>
     requires sound { IsSound client }
     requires order { IsInOrder client }
     requires policy { IsPolicyTree client.listing tree }
@@ -203,9 +210,9 @@ fn given_of(
     drop(tree);
     match gathered {
         Ok((typing, chosen)) => Ok(given_with(client, typing, chosen)),
-        Err(refusal) => {
+        Err(ended) => {
             drop(client);
-            Err(refusal)
+            Err(ended)
         }
     }
 }
@@ -229,7 +236,7 @@ fn gathered(
     weaving: Weaving,
     tree: &PolicyTree,
     client: &Indexed,
-) -> Result<(Typing, (Policy, Mode)), Refusal>
+) -> Result<(Typing, (Policy, Mode)), Ended>
     requires sound { IsSound client.now }
     requires order { IsInOrder client.now }
     requires policy { IsPolicyTree client.now.listing tree.now }
@@ -251,7 +258,7 @@ fn chosen(
     weaving: Weaving,
     tree: &PolicyTree,
     listing: &Listing,
-) -> Result<(Policy, Mode), Refusal>
+) -> Result<(Policy, Mode), Ended>
     requires { IsPolicyTree listing.now tree.now }
     ensures mode { UnlessMemory (Then (Equals (mode_for weaving tree.now listing.now))
         (λ mode. Equals (Ok (built tree.now, mode)))) result }
@@ -262,9 +269,9 @@ fn chosen(
     let policy = build(alloc, tree)?;
     match mode_for(alloc, weaving, tree, listing, &policy) {
         Ok(mode) => Ok((policy, mode)),
-        Err(refusal) => {
+        Err(ended) => {
             drop(policy);
-            Err(refusal)
+            Err(ended)
         }
     }
 }
@@ -276,7 +283,7 @@ fn mode_for(
     tree: &PolicyTree,
     listing: &Listing,
     policy: &Policy,
-) -> Result<Mode, Refusal>
+) -> Result<Mode, Ended>
     requires is { policy.now ≡ built tree.now }
     requires sound { IsPolicy policy.now }
     ensures is { UnlessMemory (Equals (mode_for weaving tree.now listing.now)) result }
@@ -286,17 +293,17 @@ fn mode_for(
         Weaving::Hold => Ok(Mode::Hold),
         Weaving::Release => match race_step(alloc, tree, listing, policy) {
             Ok(()) => Ok(Mode::Release),
-            Err(refusal) => Err(refusal),
+            Err(ended) => Err(ended),
         },
         Weaving::Auto => match auto_mode(alloc, policy) {
             Ok(mode) => Ok(mode),
-            Err(NoMemory) => Err(Refusal::Memory),
+            Err(NoMemory) => Err(Ended::Memory),
         },
     }
 }
 
 /// The woven files.
-fn woven(alloc: Global, client: &Program, policy: &Policy, mode: Mode) -> Result<Woven, Refusal>
+fn woven(alloc: Global, client: &Program, policy: &Policy, mode: Mode) -> Result<Woven, Ended>
     requires sound { IsSound client.now }
     requires policy { IsPolicy policy.now }
     ensures is { UnlessMemory (Equals (weave_step (woven client.now (plan_of policy.now mode) policy.now.vars))) result }
@@ -310,8 +317,8 @@ fn woven(alloc: Global, client: &Program, policy: &Policy, mode: Mode) -> Result
 }
 
 /// Why nothing is woven.
-fn unfit(fault: SpliceFault) -> Refusal
-    ensures { result ≡ splice_refusal fault }
+fn unfit(fault: SpliceFault) -> Ended
+    ensures { result ≡ splice_end fault }
 {
     match fault {
         SpliceFault::Overflow {
@@ -319,18 +326,24 @@ fn unfit(fault: SpliceFault) -> Refusal
             method,
             what,
             value,
-        } => Refusal::Overflow {
+        } => Ended::Refused(Refusal::Overflow {
             class,
             method,
             what,
             value,
-        },
-        SpliceFault::Memory => Refusal::Memory,
+        }),
+        SpliceFault::Memory => Ended::Memory,
     }
 }
 
 /// What is woven, as the program that it links to, with its certificate, which is accepted.
-fn rewoven(alloc: Global, words: &InlineWords, given: Given, made: Woven) -> Result<Ready, Refusal>
+fn rewoven(
+    alloc: Global,
+    main: &Bytes,
+    folder: &Bytes,
+    given: Given,
+    made: Woven,
+) -> Result<Ready, Ended>
     requires sound { IsSound given.client }
     requires few { IsFew given.client.listing }
     requires listed { IsListed given.client.listing }
@@ -338,9 +351,9 @@ fn rewoven(alloc: Global, words: &InlineWords, given: Given, made: Woven) -> Res
     requires free { given.mode ≡ modes.Release → IsFreeOfRaces given.policy }
     requires count { length made.files ≤ 1001 }
     requires fits { AllByRecursion CanSpell made.files }
-    requires expected { IsExpected (inline_named words.now).main given made }
-    ensures steps { UnlessMemory (Remakes (inline_named words.now).main (inline_named words.now).folder given made) result }
-    ensures rewoven { IfOk result (λ ready. IsRewoven (inline_named words.now) given made.files ready) }
+    requires expected { IsExpected main.now given made }
+    ensures steps { UnlessMemory (Remakes main.now folder.now given made) result }
+    ensures rewoven { IfOk result (λ ready. IsRewoven main.now folder.now given made.files ready) }
 {
     match typing_of(
         alloc,
@@ -349,11 +362,11 @@ fn rewoven(alloc: Global, words: &InlineWords, given: Given, made: Woven) -> Res
         given.mode,
         &given.typing,
     ) {
-        Ok(typing) => retyped(alloc, words, given, typing, made),
+        Ok(typing) => retyped(alloc, main, folder, given, typing, made),
         Err(NoMemory) => {
             drop(made);
             drop(given);
-            Err(Refusal::Memory)
+            Err(Ended::Memory)
         }
     }
 }
@@ -361,21 +374,22 @@ fn rewoven(alloc: Global, words: &InlineWords, given: Given, made: Woven) -> Res
 /// The same, where these are the types of what is woven.
 fn retyped(
     alloc: Global,
-    words: &InlineWords,
+    main: &Bytes,
+    folder: &Bytes,
     given: Given,
     typing: Typing,
     made: Woven,
-) -> Result<Ready, Refusal>
+) -> Result<Ready, Ended>
     requires few { IsFew given.client.listing }
     requires listed { IsListed given.client.listing }
     requires policy { IsSoundFor given.client.listing given.policy }
     requires free { given.mode ≡ modes.Release → IsFreeOfRaces given.policy }
     requires count { length made.files ≤ 1001 }
     requires fits { AllByRecursion CanSpell made.files }
-    requires expected { IsExpected (inline_named words.now).main given made }
+    requires expected { IsExpected main.now given made }
     requires typing { typing ≡ typing_of given.client given.policy given.mode given.typing }
-    ensures steps { UnlessMemory (Remakes (inline_named words.now).main (inline_named words.now).folder given made) result }
-    ensures rewoven { IfOk result (λ ready. IsRewoven (inline_named words.now) given made.files ready) }
+    ensures steps { UnlessMemory (Remakes main.now folder.now given made) result }
+    ensures rewoven { IfOk result (λ ready. IsRewoven main.now folder.now given made.files ready) }
 {
     let Given {
         client,
@@ -385,7 +399,7 @@ fn retyped(
     } = given;
     let Woven { files, methods, .. } = made;
     let (program, certificate) = remade(alloc, &policy, mode, client, typing, files, methods)?;
-    let ready = judged(alloc, words.folder, &policy, &program, &certificate);
+    let ready = judged(alloc, folder, &policy, &program, &certificate);
     drop(certificate);
     drop(program);
     drop(policy);
@@ -462,7 +476,7 @@ fn judged(
     policy: &Policy,
     program: &Indexed,
     certificate: &Certificate,
-) -> Result<Ready, Refusal>
+) -> Result<Ready, Ended>
     requires linked { IsLinkedProgram program.now }
     requires policy { IsSoundFor program.now.listing policy.now }
     requires allowed { IsAllowed program.now policy.now certificate.now }
@@ -474,7 +488,7 @@ fn judged(
 {
     let accepted = match check(alloc, program, policy, certificate) {
         Ok(accepted) => accepted,
-        Err(Denial::Memory) => return Err(Refusal::Memory),
+        Err(Denial::Memory) => return Err(Ended::Memory),
         Err(_) => unreachable!(),
     };
     let program = program.program();
@@ -492,7 +506,7 @@ fn outputs_of(
     folder: &Bytes,
     program: &Program,
     certificate: &Certificate,
-) -> Result<List<Output>, Refusal>
+) -> Result<List<Output>, Ended>
     ensures is { UnlessMemory (Equals (outputs_step folder.now program.now certificate.now)) result }
     ensures written { IfOk result (λ outputs. is_written certificate.now ≡ true) }
     ensures outputs { IfOk result (λ outputs. outputs ≡ outputs_of folder.now program.now certificate.now) }
@@ -502,19 +516,19 @@ fn outputs_of(
         Err(fault) => fault,
     };
     let CertLong::Certificate { value } = fault else {
-        return Err(Refusal::Memory);
+        return Err(Ended::Memory);
     };
-    Err(Refusal::LongCertificate { value })
+    Err(Ended::Refused(Refusal::LongCertificate { value }))
 }
 
 /// To files in their grammars and limits that link to a program with types, with a policy that is woven in this mode and sizes that
-/// fit, where the store tells them and counts no fault, `inline` writes everything, or answers that the certificate is too long, or
-/// that memory ran out: its status is 0, 4 or 7.
+/// fit, where the store tells them and counts no fault, `inline` writes everything, or answers that the certificate is too long,
+/// unless memory runs out: its status is 0, 4 or 7.
 pub fn inline_decides()
     ensures { InlineDecides }
 {}
 
-/// To what `inline` wrote, where the store tells it and counts no fault, `check` answers yes, or that memory ran out: its status is
+/// To what `inline` wrote, where the store tells it and counts no fault, `check` answers yes, unless memory runs out: its status is
 /// 0 or 7.
 pub fn written_is_accepted()
     ensures { WrittenIsAccepted }

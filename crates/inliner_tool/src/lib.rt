@@ -1,8 +1,9 @@
 //! The top call of conspecj: the words of a command, over a store and a sink.
 //!
 //! The words become names (`command_words`), and the files of these names inputs (`input_files`). Each command is a module of
-//! its own, from its inputs to its answer. The answer becomes a status (`tool`) and a reply (`replies`), in which each fault
-//! has its number (`numbers`), and the reply a text (`answer_text`). (docs/COMMANDS.md)
+//! its own, from its inputs to an answer and the files that are written before it is given (`writing`), or to why it ends before.
+//! This outcome becomes a status (`tool`) and a reply (`replies`), in which each fault has its number (`numbers`), and the reply
+//! a text (`answer_text`). (docs/COMMANDS.md)
 #![tactic(auto)]
 
 mod answer;
@@ -19,6 +20,7 @@ mod replies;
 mod running;
 mod show;
 mod tool;
+mod writing;
 
 pub use answer::Answer;
 pub use check::check_decides;

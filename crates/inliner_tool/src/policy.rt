@@ -2,13 +2,14 @@
 
 ghost use Rattle.std.specs.Prelude.{◌≡◌, ◌≤◌};
 ghost use Rattle.command_words.specs.Words.{Policy, policy_named};
-ghost use Rattle.inliner_tool.specs.Seen.{seen};
-ghost use Rattle.inliner_tool.specs.Answers.{Is, stopped};
-ghost use Rattle.inliner_tool.specs.Policy.{policy_answer};
-ghost use Rattle.inliner_tool.specs.Tool.{CarriesOut, IsAnswer};
 ghost use Rattle.input_files.specs.PolicyInputs.{IsOfListing};
+ghost use Rattle.inliner_tool.specs.Policy.{Judges};
+ghost use Rattle.inliner_tool.specs.Commands.{Makes, readings_of};
+ghost use Rattle.inliner_tool.specs.Seen.{seen};
+ghost use Rattle.inliner_tool.specs.Steps.{UnlessMemory};
 
-use crate::answer::{Answer, stopped};
+use crate::answer::{Answer, Made};
+use crate::refusal::{Ended, stopped};
 use command_words::PolicyWords;
 use conspec_automaton::{accept, build};
 use input_files::{PolicyInputs, read_policy};
@@ -16,30 +17,37 @@ use mon_base::NoMemory;
 use mon_store::Store;
 use std::alloc::Global;
 
-/// The answer to `policy`.
-pub fn answer_policy<S: Store>(alloc: Global, words: &PolicyWords, store: &mut S) -> Answer
-    ensures says { IsAnswer (λ answer. CarriesOut (seen S.files S.faults S.last store.old store.new)
-        (Policy (policy_named words.now)) answer) result }
+/// What `policy` makes of its files.
+pub fn make_policy<S: Store>(
+    alloc: Global,
+    words: &PolicyWords,
+    store: &mut S,
+) -> Result<Made, Ended>
+    ensures makes { UnlessMemory (Makes (readings_of (seen S.files S.faults S.last store.old store.new))
+        (Policy (policy_named words.now))) result }
     ensures files { S.files store.new ≡ S.files store.old }
     ensures faults { S.faults store.old ≤ S.faults store.new }
 {
     match read_policy(alloc, store, words) {
         Ok(inputs) => {
-            let answer = policy_answer(alloc, &inputs);
+            let made = policy_made(alloc, &inputs);
             drop(inputs);
-            answer
+            made
         }
-        Err(stop) => stopped(stop),
+        Err(stop) => Err(stopped(stop)),
     }
 }
 
 /// What the policy says of the events of the run.
-fn policy_answer(alloc: Global, inputs: &PolicyInputs) -> Answer
+fn policy_made(alloc: Global, inputs: &PolicyInputs) -> Result<Made, Ended>
     requires { IsOfListing inputs.now.policy }
-    ensures { Is result (policy_answer inputs.now) }
+    ensures { UnlessMemory (Judges inputs.now) result }
 {
     match build(alloc, &inputs.policy) {
-        Ok(policy) => Answer::Judged(accept(&policy, inputs.recorded.events.as_slice())),
-        Err(NoMemory) => Answer::Memory,
+        Ok(policy) => {
+            let verdict = accept(&policy, inputs.recorded.events.as_slice());
+            Ok(Made::just(alloc, Answer::Judged(verdict)))
+        }
+        Err(NoMemory) => Err(Ended::Memory),
     }
 }

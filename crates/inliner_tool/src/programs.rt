@@ -11,12 +11,13 @@ ghost use Rattle.bytecode_model.specs.Standing.{IsLinkedOf};
 ghost use Rattle.class_codec.specs.Fits.{CanSpell};
 ghost use Rattle.class_linking.specs.Linking.{linked};
 ghost use Rattle.input_files.specs.Named.{IsListed};
-ghost use Rattle.inliner_tool.specs.Programs.{Equals, Types, UnlessMemory, link_refusal, link_step, program_of};
+ghost use Rattle.inliner_tool.specs.Programs.{Types, link_end, link_step, program_of};
+ghost use Rattle.inliner_tool.specs.Steps.{Equals, UnlessMemory};
 ghost use Rattle.type_infer.specs.Untyped.{IsLeast};
 ghost use Rattle.typed_runs.specs.Programs.{IsLinkedProgram};
 
 use crate::classes::{label_of, within_total};
-use crate::refusal::Refusal;
+use crate::refusal::{Ended, Refusal};
 use api_listing::Listing;
 use bytecode_model::Side;
 use cert_format::Typing;
@@ -35,7 +36,7 @@ pub fn program_of(
     classes: ReadClasses,
     main: &Bytes,
     side: Side,
-) -> Result<Indexed, Refusal>
+) -> Result<Indexed, Ended>
     requires few { IsFew listing }
     requires listed { IsListed listing }
     requires fits { AllByRecursion CanSpell classes.files }
@@ -59,7 +60,7 @@ fn linked(
     listing: Listing,
     main: &Bytes,
     side: Side,
-) -> Result<Indexed, Refusal>
+) -> Result<Indexed, Ended>
     requires few { IsFew listing }
     requires listed { IsListed listing }
     requires fits { AllByRecursion CanSpell files }
@@ -74,22 +75,22 @@ fn linked(
 {
     match link(alloc, files, listing, main, side) {
         Ok(program) => Ok(Indexed::new(alloc, program)?),
-        Err(fault) => Err(link_refusal(fault)),
+        Err(fault) => Err(link_end(fault)),
     }
 }
 
 /// Why files do not link.
-fn link_refusal(fault: LinkFault) -> Refusal
-    ensures { result ≡ link_refusal fault }
+fn link_end(fault: LinkFault) -> Ended
+    ensures { result ≡ link_end fault }
 {
     match fault {
-        LinkFault::Memory => Refusal::Memory,
-        fault => Refusal::Link(fault),
+        LinkFault::Memory => Ended::Memory,
+        fault => Ended::Refused(Refusal::Link(fault)),
     }
 }
 
 /// The types of a program.
-pub fn types_of(alloc: Global, program: &Indexed) -> Result<Typing, Refusal>
+pub fn types_of(alloc: Global, program: &Indexed) -> Result<Typing, Ended>
     requires sound { IsSound program.now }
     requires order { IsInOrder program.now }
     ensures is { UnlessMemory (Types program.now) result }
@@ -101,8 +102,8 @@ pub fn types_of(alloc: Global, program: &Indexed) -> Result<Typing, Refusal>
         Err(fault) => fault,
     };
     let InferFault::Untyped { class, method, at } = fault else {
-        return Err(Refusal::Memory);
+        return Err(Ended::Memory);
     };
     let class = label_of(alloc, program.program(), class)?;
-    Err(Refusal::Untyped { class, method, at })
+    Err(Ended::Refused(Refusal::Untyped { class, method, at }))
 }

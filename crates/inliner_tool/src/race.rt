@@ -1,22 +1,21 @@
 //! The command `race`: its inputs, and what is decided of the policy.
 
 ghost use Rattle.std.specs.Prelude.{◌≡◌, ◌≤◌, ◌⊎◌, IfOk, IsOk, Ok};
+ghost use Rattle.cert_format.specs.declared.certificate.Mode.TheVariants as modes;
 ghost use Rattle.command_words.specs.Words.{Race, race_named};
 ghost use Rattle.conspec_automaton.specs.Sound.{IsPolicy};
 ghost use Rattle.conspec_tree.specs.Tree.{IsPolicyTree};
-ghost use Rattle.inliner_tool.specs.Seen.{seen};
-ghost use Rattle.inliner_tool.specs.Answers.{Is, stopped};
 ghost use Rattle.inliner_tool.specs.Decision.{RaceDecides};
-ghost use Rattle.inliner_tool.specs.Programs.{Equals, UnlessMemory};
-ghost use Rattle.inliner_tool.specs.Race.{race_answer, race_step, racy, undecided};
-ghost use Rattle.inliner_tool.specs.Tool.{CarriesOut, IsAnswer};
+ghost use Rattle.inliner_tool.specs.Race.{Races, race_step, racy, undecided};
+ghost use Rattle.inliner_tool.specs.Commands.{Makes, readings_of};
+ghost use Rattle.inliner_tool.specs.Seen.{seen};
+ghost use Rattle.inliner_tool.specs.Steps.{Equals, UnlessMemory};
 ghost use Rattle.inliner_tool.specs.Weaving.{IsFreeOfRaces, auto_mode};
-ghost use Rattle.cert_format.specs.declared.certificate.Mode.TheVariants as modes;
-ghost use Rattle.inliner_tool.specs.declared.refusal.Refusal.TheVariants as refusals;
+ghost use Rattle.inliner_tool.specs.declared.refusal.Ended.TheVariants as ends;
 ghost use Rattle.race_free_check.specs.Deciding.{decided};
 
-use crate::answer::{Answer, refused, stopped};
-use crate::refusal::Refusal;
+use crate::answer::{Answer, Made};
+use crate::refusal::{Ended, Refusal, stopped};
 use api_listing::{Event, Listing};
 use cert_format::Mode;
 use command_words::RaceWords;
@@ -29,35 +28,35 @@ use race_example::example_text;
 use race_free_check::{RaceFault, RaceVerdict, decide};
 use std::alloc::Global;
 
-/// The answer to `race`.
-pub fn answer_race<S: Store>(alloc: Global, words: &RaceWords, store: &mut S) -> Answer
-    ensures says { IsAnswer (λ answer. CarriesOut (seen S.files S.faults S.last store.old store.new)
-        (Race (race_named words.now)) answer) result }
+/// What `race` makes of its files.
+pub fn make_race<S: Store>(alloc: Global, words: &RaceWords, store: &mut S) -> Result<Made, Ended>
+    ensures makes { UnlessMemory (Makes (readings_of (seen S.files S.faults S.last store.old store.new))
+        (Race (race_named words.now))) result }
     ensures files { S.files store.new ≡ S.files store.old }
     ensures faults { S.faults store.old ≤ S.faults store.new }
 {
     match read_race(alloc, store, words) {
         Ok(inputs) => {
-            let answer = race_answer(alloc, &inputs);
+            let made = race_made(alloc, &inputs);
             drop(inputs);
-            answer
+            made
         }
-        Err(stop) => stopped(stop),
+        Err(stop) => Err(stopped(stop)),
     }
 }
 
 /// What is decided of the policy.
-fn race_answer(alloc: Global, inputs: &RaceInputs) -> Answer
+fn race_made(alloc: Global, inputs: &RaceInputs) -> Result<Made, Ended>
     requires { IsPolicyTree inputs.now.listing inputs.now.policy }
-    ensures { Is result (race_answer inputs.now) }
+    ensures { UnlessMemory (Races inputs.now) result }
 {
     let policy = match build(alloc, &inputs.policy) {
         Ok(policy) => policy,
-        Err(NoMemory) => return Answer::Memory,
+        Err(NoMemory) => return Err(Ended::Memory),
     };
     match race_step(alloc, &inputs.policy, &inputs.listing, &policy) {
-        Ok(()) => Answer::RaceFree,
-        Err(refusal) => refused(refusal),
+        Ok(()) => Ok(Made::just(alloc, Answer::RaceFree)),
+        Err(ended) => Err(ended),
     }
 }
 
@@ -67,7 +66,7 @@ pub fn race_step(
     tree: &PolicyTree,
     listing: &Listing,
     policy: &Policy,
-) -> Result<(), Refusal>
+) -> Result<(), Ended>
     requires { IsPolicy policy.now }
     ensures is { UnlessMemory (Equals (race_step tree.now listing.now (decided policy.now))) result }
     ensures free { IsOk result → IsFreeOfRaces policy.now }
@@ -95,12 +94,12 @@ pub fn racy(
     state: &State,
     first: &Event,
     second: &Option<Event>,
-) -> Refusal
-    ensures { (result ≡ racy tree.now listing.now condition state.now first.now second.now) ⊎ (result ≡ refusals.Memory) }
+) -> Ended
+    ensures { (result ≡ ends.Refused (racy tree.now listing.now condition state.now first.now second.now)) ⊎ (result ≡ ends.Memory) }
 {
     match example_text(alloc, tree, listing, state, first, second) {
-        Ok(example) => Refusal::Racy { condition, example },
-        Err(NoMemory) => Refusal::Memory,
+        Ok(example) => Ended::Refused(Refusal::Racy { condition, example }),
+        Err(NoMemory) => Ended::Memory,
     }
 }
 
@@ -120,7 +119,7 @@ pub fn auto_mode(alloc: Global, policy: &Policy) -> Result<Mode, NoMemory>
 }
 
 /// Why it is not decided.
-fn undecided(fault: RaceFault) -> Refusal
+fn undecided(fault: RaceFault) -> Ended
     ensures { result ≡ undecided fault }
 {
     match fault {
@@ -128,17 +127,17 @@ fn undecided(fault: RaceFault) -> Refusal
             first,
             second,
             count,
-        } => Refusal::CellLimit {
+        } => Ended::Refused(Refusal::CellLimit {
             first,
             second,
             count,
-        },
-        RaceFault::Memory => Refusal::Memory,
+        }),
+        RaceFault::Memory => Ended::Memory,
     }
 }
 
-/// To files that are a listing and a policy, where the store tells them and counts no fault, `race` answers yes or no, or
-/// that memory ran out: its status is 0, 1 or 7.
+/// To files that are a listing and a policy, where the store tells them and counts no fault, `race` answers yes or no,
+/// unless memory runs out: its status is 0, 1 or 7.
 pub fn race_decides()
     ensures { RaceDecides }
 {}

@@ -1,17 +1,24 @@
-//! Why a command ends before its work is done.
+//! Why a command ends before its answer.
 
 ghost use Rattle.std.specs.Prelude.{◌≡◌};
-ghost use Rattle.inliner_tool.specs.Replay.{replay_refusal};
-ghost use Rattle.inliner_tool.specs.declared.refusal.Refusal.TheVariants as refusals;
+ghost use Rattle.inliner_tool.specs.Replay.{replay_end};
+ghost use Rattle.inliner_tool.specs.Steps.{stopped};
+ghost use Rattle.inliner_tool.specs.declared.refusal.Ended.TheVariants as ends;
 
+use cert_checker::CheckFault;
 use class_linking::LinkFault;
 use guest_replay::ReplayFault;
+use input_files::{InputFault, Stop};
 use mon_base::{Bytes, NoMemory};
 use offset_patch::Size;
 
-/// Why a command ends before its work is done.
+/// Why a command ends before its answer.
 #[derive(Drop)]
 pub enum Refusal {
+    /// The first file that is not what it is named for, and why.
+    Input(Bytes, InputFault),
+    /// The file that could not be read.
+    Unread(Bytes),
     /// The class files have so many bytes in all, which is too many.
     TotalLong {
         len: u64,
@@ -24,6 +31,8 @@ pub enum Refusal {
         method: u32,
         at: u32,
     },
+    /// The first test of a certificate that fails, and the name of its class.
+    Denied(CheckFault, Bytes),
     /// The events of the policy race: the first condition that is broken, by its number, and a state and events that break it, as
     /// they are printed.
     Racy {
@@ -52,25 +61,45 @@ pub enum Refusal {
     NotEnabled {
         index: u64,
     },
+    /// The file that could not be written.
+    Unwritten(Bytes),
+}
+
+/// Why a step of a command gives nothing.
+#[derive(Drop)]
+pub enum Ended {
+    /// The command ends before its answer.
+    Refused(Refusal),
     /// Memory ran out.
     Memory,
 }
 
-impl From<ReplayFault> for Refusal {
-    ghost from_gives = { λ fault refusal. refusal ≡ replay_refusal fault };
+/// Why a command ends where the reading of its files stopped.
+pub fn stopped(stop: Stop) -> Ended
+    ensures { result ≡ stopped stop }
+{
+    match stop {
+        Stop::Input(name, fault) => Ended::Refused(Refusal::Input(name, fault)),
+        Stop::Unread(name) => Ended::Refused(Refusal::Unread(name)),
+        Stop::Memory => Ended::Memory,
+    }
+}
 
-    fn from(fault: ReplayFault) -> Refusal {
+impl From<ReplayFault> for Ended {
+    ghost from_gives = { λ fault ended. ended ≡ replay_end fault };
+
+    fn from(fault: ReplayFault) -> Ended {
         match fault {
-            ReplayFault::NotEnabled { index } => Refusal::NotEnabled { index },
-            ReplayFault::Memory => Refusal::Memory,
+            ReplayFault::NotEnabled { index } => Ended::Refused(Refusal::NotEnabled { index }),
+            ReplayFault::Memory => Ended::Memory,
         }
     }
 }
 
-impl From<NoMemory> for Refusal {
-    ghost from_gives = { λ _ e. e ≡ refusals.Memory };
+impl From<NoMemory> for Ended {
+    ghost from_gives = { λ _ ended. ended ≡ ends.Memory };
 
-    fn from(_error: NoMemory) -> Refusal {
-        Refusal::Memory
+    fn from(_error: NoMemory) -> Ended {
+        Ended::Memory
     }
 }

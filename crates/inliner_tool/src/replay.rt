@@ -5,20 +5,20 @@ ghost use Rattle.cert_format.specs.declared.typing.Typing.{Typing};
 ghost use Rattle.command_words.specs.ReplayWords.{replay_named};
 ghost use Rattle.command_words.specs.Words.{Replay};
 ghost use Rattle.guest_model.specs.Ready.{IsReady};
+ghost use Rattle.inliner_tool.specs.Commands.{Makes, readings_of};
 ghost use Rattle.inliner_tool.specs.Seen.{seen};
-ghost use Rattle.inliner_tool.specs.Answers.{EndsWell};
-ghost use Rattle.inliner_tool.specs.Programs.{Equals, Types, UnlessMemory};
-ghost use Rattle.inliner_tool.specs.Replay.{InputsRun, ReplayedRuns, Tells, end_told, run_text, steps_told};
+ghost use Rattle.inliner_tool.specs.Programs.{Types};
+ghost use Rattle.inliner_tool.specs.Replay.{InputsRun, ReplayedRuns, Replays, Tells, end_told, run_text, steps_told};
 ghost use Rattle.inliner_tool.specs.ReplayDecision.{ReplayDecides};
 ghost use Rattle.inliner_tool.specs.Running.{RunsTyped};
-ghost use Rattle.inliner_tool.specs.Tool.{CarriesOut, IsAnswer};
+ghost use Rattle.inliner_tool.specs.Steps.{Equals, UnlessMemory};
 ghost use Rattle.input_files.specs.Forms.{Then};
 ghost use Rattle.input_files.specs.ReplayInputs.{ReplaySound};
 ghost use Rattle.typed_runs.specs.Programs.{IsLinkedProgram};
 
-use crate::answer::{Answer, refused, stopped};
+use crate::answer::{Answer, Made};
 use crate::programs::{program_of, types_of};
-use crate::refusal::Refusal;
+use crate::refusal::{Ended, stopped};
 use crate::running::linked_programs_run_typed;
 use bytecode_model::Side;
 use command_words::ReplayWords;
@@ -32,28 +32,39 @@ use mon_store::Store;
 use std::alloc::Global;
 use type_lattice::Indexed;
 
-/// The answer to `replay`.
-pub fn answer_replay<S: Store>(alloc: Global, words: &ReplayWords, store: &mut S) -> Answer
-    ensures says { IsAnswer (λ answer. CarriesOut (seen S.files S.faults S.last store.old store.new)
-        (Replay (replay_named words.now)) answer) result }
-    ensures runs { EndsWell result
-        → ReplayedRuns (seen S.files S.faults S.last store.old store.new) (replay_named words.now) }
+/// What `replay` makes of its files.
+pub fn make_replay<S: Store>(
+    alloc: Global,
+    words: &ReplayWords,
+    store: &mut S,
+) -> Result<Made, Ended>
+    ensures makes { UnlessMemory (Makes (readings_of (seen S.files S.faults S.last store.old store.new))
+        (Replay (replay_named words.now))) result }
+    ensures runs { IfOk result (λ made.
+        ReplayedRuns (seen S.files S.faults S.last store.old store.new) (replay_named words.now)) }
     ensures files { S.files store.new ≡ S.files store.old }
     ensures faults { S.faults store.old ≤ S.faults store.new }
 {
     match read_replay(alloc, store, words) {
-        Ok(inputs) => {
-            match told(alloc, inputs, words.main) {
-                Ok(text) => Answer::Replayed(text),
-                Err(refusal) => refused(refusal),
-            }
-        }
-        Err(stop) => stopped(stop),
+        Ok(inputs) => replay_made(alloc, inputs, words.main),
+        Err(stop) => Err(stopped(stop)),
+    }
+}
+
+/// The run, told.
+fn replay_made(alloc: Global, inputs: ReplayInputs, main: &Bytes) -> Result<Made, Ended>
+    requires { ReplaySound inputs }
+    ensures replays { UnlessMemory (Replays main.now inputs) result }
+    ensures runs { IfOk result (λ made. InputsRun main.now inputs) }
+{
+    match told(alloc, inputs, main) {
+        Ok(text) => Ok(Made::just(alloc, Answer::Replayed(text))),
+        Err(ended) => Err(ended),
     }
 }
 
 /// Links and types the class files, makes the steps of the record, and tells the run.
-fn told(alloc: Global, inputs: ReplayInputs, main: &Bytes) -> Result<Bytes, Refusal>
+fn told(alloc: Global, inputs: ReplayInputs, main: &Bytes) -> Result<Bytes, Ended>
     requires { ReplaySound inputs }
     ensures tells { UnlessMemory (Tells main.now inputs) result }
     ensures runs { IfOk result (λ text. InputsRun main.now inputs) }
@@ -70,7 +81,7 @@ fn told(alloc: Global, inputs: ReplayInputs, main: &Bytes) -> Result<Bytes, Refu
 }
 
 /// What is told of the run that these steps are, of a program that has types.
-fn typed_told(alloc: Global, program: Indexed, steps: &[Step]) -> Result<Bytes, Refusal>
+fn typed_told(alloc: Global, program: Indexed, steps: &[Step]) -> Result<Bytes, Ended>
     requires ready { IsReady program }
     requires linked { IsLinkedProgram program }
     ensures tells { UnlessMemory (Then (Types program) (λ typing. Equals (steps_told program steps.now))) result }
@@ -79,15 +90,15 @@ fn typed_told(alloc: Global, program: Indexed, steps: &[Step]) -> Result<Bytes, 
     linked_programs_run_typed();
     match types_of(alloc, &program) {
         Ok(_) => steps_told(alloc, program, steps),
-        Err(refusal) => {
+        Err(ended) => {
             drop(program);
-            Err(refusal)
+            Err(ended)
         }
     }
 }
 
 /// What is told of the run that these steps are.
-fn steps_told(alloc: Global, program: Indexed, steps: &[Step]) -> Result<Bytes, Refusal>
+fn steps_told(alloc: Global, program: Indexed, steps: &[Step]) -> Result<Bytes, Ended>
     requires { IsReady program }
     ensures { UnlessMemory (Equals (steps_told program steps.now)) result }
 {
@@ -98,7 +109,7 @@ fn steps_told(alloc: Global, program: Indexed, steps: &[Step]) -> Result<Bytes, 
 }
 
 /// What is told of the run that these steps are of the stepper's program.
-fn run_told(alloc: Global, stepper: &Stepper, steps: &[Step]) -> Result<Bytes, Refusal>
+fn run_told(alloc: Global, stepper: &Stepper, steps: &[Step]) -> Result<Bytes, Ended>
     ensures { UnlessMemory (Equals (steps_told stepper.now steps.now)) result }
 {
     let run = replay(alloc, stepper, steps)?;
@@ -136,7 +147,7 @@ fn end_told(end: Option<End>) -> EndLine
 }
 
 /// To files in their grammars and limits that link to a program with types, where the store tells them and counts no fault,
-/// `replay` tells the run, or the first step that is not enabled, or that memory ran out: its status is 0, 1 or 7.
+/// `replay` tells the run, or the first step that is not enabled, unless memory runs out: its status is 0, 1 or 7.
 pub fn replay_decides()
     ensures { ReplayDecides }
 {}

@@ -1,10 +1,18 @@
-//! What is printed for an answer.
+//! What is printed for an outcome.
 
-ghost use Rattle.std.specs.Prelude.{◌≡◌, None, Some, IfOk};
-ghost use Rattle.answer_text.specs.declared.line.Line.TheVariants as lines;
-ghost use Rattle.answer_text.specs.declared.reply.Reply.TheVariants as replies;
+ghost use Rattle.std.specs.Prelude.{◌≡◌, None, Some, IfOk, Ok, Err};
 ghost use Rattle.inliner_tool.specs.declared.answer.Answer.TheVariants as answers;
-ghost use Rattle.inliner_tool.specs.Replies.{input, mode_name, refusal_reply, reply_of, answer_spelled, verdict_reply};
+ghost use Rattle.inliner_tool.specs.Replies.{
+  answer_reply,
+  denied,
+  input,
+  mode_name,
+  outcome_spelled,
+  overflow,
+  refusal_reply,
+  usage_spelled,
+  verdict_reply,
+};
 
 use crate::answer::Answer;
 use crate::numbers::{
@@ -12,7 +20,7 @@ use crate::numbers::{
     race_report, size_report, step_report, total_report, untyped_report,
 };
 use crate::refusal::Refusal;
-use answer_text::{Line, Reply, Report};
+use answer_text::{Line, Reply, Report, text_of};
 use cert_checker::Accepted;
 use cert_format::Mode;
 use conspec_automaton::Verdict;
@@ -21,41 +29,43 @@ use std::alloc::Global;
 
 /// The whole output for an answer.
 pub fn answer_spelled(alloc: Global, answer: Answer) -> Result<Bytes, NoMemory>
-    ensures { IfOk result (λ text. text ≡ answer_spelled answer) }
+    ensures { IfOk result (λ text. text ≡ outcome_spelled (Ok answer)) }
 {
-    let reply = reply_of(alloc, answer)?;
-    answer_text::text_of(alloc, reply)
+    let reply = answer_reply(alloc, answer)?;
+    text_of(alloc, reply)
+}
+
+/// The whole output where a command ended before its answer.
+pub fn refusal_spelled(alloc: Global, refusal: Refusal) -> Result<Bytes, NoMemory>
+    ensures { IfOk result (λ text. text ≡ outcome_spelled (Err refusal)) }
+{
+    let reply = refusal_reply(alloc, refusal)?;
+    text_of(alloc, reply)
+}
+
+/// The output for words that are no command's.
+pub fn usage_spelled(alloc: Global) -> Result<Bytes, NoMemory>
+    ensures { IfOk result (λ text. text ≡ usage_spelled) }
+{
+    text_of(alloc, Reply::Line(Line::Usage))
 }
 
 /// What is printed for an answer.
-fn reply_of(alloc: Global, answer: Answer) -> Result<Reply, NoMemory>
-    ensures { IfOk result (λ reply. reply ≡ reply_of answer) }
+fn answer_reply(alloc: Global, answer: Answer) -> Result<Reply, NoMemory>
+    ensures { IfOk result (λ reply. reply ≡ answer_reply answer) }
 {
     match answer {
         Answer::Accepted(accepted) => accepted_reply(alloc, accepted),
-        Answer::Denied(fault, label) => {
-            let report = check_report(alloc, fault, label)?;
-            Ok(denied(report))
-        }
         Answer::Shown(text) => Ok(Reply::Text(text)),
         Answer::Judged(verdict) => verdict_reply(alloc, verdict),
         Answer::RaceFree => Ok(Reply::Line(Line::Free)),
         Answer::Inlined { accepted, classes } => inlined_reply(alloc, accepted, classes),
         Answer::Replayed(text) => Ok(Reply::Text(text)),
-        Answer::Input(name, fault) => {
-            let report = input_report(alloc, fault)?;
-            Ok(input(Some(name), report))
-        }
-        Answer::Refused(refusal) => refusal_reply(alloc, refusal),
-        Answer::Unread(name) => Ok(Reply::Line(Line::Store(name))),
-        Answer::Unwritten(name) => Ok(Reply::Line(Line::Store(name))),
-        Answer::Usage => Ok(Reply::Line(Line::Usage)),
-        Answer::Memory => Ok(Reply::Nothing),
     }
 }
 
 fn accepted_reply(alloc: Global, accepted: Accepted) -> Result<Reply, NoMemory>
-    ensures { IfOk result (λ reply. reply ≡ reply_of (answers.Accepted accepted)) }
+    ensures { IfOk result (λ reply. reply ≡ answer_reply (answers.Accepted accepted)) }
 {
     let mode = Bytes::from_slice(alloc, mode_name(accepted.mode))?;
     Ok(Reply::Line(Line::Accepted {
@@ -65,7 +75,7 @@ fn accepted_reply(alloc: Global, accepted: Accepted) -> Result<Reply, NoMemory>
 }
 
 fn inlined_reply(alloc: Global, accepted: Accepted, classes: u64) -> Result<Reply, NoMemory>
-    ensures { IfOk result (λ reply. reply ≡ reply_of (answers.Inlined accepted classes)) }
+    ensures { IfOk result (λ reply. reply ≡ answer_reply (answers.Inlined accepted classes)) }
 {
     let mode = Bytes::from_slice(alloc, mode_name(accepted.mode))?;
     Ok(Reply::Line(Line::Inlined {
@@ -97,11 +107,16 @@ fn verdict_reply(alloc: Global, verdict: Verdict) -> Result<Reply, NoMemory>
     }
 }
 
-/// What is printed where a command ended before its work was done.
+/// What is printed where a command ended before its answer.
 fn refusal_reply(alloc: Global, refusal: Refusal) -> Result<Reply, NoMemory>
     ensures { IfOk result (λ reply. reply ≡ refusal_reply refusal) }
 {
     match refusal {
+        Refusal::Input(name, fault) => {
+            let report = input_report(alloc, fault)?;
+            Ok(input(Some(name), report))
+        }
+        Refusal::Unread(name) => Ok(Reply::Line(Line::Store(name))),
         Refusal::TotalLong { len } => {
             let report = total_report(alloc, len)?;
             Ok(input(None, report))
@@ -113,6 +128,10 @@ fn refusal_reply(alloc: Global, refusal: Refusal) -> Result<Reply, NoMemory>
         Refusal::Untyped { class, method, at } => {
             let report = untyped_report(alloc, class, method, at)?;
             Ok(input(None, report))
+        }
+        Refusal::Denied(fault, label) => {
+            let report = check_report(alloc, fault, label)?;
+            Ok(denied(report))
         }
         Refusal::Racy { condition, example } => {
             let report = race_report(alloc, condition, example)?;
@@ -143,13 +162,13 @@ fn refusal_reply(alloc: Global, refusal: Refusal) -> Result<Reply, NoMemory>
             let report = step_report(alloc, index)?;
             Ok(denied(report))
         }
-        Refusal::Memory => Ok(Reply::Nothing),
+        Refusal::Unwritten(name) => Ok(Reply::Line(Line::Store(name))),
     }
 }
 
 /// The answer no.
 fn denied(report: Report) -> Reply
-    ensures { result ≡ replies.Line (lines.Denied report) }
+    ensures { result ≡ denied report }
 {
     Reply::Line(Line::Denied(report))
 }
@@ -163,7 +182,7 @@ fn input(name: Option<Bytes>, report: Report) -> Reply
 
 /// A size that does not fit.
 fn overflow(report: Report) -> Reply
-    ensures { result ≡ replies.Line (lines.Overflow report.fields) }
+    ensures { result ≡ overflow report }
 {
     Reply::Line(Line::Overflow(report.fields))
 }

@@ -4,15 +4,14 @@ ghost use Rattle.std.specs.Prelude.{◌≡◌, ◌≤◌};
 ghost use Rattle.std.specs.List.{AllByRecursion};
 ghost use Rattle.class_codec.specs.Fits.{CanSpell};
 ghost use Rattle.command_words.specs.Words.{Show, show_named};
+ghost use Rattle.inliner_tool.specs.Commands.{Makes, readings_of};
 ghost use Rattle.inliner_tool.specs.Seen.{seen};
-ghost use Rattle.inliner_tool.specs.Answers.{Is, stopped};
-ghost use Rattle.inliner_tool.specs.Programs.{Equals, UnlessMemory};
-ghost use Rattle.inliner_tool.specs.Show.{show_answer, show_refusal, text_shown};
-ghost use Rattle.inliner_tool.specs.Tool.{CarriesOut, IsAnswer};
+ghost use Rattle.inliner_tool.specs.Show.{Shows, show_end, text_shown};
+ghost use Rattle.inliner_tool.specs.Steps.{Equals, UnlessMemory};
 
-use crate::answer::{Answer, refused, stopped};
+use crate::answer::{Answer, Made};
 use crate::classes::within_total;
-use crate::refusal::Refusal;
+use crate::refusal::{Ended, Refusal, stopped};
 use class_linking::LinkFault;
 use class_text::{ShowFault, show};
 use command_words::ShowWords;
@@ -21,60 +20,60 @@ use mon_base::Bytes;
 use mon_store::Store;
 use std::alloc::Global;
 
-/// The answer to `show`.
-pub fn answer_show<S: Store>(alloc: Global, words: &ShowWords, store: &mut S) -> Answer
-    ensures says { IsAnswer (λ answer. CarriesOut (seen S.files S.faults S.last store.old store.new)
-        (Show (show_named words.now)) answer) result }
+/// What `show` makes of its files.
+pub fn make_show<S: Store>(alloc: Global, words: &ShowWords, store: &mut S) -> Result<Made, Ended>
+    ensures makes { UnlessMemory (Makes (readings_of (seen S.files S.faults S.last store.old store.new))
+        (Show (show_named words.now))) result }
     ensures files { S.files store.new ≡ S.files store.old }
     ensures faults { S.faults store.old ≤ S.faults store.new }
 {
     match read_show(alloc, store, words) {
         Ok(inputs) => {
-            let answer = show_answer(alloc, &inputs);
+            let made = show_made(alloc, &inputs);
             drop(inputs);
-            answer
+            made
         }
-        Err(stop) => stopped(stop),
+        Err(stop) => Err(stopped(stop)),
     }
 }
 
-/// What is answered where class files are shown.
-fn show_answer(alloc: Global, inputs: &ShowInputs) -> Answer
+/// The class files, shown.
+fn show_made(alloc: Global, inputs: &ShowInputs) -> Result<Made, Ended>
     requires { AllByRecursion CanSpell inputs.now.classes.files }
-    ensures { Is result (show_answer inputs.now) }
+    ensures { UnlessMemory (Shows inputs.now) result }
 {
     match text_shown(alloc, inputs) {
-        Ok(text) => Answer::Shown(text),
-        Err(refusal) => refused(refusal),
+        Ok(text) => Ok(Made::just(alloc, Answer::Shown(text))),
+        Err(ended) => Err(ended),
     }
 }
 
 /// The text of class files that are not too long in all.
-fn text_shown(alloc: Global, inputs: &ShowInputs) -> Result<Bytes, Refusal>
+fn text_shown(alloc: Global, inputs: &ShowInputs) -> Result<Bytes, Ended>
     requires { AllByRecursion CanSpell inputs.now.classes.files }
     ensures { UnlessMemory (Equals (text_shown inputs.now)) result }
 {
     within_total(&inputs.classes)?;
     match show(alloc, &inputs.listing, inputs.classes.files.as_slice()) {
         Ok(text) => Ok(text),
-        Err(fault) => Err(show_refusal(fault)),
+        Err(fault) => Err(show_end(fault)),
     }
 }
 
 /// Why class files are not shown.
-fn show_refusal(fault: ShowFault) -> Refusal
-    ensures { result ≡ show_refusal fault }
+fn show_end(fault: ShowFault) -> Ended
+    ensures { result ≡ show_end fault }
 {
     match fault {
         ShowFault::Code {
             class,
             method,
             fault,
-        } => Refusal::Link(LinkFault::Code {
+        } => Ended::Refused(Refusal::Link(LinkFault::Code {
             class,
             method,
             fault,
-        }),
-        ShowFault::Memory => Refusal::Memory,
+        })),
+        ShowFault::Memory => Ended::Memory,
     }
 }

@@ -1,33 +1,45 @@
 //! The top call: the words of a command, the answer over a store, and the output that a sink takes.
 
-ghost use Rattle.std.specs.Prelude.{◌≡◌, ◌≢◌, ◌≤◌, Some};
+ghost use Rattle.std.specs.Prelude.{◌≡◌, ◌≢◌, ◌≤◌, ℕ, List, Some, IfOk};
 ghost use Rattle.command_words.specs.InlineWords.{IsInline, NamedInline};
 ghost use Rattle.command_words.specs.ReplayWords.{IsReplay, NamedReplay};
-ghost use Rattle.command_words.specs.Words.{IsCheck, NamedCheck};
-ghost use Rattle.inliner_tool.specs.Seen.{seen};
-ghost use Rattle.inliner_tool.specs.Answers.{EndsWell};
+ghost use Rattle.command_words.specs.Words.{Check, Inline, IsCheck, NamedCheck, Replay, named_by};
+ghost use Rattle.input_files.specs.Contents.{Contents};
+ghost use Rattle.inliner_tool.specs.Commands.{Makes, readings_of};
 ghost use Rattle.inliner_tool.specs.Decides.{Decides, GivesOnce};
 ghost use Rattle.inliner_tool.specs.Headline.{Obeyed};
-ghost use Rattle.inliner_tool.specs.Inline.{IsInlined, Leaves};
+ghost use Rattle.inliner_tool.specs.Inline.{IsInlined, IsReadyToWrite};
 ghost use Rattle.inliner_tool.specs.Replay.{ReplayedRuns};
+ghost use Rattle.inliner_tool.specs.Seen.{seen};
 ghost use Rattle.inliner_tool.specs.Status.{code_of};
-ghost use Rattle.inliner_tool.specs.Tool.{CheckedRuns, Holds, Replies, Says, judged_status, refusal_status, status_of};
-ghost use Rattle.input_files.specs.Contents.{Contents};
+ghost use Rattle.inliner_tool.specs.Steps.{UnlessMemory};
+ghost use Rattle.inliner_tool.specs.Tool.{
+  CheckedRuns,
+  Holds,
+  IsOutcomeStatus,
+  Puts,
+  Replies,
+  answer_status,
+  judged_status,
+  refusal_status,
+};
+ghost use Rattle.inliner_tool.specs.Writing.{Begins, CarriesOut, Leaves};
 ghost use Rattle.mon_store.specs.Store.{Rose};
 
-use crate::answer::Answer;
-use crate::check::answer_check;
-use crate::inline::answer_inline;
-use crate::policy::answer_policy;
-use crate::race::answer_race;
-use crate::refusal::Refusal;
-use crate::replay::answer_replay;
-use crate::replies::answer_spelled;
-use crate::show::answer_show;
+use crate::answer::{Answer, Made};
+use crate::check::make_check;
+use crate::inline::make_inline;
+use crate::policy::make_policy;
+use crate::race::make_race;
+use crate::refusal::{Ended, Refusal};
+use crate::replay::make_replay;
+use crate::replies::{answer_spelled, refusal_spelled, usage_spelled};
+use crate::show::make_show;
+use crate::writing::write_made;
 use command_words::{Command, command_of};
 use conspec_automaton::Verdict;
 use input_files::told_files_are_read;
-use mon_base::Bytes;
+use mon_base::{Bytes, NoMemory};
 use mon_store::{Sink, SinkFault, Store};
 use std::alloc::Global;
 
@@ -104,7 +116,7 @@ pub fn run_tool<S: Store, K: Sink>(
     ensures inlined { (named : NamedInline) → IsInline words.now named → result ≡ Status.Done
         → IsInlined (seen S.files S.faults S.last store.old store.new) named }
 
-    // The answer that its case gives, and the output for it.
+    // The status is that of the command's outcome, and the output is for it; of words that are no command's, the usage line.
     ensures answer { Replies (seen S.files S.faults S.last store.old store.new) words.now
         (K.text out.old) (K.text out.new) (Rose (K.faults out.old) (K.faults out.new)) result }
 
@@ -120,12 +132,81 @@ pub fn run_tool<S: Store, K: Sink>(
     ensures sink_faults { K.faults out.old ≤ K.faults out.new }
 {
     told_files_are_read();
-    let answer = answer_to(alloc, words, store);
-    let status = status_of(&answer);
-    if status == Status::Memory {
-        return Status::Memory;
+    let Some(command) = command_of(words) else {
+        return put(out, Status::Usage, usage_spelled(alloc));
+    };
+    match carry_out(alloc, &command, store) {
+        Ok(answer) => put(out, answer_status(&answer), answer_spelled(alloc, answer)),
+        Err(Ended::Refused(refusal)) => {
+            put(
+                out,
+                refusal_status(&refusal),
+                refusal_spelled(alloc, refusal),
+            )
+        }
+        Err(Ended::Memory) => Status::Memory,
     }
-    let Ok(text) = answer_spelled(alloc, answer) else {
+}
+
+/// A command comes to one outcome over the same files; but of `inline` it is left open which of the least typings a certificate
+/// tells.
+pub fn answers_are_one()
+    ensures { GivesOnce }
+{}
+
+// ---- commands
+
+/// What a command makes of its files is written, and then answered.
+fn carry_out<S: Store>(alloc: Global, command: &Command, store: &mut S) -> Result<Answer, Ended>
+    ensures carries { UnlessMemory
+        (CarriesOut (seen S.files S.faults S.last store.old store.new) (named_by command.now)) result }
+    ensures holds { (named : NamedCheck) → named_by command.now ≡ Check named
+        → IfOk result (λ answer. Holds (seen S.files S.faults S.last store.old store.new) named) }
+    ensures replay_runs { (named : NamedReplay) → named_by command.now ≡ Replay named
+        → IfOk result (λ answer. ReplayedRuns (seen S.files S.faults S.last store.old store.new) named) }
+    ensures inlined { (named : NamedInline) → named_by command.now ≡ Inline named
+        → IfOk result (λ answer. IsInlined (seen S.files S.faults S.last store.old store.new) named) }
+    ensures files { Begins (seen S.files S.faults S.last store.old store.new) (named_by command.now) }
+    ensures faults { S.faults store.old ≤ S.faults store.new }
+{
+    match make(alloc, command, store) {
+        Ok(made) => write_made(alloc, made, store),
+        Err(ended) => Err(ended),
+    }
+}
+
+/// What a command makes of its files.
+fn make<S: Store>(alloc: Global, command: &Command, store: &mut S) -> Result<Made, Ended>
+    ensures makes { UnlessMemory
+        (Makes (readings_of (seen S.files S.faults S.last store.old store.new)) (named_by command.now)) result }
+    ensures holds { (named : NamedCheck) → named_by command.now ≡ Check named
+        → IfOk result (λ made. Holds (seen S.files S.faults S.last store.old store.new) named) }
+    ensures replay_runs { (named : NamedReplay) → named_by command.now ≡ Replay named
+        → IfOk result (λ made. ReplayedRuns (seen S.files S.faults S.last store.old store.new) named) }
+    ensures ready { (named : NamedInline) → named_by command.now ≡ Inline named
+        → IfOk result (IsReadyToWrite (seen S.files S.faults S.last store.old store.new) named) }
+    ensures files { S.files store.new ≡ S.files store.old }
+    ensures faults { S.faults store.old ≤ S.faults store.new }
+{
+    match command {
+        Command::Check(words) => make_check(alloc, words, store),
+        Command::Show(words) => make_show(alloc, words, store),
+        Command::Policy(words) => make_policy(alloc, words, store),
+        Command::Race(words) => make_race(alloc, words, store),
+        Command::Inline(words) => make_inline(alloc, words, store),
+        Command::Replay(words) => make_replay(alloc, words, store),
+    }
+}
+
+// ---- the reply
+
+/// Puts an output into the sink: the status that it is to end with, or that of a fault of the sink, or that of memory.
+fn put<K: Sink>(out: &mut K, status: Status, output: Result<Bytes, NoMemory>) -> Status
+    ensures puts { (printed : List ℕ) → IfOk output (λ text. text ≡ printed)
+        → Puts (K.text out.old) (K.text out.new) (Rose (K.faults out.old) (K.faults out.new)) printed status result }
+    ensures faults { K.faults out.old ≤ K.faults out.new }
+{
+    let Ok(text) = output else {
         return Status::Memory;
     };
     match out.put(text.as_slice()) {
@@ -135,58 +216,25 @@ pub fn run_tool<S: Store, K: Sink>(
     }
 }
 
-/// A command has one answer to the same files; but of `inline` it is left open which of the least typings a certificate tells.
-pub fn answers_are_one()
-    ensures { GivesOnce }
-{}
-
-/// The answer to the words, over the store's files.
-fn answer_to<S: Store>(alloc: Global, words: &[Bytes], store: &mut S) -> Answer
-    ensures says { Says (seen S.files S.faults S.last store.old store.new) words.now result }
-    ensures holds { (named : NamedCheck) → IsCheck words.now named → EndsWell result
-        → Holds (seen S.files S.faults S.last store.old store.new) named }
-    ensures replay_runs { (named : NamedReplay) → IsReplay words.now named → EndsWell result
-        → ReplayedRuns (seen S.files S.faults S.last store.old store.new) named }
-    ensures inlined { (named : NamedInline) → IsInline words.now named → EndsWell result
-        → IsInlined (seen S.files S.faults S.last store.old store.new) named }
-    ensures files { Leaves (seen S.files S.faults S.last store.old store.new) words.now }
-    ensures faults { S.faults store.old ≤ S.faults store.new }
-{
-    match command_of(words) {
-        Some(Command::Check(words)) => answer_check(alloc, &words, store),
-        Some(Command::Show(words)) => answer_show(alloc, &words, store),
-        Some(Command::Policy(words)) => answer_policy(alloc, &words, store),
-        Some(Command::Race(words)) => answer_race(alloc, &words, store),
-        Some(Command::Inline(words)) => answer_inline(alloc, &words, store),
-        Some(Command::Replay(words)) => answer_replay(alloc, &words, store),
-        None => Answer::Usage,
-    }
-}
-
 /// The status that an answer ends with.
-fn status_of(answer: &Answer) -> Status
-    ensures { result ≡ status_of answer.now }
+fn answer_status(answer: &Answer) -> Status
+    ensures is { result ≡ answer_status answer.now }
+    ensures kind { IsOutcomeStatus result }
 {
     match answer {
         Answer::Accepted(_) => Status::Done,
-        Answer::Denied(_, _) => Status::Denied,
         Answer::Shown(_) => Status::Done,
         Answer::Judged(verdict) => judged_status(*verdict),
         Answer::RaceFree => Status::Done,
         Answer::Inlined { .. } => Status::Done,
         Answer::Replayed(_) => Status::Done,
-        Answer::Input(_, _) => Status::Input,
-        Answer::Refused(refusal) => refusal_status(refusal),
-        Answer::Unread(_) => Status::StoreFault,
-        Answer::Unwritten(_) => Status::StoreFault,
-        Answer::Usage => Status::Usage,
-        Answer::Memory => Status::Memory,
     }
 }
 
 /// The status where a policy says this of the events of a run.
 fn judged_status(verdict: Verdict) -> Status
-    ensures { result ≡ judged_status verdict }
+    ensures is { result ≡ judged_status verdict }
+    ensures kind { IsOutcomeStatus result }
 {
     match verdict {
         Verdict::Accepted => Status::Done,
@@ -195,19 +243,24 @@ fn judged_status(verdict: Verdict) -> Status
     }
 }
 
-/// The status where a command ended before its work was done.
+/// The status where a command ended before its answer.
 fn refusal_status(refusal: &Refusal) -> Status
-    ensures { result ≡ refusal_status refusal.now }
+    ensures is { result ≡ refusal_status refusal.now }
+    ensures kind { IsOutcomeStatus result }
+    ensures no { result ≢ Status.Done }
 {
     match refusal {
+        Refusal::Input(_, _) => Status::Input,
+        Refusal::Unread(_) => Status::StoreFault,
         Refusal::TotalLong { .. } => Status::Input,
         Refusal::Link(_) => Status::Input,
         Refusal::Untyped { .. } => Status::Input,
+        Refusal::Denied(_, _) => Status::Denied,
         Refusal::Racy { .. } => Status::Denied,
         Refusal::CellLimit { .. } => Status::Denied,
         Refusal::Overflow { .. } => Status::Overflow,
         Refusal::LongCertificate { .. } => Status::Overflow,
         Refusal::NotEnabled { .. } => Status::Denied,
-        Refusal::Memory => Status::Memory,
+        Refusal::Unwritten(_) => Status::StoreFault,
     }
 }

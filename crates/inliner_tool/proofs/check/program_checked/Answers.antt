@@ -9,7 +9,7 @@ use Rattle.cert_checker.specs.Secure.{Secure}
 use Rattle.cert_format.specs.declared.certificate.Mode.TheVariants as modes
 use Rattle.conspec_automaton.specs.Building.{built}
 use Rattle.conspec_automaton.specs.declared.policy.Policy.{Policy}
-use Rattle.inliner_tool.proofs.CheckedAs.{judged_answer}
+use Rattle.inliner_tool.proofs.CheckedAs.{judged_so}
 use Rattle.inliner_tool.proofs.Listed.{tells_types}
 use Rattle.cert_checker.specs.declared.judging.Denial.TheVariants as denials
 use Rattle.mon_base.specs.Answer.{Answers}
@@ -37,7 +37,7 @@ returns-in-Ok-check-clause-checked c =
     let allowed = c.check.ensures.allowed ok in
     record {
       policy_is = is;
-      answer = judged_answer c.args.policy.now certificate program c.in-Ok-check.accepted
+      accepts = judged_so c.args.policy.now certificate program c.in-Ok-check.accepted
           (ap (λ (p : Policy). judged program p certificate) (sym is) ∙ subst (λ r. Answers denials.Memory r (judged program c.in-Ok.automaton certificate)) c.in-Ok-check.is c.check.ensures.exact);
       checked = record {
         accepted = subst (λ (p : Policy). IsAllowed program p certificate) is allowed;

@@ -9,7 +9,6 @@ use Rattle.cert_format.specs.declared.certificate.Certificate.{Certificate}
 use Rattle.cert_format.specs.declared.certificate.Mode.{Mode}
 use Rattle.cert_format.specs.declared.certificate.Mode.TheVariants as modes
 use Rattle.cert_format.specs.Fits.{CanSpell}
-use Rattle.command_words.specs.InlineWords.{inline_named}
 use Rattle.output_files.specs.Outputs.{is_written, outputs_of}
 use Rattle.std.specs.Prelude.{IfOk, true, length}
 use Rattle.cert_maker.specs.Told.{FitsTyping}
@@ -21,7 +20,8 @@ use Rattle.woven_typing.specs.Framing.{typing_of}
 use Rattle.inliner_tool.specs.declared.inline.Given.{Given}
 use Rattle.inliner_tool.specs.declared.inline.Ready.{Ready}
 use Rattle.inliner_tool.specs.Expected.{woven_program}
-use Rattle.inliner_tool.specs.Programs.{UnlessMemory, woven_links}
+use Rattle.inliner_tool.specs.Programs.{woven_links}
+use Rattle.inliner_tool.specs.Steps.{UnlessMemory}
 use Rattle.inliner_tool.specs.Weaving.{Accepts, IsFreeOfRaces, certificate_for}
 use Rattle.inliner_tool.proofs.Blocks.{known_rewoven, remakes}
 use Rattle.inliner_tool.proofs.inline.retyped.Goals as goal
@@ -61,11 +61,11 @@ returns-clause-steps c =
     let given = c.args.given in
     let program = c.in_ok-program.program in
     let same : c.in_ok-program.program ≡ woven_program c.args.given c.args.made = c.in_ok-program.ensures.program in
-    let links : woven_links c.args.made.files given.client.listing c.args.words.now.main.now ≡ Ok program = c.requires.expected.links ∙ ap (λ (p : Program). Ok p) (sym same) in
+    let links : woven_links c.args.made.files given.client.listing c.args.main.now ≡ Ok program = c.requires.expected.links ∙ ap (λ (p : Program). Ok p) (sym same) in
     let is : c.in_ok-program.certificate ≡ certificate_for given program = told_so c.args.given program c.args.typing c.requires.typing c.in_ok-program.certificate c.in_ok-program.ensures.certificate in
-    remakes c.args.words.now.main.now c.args.words.now.folder.now given c.args.made program links
+    remakes c.args.main.now c.args.folder.now given c.args.made program links
     (allowed_here c).accepted c.judged-ready.result
-    (subst (λ (x : Certificate). UnlessMemory (Accepts c.args.words.now.folder.now given.policy program x) c.judged-ready.result) is c.judged-ready.ensures.accepts)
+    (subst (λ (x : Certificate). UnlessMemory (Accepts c.args.folder.now given.policy program x) c.judged-ready.result) is c.judged-ready.ensures.accepts)
 
 pub returns-clause-rewoven : goal.returns-clause-rewoven
 returns-clause-rewoven c =
@@ -73,15 +73,15 @@ returns-clause-rewoven c =
     let expected = c.requires.expected in
     let program = c.in_ok-program.program in
     let same : c.in_ok-program.program ≡ woven_program c.args.given c.args.made = c.in_ok-program.ensures.program in
-    let links : woven_links c.args.made.files given.client.listing c.args.words.now.main.now ≡ Ok program = expected.links ∙ ap (λ (p : Program). Ok p) (sym same) in
+    let links : woven_links c.args.made.files given.client.listing c.args.main.now ≡ Ok program = expected.links ∙ ap (λ (p : Program). Ok p) (sym same) in
     let is : c.in_ok-program.certificate ≡ certificate_for given program = told_so c.args.given program c.args.typing c.requires.typing c.in_ok-program.certificate c.in_ok-program.ensures.certificate in
     let back = subst (λ (p : Program). unlinked p ≡ c.args.made.files) (sym same) expected.back in
     let sound = subst IsSound (sym same) expected.linked.sound in
     let spells = subst (λ (p : Program). FitsTyping (certificate_for given p).typing → is_written (certificate_for given p) ≡ true → CanSpell (length given.policy.vars) (certificate_for given p)) (sym same) expected.spells in
-    known_rewoven (inline_named c.args.words.now) given c.args.made program links back sound
+    known_rewoven c.args.main.now c.args.folder.now given c.args.made program links back sound
     (allowed_here c)
     (spells (subst (λ (x : Certificate). FitsTyping x.typing) is c.in_ok-program.ensures.fits)) c.judged-ready.result
     (subst (λ (m : Mode). IfOk c.judged-ready.result (λ (ready : Ready). Secure m program given.policy)) (ap (λ (x : Certificate). x.mode) is) c.judged-ready.ensures.secure)
     (subst (λ (x : Certificate). IfOk c.judged-ready.result (λ (ready : Ready). judged program given.policy x ≡ Ok ready.accepted)) is c.judged-ready.ensures.verdict)
     (subst (λ (x : Certificate). IfOk c.judged-ready.result (λ (ready : Ready). is_written x ≡ true)) is c.judged-ready.ensures.written)
-    (subst (λ (x : Certificate). IfOk c.judged-ready.result (λ (ready : Ready). ready.outputs ≡ outputs_of c.args.words.now.folder.now program x)) is c.judged-ready.ensures.outputs)
+    (subst (λ (x : Certificate). IfOk c.judged-ready.result (λ (ready : Ready). ready.outputs ≡ outputs_of c.args.folder.now program x)) is c.judged-ready.ensures.outputs)

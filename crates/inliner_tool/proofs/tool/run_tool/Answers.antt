@@ -1,65 +1,115 @@
-use Rattle.std.proofs.Common.{◌≡◌, ◌∙◌, true, false, Err, ap, subst, sym}
+use Rattle.std.proofs.Common.{◌≡◌, ◌∙◌, Ok, Err, refl, subst, sym}
 use Rattle.input_files.specs.Forms.{Count, since}
-use Rattle.mon_store.specs.Sink.{Appends, AppendsFront}
 use Rattle.mon_store.specs.Store.{Files}
 use Rattle.inliner_tool.specs.declared.tool.Status.TheVariants as statuses
-use Rattle.inliner_tool.specs.Tool.{Says, status_of}
-use Rattle.inliner_tool.proofs.Decides.{meant}
+use Rattle.command_words.specs.Words.{named_by}
+use Rattle.inliner_tool.specs.Replies.{usage_spelled}
+use Rattle.inliner_tool.specs.Seen.{Seen}
+use Rattle.inliner_tool.specs.Steps.{outcome_step}
+use Rattle.inliner_tool.specs.Writing.{CarriesOut}
+use Rattle.inliner_tool.proofs.Decides.{outcome_decides, usage_decides}
 use Rattle.inliner_tool.proofs.Headlines.{obeyed}
-use Rattle.inliner_tool.proofs.Replying.{checked_runs, ends_well, replied}
+use Rattle.inliner_tool.proofs.Replying.{checked_runs, is_check, is_inline, outcome_replied, puts_no, puts_plain, refused_so, usage_replied}
 use Rattle.inliner_tool.proofs.tool.run_tool.Goals as goal
 
-pub returns-in-Ok-put-clause-headline : goal.returns-in-Ok-put-clause-headline
-returns-in-Ok-put-clause-headline g c = λ named is done.
-    obeyed _ named (c.answer_to-answer.ensures.holds named is (ends_well c.answer_to-answer.result (sym c.status_of-status.ensures ∙ done)))
+pub returns-in-Ok-clause-headline : goal.returns-in-Ok-clause-headline
+returns-in-Ok-clause-headline g c = λ named is done. obeyed _ named (c.in-Ok.ensures.holds named (is_check c.args.words.now (named_by c.in-Some.command) c.in-Some.ensures.found named is))
 
-pub returns-in-Ok-put-clause-accepted : goal.returns-in-Ok-put-clause-accepted
-returns-in-Ok-put-clause-accepted g c = λ named is done. c.answer_to-answer.ensures.holds named is (ends_well c.answer_to-answer.result (sym c.status_of-status.ensures ∙ done))
+pub returns-in-Ok-clause-accepted : goal.returns-in-Ok-clause-accepted
+returns-in-Ok-clause-accepted g c = λ named is done. c.in-Ok.ensures.holds named (is_check c.args.words.now (named_by c.in-Some.command) c.in-Some.ensures.found named is)
 
-pub returns-in-Ok-put-clause-runs : goal.returns-in-Ok-put-clause-runs
-returns-in-Ok-put-clause-runs g c = λ named is done. checked_runs _ named (c.answer_to-answer.ensures.holds named is (ends_well c.answer_to-answer.result (sym c.status_of-status.ensures ∙ done)))
+pub returns-in-Ok-clause-runs : goal.returns-in-Ok-clause-runs
+returns-in-Ok-clause-runs g c = λ named is done. checked_runs _ named (c.in-Ok.ensures.holds named (is_check c.args.words.now (named_by c.in-Some.command) c.in-Some.ensures.found named is))
 
-pub returns-in-Ok-put-clause-replay_runs : goal.returns-in-Ok-put-clause-replay_runs
-returns-in-Ok-put-clause-replay_runs g c = λ named is done. c.answer_to-answer.ensures.replay_runs named is (ends_well c.answer_to-answer.result (sym c.status_of-status.ensures ∙ done))
+pub returns-in-Ok-clause-inlined : goal.returns-in-Ok-clause-inlined
+returns-in-Ok-clause-inlined g c = λ named is done. c.in-Ok.ensures.inlined named (is_inline c.args.words.now (named_by c.in-Some.command) c.in-Some.ensures.found named is)
 
-pub returns-in-Ok-put-clause-inlined : goal.returns-in-Ok-put-clause-inlined
-returns-in-Ok-put-clause-inlined g c = λ named is done. c.answer_to-answer.ensures.inlined named is (ends_well c.answer_to-answer.result (sym c.status_of-status.ensures ∙ done))
+pub returns-in_default-clause-headline : goal.returns-in_default-clause-headline
+returns-in_default-clause-headline g c = λ named is done. absurd (puts_no _ _ _ _ statuses.Usage c.put.result (c.put.ensures.puts usage_spelled c.usage_spelled.ensures) (λ e. absurd cc) done)
 
-pub returns-in-Err-Failed-clause-answer : goal.returns-in-Err-Failed-clause-answer
-returns-in-Err-Failed-clause-answer g c =
-    let failed = ap Err c.in-Err-Failed.field-0-is in
-    let torn = c.in-Err-Failed.ensures.torn failed in (
-      c.in-Err-Failed.ensures.failed failed,
-      record {
-        answer = c.answer_to-answer.result;
-        made = λ is.
-            let memory : c.status_of-status.result ≡ statuses.Memory = c.status_of-status.ensures ∙ ap status_of is in
-            let wrong : true ≡ false = rw memory at c.if-status-eq7.false in
-            absurd cc;
-        says = c.answer_to-answer.ensures.says;
-        so = subst (AppendsFront (g.K.Sink.text c.args.out.now) (g.K.Sink.text c.put.new.self)) (c.as_slice.ensures ∙ c.in-Ok.ensures) torn;
-      },
-    )
+pub returns-in_default-clause-accepted : goal.returns-in_default-clause-accepted
+returns-in_default-clause-accepted g c = λ named is done. absurd (puts_no _ _ _ _ statuses.Usage c.put.result (c.put.ensures.puts usage_spelled c.usage_spelled.ensures) (λ e. absurd cc) done)
 
-pub returns-in-Ok-put-clause-decides : goal.returns-in-Ok-put-clause-decides
-returns-in-Ok-put-clause-decides g c = λ contents told quiet sink other.
-    let new : Files = g.S.Store.files c.answer_to-answer.new.store in
-    let count : Count = since (g.S.Store.faults c.args.store.now) (g.S.Store.faults c.answer_to-answer.new.store) (g.S.Store.last c.answer_to-answer.new.store) in
-    record {
-      answer = c.answer_to-answer.result;
-      meant = meant c.told_files_are_read.ensures contents count quiet c.args.words.now new c.answer_to-answer.result (λ is. other (c.status_of-status.ensures ∙ ap status_of is))
-          (subst (λ (f : Files). Says (record { old = f; new = new; count = count }) c.args.words.now c.answer_to-answer.result) told c.answer_to-answer.ensures.says);
-      status_is = c.status_of-status.ensures;
-      printed = subst (Appends (g.K.Sink.text c.args.out.now) (g.K.Sink.text c.put.new.self)) (c.as_slice.ensures ∙ c.in-Ok.ensures) c.in-Ok-put.ensures.ok;
-    }
+pub returns-in_default-clause-runs : goal.returns-in_default-clause-runs
+returns-in_default-clause-runs g c = λ named is done. absurd (puts_no _ _ _ _ statuses.Usage c.put.result (c.put.ensures.puts usage_spelled c.usage_spelled.ensures) (λ e. absurd cc) done)
 
-pub returns-in-Ok-put-clause-answer : goal.returns-in-Ok-put-clause-answer
-returns-in-Ok-put-clause-answer g c =
-    let new : Files = g.S.Store.files c.answer_to-answer.new.store in
-    let count : Count = since (g.S.Store.faults c.args.store.now) (g.S.Store.faults c.answer_to-answer.new.store) (g.S.Store.last c.answer_to-answer.new.store) in
-    replied (record { old = g.S.Store.files c.args.store.now; new = new; count = count }) c.args.words.now (g.K.Sink.text c.args.out.now) (g.K.Sink.text c.put.new.self) _ c.answer_to-answer.result c.answer_to-answer.ensures.says
-    (subst (Appends (g.K.Sink.text c.args.out.now) (g.K.Sink.text c.put.new.self)) (c.as_slice.ensures ∙ c.in-Ok.ensures) c.in-Ok-put.ensures.ok)
-    c.status_of-status.result c.status_of-status.ensures
-    (λ memory.
-    let wrong : true ≡ false = rw memory at c.if-status-eq7.false in
-    absurd cc)
+pub returns-in_default-clause-replay_runs : goal.returns-in_default-clause-replay_runs
+returns-in_default-clause-replay_runs g c = λ named is done. absurd (puts_no _ _ _ _ statuses.Usage c.put.result (c.put.ensures.puts usage_spelled c.usage_spelled.ensures) (λ e. absurd cc) done)
+
+pub returns-in_default-clause-inlined : goal.returns-in_default-clause-inlined
+returns-in_default-clause-inlined g c = λ named is done. absurd (puts_no _ _ _ _ statuses.Usage c.put.result (c.put.ensures.puts usage_spelled c.usage_spelled.ensures) (λ e. absurd cc) done)
+
+pub returns-in-Err-Refused-clause-headline : goal.returns-in-Err-Refused-clause-headline
+returns-in-Err-Refused-clause-headline g c = λ named is done. absurd (puts_no _ _ _ _ _ c.put-in-Err-Refused.result (c.put-in-Err-Refused.ensures.puts _ c.refusal_spelled.ensures) c.refusal_status.ensures.no done)
+
+pub returns-in-Err-Refused-clause-accepted : goal.returns-in-Err-Refused-clause-accepted
+returns-in-Err-Refused-clause-accepted g c = λ named is done. absurd (puts_no _ _ _ _ _ c.put-in-Err-Refused.result (c.put-in-Err-Refused.ensures.puts _ c.refusal_spelled.ensures) c.refusal_status.ensures.no done)
+
+pub returns-in-Err-Refused-clause-runs : goal.returns-in-Err-Refused-clause-runs
+returns-in-Err-Refused-clause-runs g c = λ named is done. absurd (puts_no _ _ _ _ _ c.put-in-Err-Refused.result (c.put-in-Err-Refused.ensures.puts _ c.refusal_spelled.ensures) c.refusal_status.ensures.no done)
+
+pub returns-in-Err-Refused-clause-replay_runs : goal.returns-in-Err-Refused-clause-replay_runs
+returns-in-Err-Refused-clause-replay_runs g c = λ named is done. absurd (puts_no _ _ _ _ _ c.put-in-Err-Refused.result (c.put-in-Err-Refused.ensures.puts _ c.refusal_spelled.ensures) c.refusal_status.ensures.no done)
+
+pub returns-in-Err-Refused-clause-inlined : goal.returns-in-Err-Refused-clause-inlined
+returns-in-Err-Refused-clause-inlined g c = λ named is done. absurd (puts_no _ _ _ _ _ c.put-in-Err-Refused.result (c.put-in-Err-Refused.ensures.puts _ c.refusal_spelled.ensures) c.refusal_status.ensures.no done)
+
+pub returns-in_default-clause-answer : goal.returns-in_default-clause-answer
+returns-in_default-clause-answer g c =
+    let files : Files = g.S.Store.files c.args.store.now in
+    let count : Count = since (g.S.Store.faults c.args.store.now) (g.S.Store.faults c.args.store.now) (g.S.Store.last c.args.store.now) in
+    usage_replied (record { old = files; new = files; count = count }) c.args.words.now (g.K.Sink.text c.args.out.now) (g.K.Sink.text c.put.new.out) _ c.in_default.ensures.none refl c.put.result
+    (c.put.ensures.puts usage_spelled c.usage_spelled.ensures)
+
+pub returns-in_default-clause-decides : goal.returns-in_default-clause-decides
+returns-in_default-clause-decides g c = λ contents told quiet sink other.
+    let puts = puts_plain _ _ _ _ statuses.Usage c.put.result (c.put.ensures.puts usage_spelled c.usage_spelled.ensures) sink other in
+    usage_decides contents c.args.words.now c.in_default.ensures.none _ _ c.put.result puts.0 puts.1
+
+pub returns-in-Ok-clause-answer : goal.returns-in-Ok-clause-answer
+returns-in-Ok-clause-answer g c =
+    let files : Files = g.S.Store.files c.args.store.now in
+    let new : Files = g.S.Store.files c.carry_out.new.store in
+    let count : Count = since (g.S.Store.faults c.args.store.now) (g.S.Store.faults c.carry_out.new.store) (g.S.Store.last c.carry_out.new.store) in
+    let seen : Seen = record { old = files; new = new; count = count } in
+    let named = named_by c.in-Some.command in
+    outcome_replied seen c.args.words.now (g.K.Sink.text c.args.out.now) (g.K.Sink.text c.put-in-Ok.new.out) _ named c.in-Some.ensures.found (Ok c.in-Ok.answer)
+    (c.in-Ok.ensures.carries)
+    c.answer_status.result c.answer_status.ensures.kind c.answer_status.ensures.is c.put-in-Ok.result (c.put-in-Ok.ensures.puts _ c.answer_spelled.ensures)
+
+pub returns-in-Ok-clause-decides : goal.returns-in-Ok-clause-decides
+returns-in-Ok-clause-decides g c = λ contents told quiet sink other.
+    let files : Files = g.S.Store.files c.args.store.now in
+    let new : Files = g.S.Store.files c.carry_out.new.store in
+    let count : Count = since (g.S.Store.faults c.args.store.now) (g.S.Store.faults c.carry_out.new.store) (g.S.Store.last c.carry_out.new.store) in
+    let seen : Seen = record { old = files; new = new; count = count } in
+    let named = named_by c.in-Some.command in
+    let puts = puts_plain _ _ _ _ c.answer_status.result c.put-in-Ok.result (c.put-in-Ok.ensures.puts _ c.answer_spelled.ensures) sink other in
+    let carries : CarriesOut seen named (outcome_step (Ok c.in-Ok.answer)) = c.in-Ok.ensures.carries in
+    outcome_decides c.told_files_are_read.ensures contents count quiet c.args.words.now new named c.in-Some.ensures.found (Ok c.in-Ok.answer)
+    (subst (λ (f : Files). CarriesOut (record { old = f; new = new; count = count }) named (outcome_step (Ok c.in-Ok.answer))) told carries)
+    _ _ c.put-in-Ok.result (puts.0 ∙ c.answer_status.ensures.is) puts.1
+
+pub returns-in-Err-Refused-clause-answer : goal.returns-in-Err-Refused-clause-answer
+returns-in-Err-Refused-clause-answer g c =
+    let files : Files = g.S.Store.files c.args.store.now in
+    let new : Files = g.S.Store.files c.carry_out.new.store in
+    let count : Count = since (g.S.Store.faults c.args.store.now) (g.S.Store.faults c.carry_out.new.store) (g.S.Store.last c.carry_out.new.store) in
+    let seen : Seen = record { old = files; new = new; count = count } in
+    let named = named_by c.in-Some.command in
+    outcome_replied seen c.args.words.now (g.K.Sink.text c.args.out.now) (g.K.Sink.text c.put-in-Err-Refused.new.out) _ named c.in-Some.ensures.found (Err c.in-Err-Refused.refusal)
+    (refused_so (CarriesOut seen named) c.in-Err-Refused.field-0 c.in-Err-Refused.refusal c.in-Err-Refused.field-0-is c.in-Err-Refused.ensures.carries)
+    c.refusal_status.result c.refusal_status.ensures.kind c.refusal_status.ensures.is c.put-in-Err-Refused.result (c.put-in-Err-Refused.ensures.puts _ c.refusal_spelled.ensures)
+
+pub returns-in-Err-Refused-clause-decides : goal.returns-in-Err-Refused-clause-decides
+returns-in-Err-Refused-clause-decides g c = λ contents told quiet sink other.
+    let files : Files = g.S.Store.files c.args.store.now in
+    let new : Files = g.S.Store.files c.carry_out.new.store in
+    let count : Count = since (g.S.Store.faults c.args.store.now) (g.S.Store.faults c.carry_out.new.store) (g.S.Store.last c.carry_out.new.store) in
+    let seen : Seen = record { old = files; new = new; count = count } in
+    let named = named_by c.in-Some.command in
+    let puts = puts_plain _ _ _ _ c.refusal_status.result c.put-in-Err-Refused.result (c.put-in-Err-Refused.ensures.puts _ c.refusal_spelled.ensures) sink other in
+    let carries : CarriesOut seen named (outcome_step (Err c.in-Err-Refused.refusal)) = refused_so (CarriesOut seen named) c.in-Err-Refused.field-0 c.in-Err-Refused.refusal c.in-Err-Refused.field-0-is c.in-Err-Refused.ensures.carries in
+    outcome_decides c.told_files_are_read.ensures contents count quiet c.args.words.now new named c.in-Some.ensures.found (Err c.in-Err-Refused.refusal)
+    (subst (λ (f : Files). CarriesOut (record { old = f; new = new; count = count }) named (outcome_step (Err c.in-Err-Refused.refusal))) told carries)
+    _ _ c.put-in-Err-Refused.result (puts.0 ∙ c.refusal_status.ensures.is) puts.1

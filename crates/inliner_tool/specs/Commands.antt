@@ -1,0 +1,74 @@
+-- What each command makes of the files that it names: one chain of steps for each, of which the first that fails ends it.
+-- (docs/COMMANDS.md)
+use Rattle.std.specs.Prelude.{◌≡◌, Result}
+use Rattle.command_words.specs.InlineWords.{NamedInline}
+use Rattle.command_words.specs.ReplayWords.{NamedReplay}
+use Rattle.command_words.specs.Words.{Check, Inline, NamedCheck, NamedCommand, NamedPolicy, NamedRace, NamedShow, Policy, Race, Replay, Show}
+use Rattle.input_files.specs.declared.check_inputs.CheckInputs.{CheckInputs}
+use Rattle.input_files.specs.declared.files.Stop.{Stop}
+use Rattle.input_files.specs.declared.inline_inputs.InlineInputs.{InlineInputs}
+use Rattle.input_files.specs.declared.policy_inputs.PolicyInputs.{PolicyInputs}
+use Rattle.input_files.specs.declared.race_inputs.RaceInputs.{RaceInputs}
+use Rattle.input_files.specs.declared.replay_inputs.ReplayInputs.{ReplayInputs}
+use Rattle.input_files.specs.declared.show_inputs.ShowInputs.{ShowInputs}
+use Rattle.input_files.specs.CheckInputs.{ReadsCheck}
+use Rattle.input_files.specs.Contents.{Contents, check_read, inline_read, policy_read, race_read, replay_read, show_read}
+use Rattle.input_files.specs.Forms.{Then}
+use Rattle.input_files.specs.InlineInputs.{ReadsInline}
+use Rattle.input_files.specs.PolicyInputs.{ReadsPolicy}
+use Rattle.input_files.specs.RaceInputs.{ReadsRace}
+use Rattle.input_files.specs.ReplayInputs.{ReadsReplay}
+use Rattle.input_files.specs.ShowInputs.{ReadsShow}
+use Rattle.inliner_tool.specs.declared.answer.Made.{Made}
+use Rattle.inliner_tool.specs.Check.{Checks}
+use Rattle.inliner_tool.specs.Inline.{Inlines}
+use Rattle.inliner_tool.specs.Policy.{Judges}
+use Rattle.inliner_tool.specs.Race.{Races}
+use Rattle.inliner_tool.specs.Replay.{Replays}
+use Rattle.inliner_tool.specs.Seen.{Seen}
+use Rattle.inliner_tool.specs.Show.{Shows}
+use Rattle.inliner_tool.specs.Steps.{Reading, Step}
+
+-- ---- the files
+
+-- What the reading of the files of each command may give.
+pub record Readings : Type 1 where
+  pub check : NamedCheck → Result CheckInputs Stop → Type 0
+  pub show : NamedShow → Result ShowInputs Stop → Type 0
+  pub policy : NamedPolicy → Result PolicyInputs Stop → Type 0
+  pub race : NamedRace → Result RaceInputs Stop → Type 0
+  pub inline : NamedInline → Result InlineInputs Stop → Type 0
+  pub replay : NamedReplay → Result ReplayInputs Stop → Type 0
+
+-- as far as a store tells its files, and with the faults that it has
+abbrev pub readings_of : Seen → Readings
+readings_of seen = record {
+  check = ReadsCheck seen.old seen.count;
+  show = ReadsShow seen.old seen.count;
+  policy = ReadsPolicy seen.old seen.count;
+  race = ReadsRace seen.old seen.count;
+  inline = ReadsInline seen.old seen.count;
+  replay = ReadsReplay seen.old seen.count;
+}
+
+-- of files that are told, without a fault
+abbrev pub readings_in : Contents → Readings
+readings_in contents = record {
+  check = λ named read. read ≡ check_read contents named;
+  show = λ named read. read ≡ show_read contents named;
+  policy = λ named read. read ≡ policy_read contents named;
+  race = λ named read. read ≡ race_read contents named;
+  inline = λ named read. read ≡ inline_read contents named;
+  replay = λ named read. read ≡ replay_read contents named;
+}
+
+-- ---- the commands
+
+-- The files of the command are read, and it makes this of what they are.
+abbrev pub Makes : Readings → NamedCommand → Step Made → Type 0
+Makes reads (Check named) = Then (Reading (reads.check named)) (Checks named.main)
+Makes reads (Show named) = Then (Reading (reads.show named)) Shows
+Makes reads (Policy named) = Then (Reading (reads.policy named)) Judges
+Makes reads (Race named) = Then (Reading (reads.race named)) Races
+Makes reads (Inline named) = Then (Reading (reads.inline named)) (Inlines named)
+Makes reads (Replay named) = Then (Reading (reads.replay named)) (Replays named.main)
