@@ -1,6 +1,6 @@
 -- What asking a device makes of the facts of a book.
 use Rattle.std.proofs.Common.{◌≡◌, ◌≢◌, ℕ, zero, suc, Bool, cond, ◌+◌, ◌-◌, ◌<◌, ◌≤◌, ◌^◌, length, true, false, eqb, List, [], ◌∷◌, ◌++◌, Option, Some, None, refl, sym, ap, subst, ◌∙◌, arith, slice_index_or, inl, inr, ◌⊎◌}
-use Rattle.std.specs.Prelude.{slice_get, map, option_map, bytes_eq}
+use Rattle.std.specs.Prelude.{slice_get, map, option_map, bytes_eq, take, IsSome}
 use Rattle.std.specs.List.{position_from}
 use Rattle.std.specs.Option.{option_map_or}
 use Rattle.std.proofs.lemmas.Bool.Decides.{eqb_tells}
@@ -27,17 +27,21 @@ record Stands {X : Type 0} (xs : List X) (i k : ℕ) : Type 0 where
   item : X
   there : slice_get xs place ≡ Some item
 
-first_at : {X : Type 0} (t : X → Bool) (xs : List X) (i k : ℕ) → position_from t i xs ≡ Some k → Stands xs i k
-first_at t [] i k h = absurd (none-some k h)
-first_at t (x ∷ xs) i k h = by (t x) refl h where
+first_next : {X : Type 0} (t : X → Bool) (x : X) (xs : List X) (i k : ℕ) → (position_from t (i + 1) xs ≡ Some k → Stands xs (i + 1) k)
+    → position_from t i (x ∷ xs) ≡ Some k → Stands (x ∷ xs) i k
+first_next t x xs i k later h = by (t x) refl h where
   by : (b : Bool) → t x ≡ b → cond b (Some i) (position_from t (i + 1) xs) ≡ Some k → Stands (x ∷ xs) i k
   by true is h =
       let same : i ≡ k = same_Some i k h in
       record { place = 0; is = omega (arith, same); item = x; there = refl }
   by false is h =
-      let f = first_at t xs (i + 1) k h in
+      let f = later h in
       let e = f.is in
       record { place = suc f.place; is = omega (arith, e); item = f.item; there = f.there }
+
+first_at : {X : Type 0} (t : X → Bool) (xs : List X) (i k : ℕ) → position_from t i xs ≡ Some k → Stands xs i k
+first_at t [] i k h = absurd (none-some k h)
+first_at t (x ∷ xs) i k h = first_next t x xs i k (first_at t xs (i + 1) k) h
 
 position_from-map : {X Y : Type 0} (v : X → Y) (t : Y → Bool) (i : ℕ) (xs : List X) → position_from t i (map v xs) ≡ position_from (λ x. t (v x)) i xs
 position_from-map v t i [] = refl
@@ -111,6 +115,10 @@ rose_more : (first before now : ℕ) → first ≤ before → Rose before now �
 rose_more first before now less (inl rose) = inl (omega (arith, less, rose))
 rose_more first before now less (inr full) = inr full
 
+count_is : (class : List ℕ) (slots : List View) (place : ℕ) (slot : View) → first_of class slots ≡ Some place → slice_get slots place ≡ Some slot
+    → count_of class slots ≡ Some slot.faults
+count_is class slots place slot first there = rw (first, there) refl
+
 has_failed : (counts class : List ℕ) (old new : List View) (place : ℕ) → CountsStand counts old → IsLater old new → CountRose class old new
     → first_of class old ≡ Some place → HasFailed new counts class
 has_failed counts class old new place stand later rose first =
@@ -123,8 +131,8 @@ has_failed counts class old new place stand later rose first =
     let less : place < length counts = let l = within old place was.0 was.1 in let e = stand.each in omega (arith, l, e) in
     let made : slice_get counts place ≡ Some (slice_index_or counts place 0) = slice_get-get_or counts place 0 less in
     let before = stand.later place (slice_index_or counts place 0) was.0 made was.1 in
-    let count_old : count_of class old ≡ Some was.0.faults = rw (first, was.1) refl in
-    let count_new : count_of class new ≡ Some at.item.faults = rw (now_first, there) refl in
+    let count_old : count_of class old ≡ Some was.0.faults = count_is class old place was.0 first was.1 in
+    let count_new : count_of class new ≡ Some at.item.faults = count_is class new place at.item now_first there in
     record {
       place = place;
       slot = at.item;
@@ -141,6 +149,21 @@ failed counts class old new stand later rose some = by (first_of class old) refl
   by : (o : Option ℕ) → first_of class old ≡ o → HasFailed new counts class
   by None is = absurd (some is)
   by (Some place) is = has_failed counts class old new place stand later rose is
+
+-- ---- a device that is there
+
+pub still_there : (class : List ℕ) (old new : List View) → IsLater old new → first_of class old ≢ None → IsSome (first_of class new)
+still_there class old new later some = by (first_of class old) refl where
+  by : (o : Option ℕ) → first_of class old ≡ o → IsSome (first_of class new)
+  by None is = absurd (some is)
+  by (Some place) is = subst (λ (o : Option ℕ). IsSome o) (sym (first_by_classes class old new later.classes ∙ is)) refl
+
+-- what is written back over all of a list
+pub take_whole : {X : Type 0} (n : ℕ) (new rest : List X) → length new ≡ n → take n (new ++ rest) ≡ new
+take_whole zero [] rest long = refl
+take_whole zero (x ∷ new) rest long = absurd (omega (arith, long))
+take_whole (suc n) [] rest long = absurd (omega (arith, long))
+take_whole {X = X} (suc n) (x ∷ new) rest long = ap (λ (xs : List X). x ∷ xs) (take_whole n new rest (omega (arith, long)))
 
 -- ---- a device that refused
 

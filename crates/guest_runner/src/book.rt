@@ -11,7 +11,9 @@ ghost use Rattle.guest_runner.specs.Book.{IsAnswerOf, IsRun, Keeps, begun, book_
 ghost use Rattle.guest_runner.specs.Running.{HasEnded, end_line};
 
 use api_listing::{ApiAnswer, ApiCall};
-use api_shelf::{ApiDevice, Asked, DeviceFault, SlotOf, ask_first, plain_answer};
+use api_shelf::{
+    ApiDevice, Asked, DeviceFault, SlotOf, ask_first, devices_tell, plain_answer,
+};
 use bytecode_model::Program;
 use event_record::{EndLine, Line};
 use guest_model::{
@@ -76,6 +78,7 @@ impl<E: Execution, D: ApiDevice> RunBook<E, D> {
         ensures begun { IfOk result (λ book. book_view E.program E.machine D.told D.faults book
             ≡ begun (E.program execution) (views D.told D.faults slots.items) budget) }
     {
+        devices_tell();
         let counts = fault_counts(alloc, slots.as_slice())?;
         Ok(RunBook {
             execution,
