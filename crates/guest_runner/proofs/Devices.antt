@@ -109,6 +109,12 @@ counts_begin slots = record {
       omega (arith, same);
 }
 
+-- the counts of devices are those that are seen of them
+pub counts_seen : {D : Type 0} (told : D → Option Log) (faults : D → ℕ) (slots : List (SlotOf D))
+    → map (λ (slot : SlotOf D). faults slot.device) slots ≡ map (λ (slot : View). slot.faults) (views told faults slots)
+counts_seen told faults [] = refl
+counts_seen told faults (slot ∷ slots) = ap (λ (ns : List ℕ). faults slot.device ∷ ns) (counts_seen told faults slots)
+
 -- ---- a device that failed
 
 rose_more : (first before now : ℕ) → first ≤ before → Rose before now → Rose first now

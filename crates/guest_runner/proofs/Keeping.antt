@@ -1,5 +1,6 @@
 -- Books stay books of one run.
 use Rattle.std.proofs.Common.{◌≡◌, ◌≢◌, ℕ, ◌+◌, ◌<◌, ◌≤◌, length, false, List, [], ◌∷◌, ◌++◌, Option, Some, None, refl, sym, ap, subst, ◌∙◌, arith}
+use Rattle.std.specs.Prelude.{map}
 use Rattle.std.proofs.lemmas.List.{append-nil, length-append}
 use Rattle.api_listing.specs.declared.events.ApiAnswer.{ApiAnswer}
 use Rattle.api_listing.specs.declared.events.ApiCall.{ApiCall}
@@ -193,3 +194,7 @@ begins law program slots budget makes silent = record {
   };
   stop = tt;
 }
+
+pub begun_is : (program : Program) (machine : Machine) (lines : List Line) (slots : List View) (counts : List ℕ) (budget : ℕ) → machine ≡ start_of program
+    → lines ≡ [] → counts ≡ map (λ (slot : View). slot.faults) slots → viewed program machine lines slots counts budget None ≡ begun program slots budget
+begun_is program machine lines slots counts budget start none are = rw (start, none, are) refl

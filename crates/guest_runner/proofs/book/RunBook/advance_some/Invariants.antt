@@ -4,8 +4,8 @@ use Rattle.guest_runner.proofs.book.RunBook.advance_some.Given as goal
 
 abbrev pub invariant-loop : goal.invariant-loop
 invariant-loop g l = record {
-  run : IsRun (book_view g.E.Execution.program g.E.Execution.machine g.D.ApiDevice.told g.D.ApiDevice.faults l.self.now);
-  ready : g.E.Execution.is_ready l.self.now.execution;
-  same : identity (book_view g.E.Execution.program g.E.Execution.machine g.D.ApiDevice.told g.D.ApiDevice.faults l.self.now)
-      ≡ identity (book_view g.E.Execution.program g.E.Execution.machine g.D.ApiDevice.told g.D.ApiDevice.faults l.fn.self.now);
+  run : IsRun (book_view g.E.Execution.program g.E.Execution.machine g.D.ApiDevice.told g.D.ApiDevice.faults l.self);
+  ready : g.E.Execution.is_ready l.self.execution;
+  same : identity (book_view g.E.Execution.program g.E.Execution.machine g.D.ApiDevice.told g.D.ApiDevice.faults l.self)
+      ≡ identity (book_view g.E.Execution.program g.E.Execution.machine g.D.ApiDevice.told g.D.ApiDevice.faults l.fn.self);
 }
