@@ -119,7 +119,7 @@ impl<E: Execution, D: ApiDevice> RunBook<E, D> {
         self.turn(alloc, thread)
     }
 
-    /// Makes so many steps, the first of the first thread from this number on, and the others by turns. Whether there may be more.
+    /// Makes at most so many steps, the first of the first thread from this number on, and the others by turns. Whether there may be more.
     pub fn advance_some(&mut self, alloc: Global, first: u32, steps: u32) -> bool
         requires run { IsRun (book_view E.program E.machine D.told D.faults self.old) }
         requires ready { E.is_ready self.old.execution }
