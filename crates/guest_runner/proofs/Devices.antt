@@ -19,7 +19,7 @@ use Rattle.guest_runner.specs.Book.{CountsStand, HasFailed}
 abbrev pub class_of : View → List ℕ
 class_of slot = slot.class
 
--- ---- the first place where a test passes
+-- ---- the first place where a test passes, and what stands there
 
 record Stands {X : Type 0} (xs : List X) (i k : ℕ) : Type 0 where
   place : ℕ
@@ -174,8 +174,8 @@ take_whole {X = X} (suc n) (x ∷ new) rest long = ap (λ (xs : List X). x ∷ x
 -- ---- a device that refused
 
 module _ {D : Type 0} (told : D → Option Log) (faults : D → ℕ) (call : ApiCall) (fault : DeviceFault) (old new : List (SlotOf D))
-  (first : FirstTells call (Refused fault) (views told faults old) (views told faults new))
-  (others : OnlyAt (first_of call.method.class (views told faults old)) old new) where
+    (first : FirstTells call (Refused fault) (views told faults old) (views told faults new))
+    (others : OnlyAt (first_of call.method.class (views told faults old)) old new) where
   elsewhere : (place : ℕ) (before now : View) → first_of call.method.class (views told faults old) ≢ Some place → slice_get (views told faults old) place ≡ Some before
       → slice_get (views told faults new) place ≡ Some now → now.told ≡ before.told
   elsewhere place before now apart was is =
@@ -188,6 +188,7 @@ module _ {D : Type 0} (told : D → Option Log) (faults : D → ℕ) (call : Api
     at : (k : ℕ) → first_of call.method.class (views told faults old) ≡ Some k → ((eqb k place ≡ true) × (k ≡ place)) ⊎ ((eqb k place ≡ false) × (k ≢ place)) → now.told ≡ before.told
     at k there (inl p) = first place before now (there ∙ ap (λ (n : ℕ). Some n) p.1) was is
     at k there (inr p) = elsewhere place before now (λ same. p.1 (same_Some k place (sym there ∙ same))) was is
+
     by : (o : Option ℕ) → first_of call.method.class (views told faults old) ≡ o → now.told ≡ before.told
     by None none = elsewhere place before now (λ same. none-some place (sym none ∙ same)) was is
     by (Some k) there = at k there (eqb_tells k place)

@@ -51,7 +51,7 @@ module _ (program : Program) (machine : Machine) (lines : List Line) (counts : L
         keeps = record {
           makes = keeps.makes;
           machine = sym
-          (ap (λ (ss : List Step). exec program ss) (steps_more lines line)
+              (ap (λ (ss : List Step). exec program ss) (steps_more lines line)
               ∙ exec_more program (steps_of lines) (start_of program) line.step
               ∙ leads program (exec program (steps_of lines)) after line.step line.event at);
           lines = lines_more program lines (start_of program) after line keeps.lines at;
@@ -153,9 +153,9 @@ asked_more old new more keeps program machine lines counts budget later told =
     (keeps_as old.program old.machine old.lines old.counts old.budget new.slots more new.stop kept)
 
 module _ (old new : RunView) (keeps : Keeps [] (viewed old.program old.machine old.lines old.slots old.counts old.budget None))
-  (program : new.program ≡ old.program) (machine : new.machine ≡ old.machine) (lines : new.lines ≡ old.lines) (counts : new.counts ≡ old.counts)
-  (budget : new.budget ≡ old.budget) (later : IsLater old.slots new.slots)
-  (told : AllTell ((answered_in old.program (steps_of old.lines) ++ []) ++ []) new.slots) where
+    (program : new.program ≡ old.program) (machine : new.machine ≡ old.machine) (lines : new.lines ≡ old.lines) (counts : new.counts ≡ old.counts)
+    (budget : new.budget ≡ old.budget) (later : IsLater old.slots new.slots)
+    (told : AllTell ((answered_in old.program (steps_of old.lines) ++ []) ++ []) new.slots) where
   kept : Keeps [] new
   kept = asked_more old new [] keeps program machine lines counts budget later told
 
@@ -176,7 +176,7 @@ module _ (old new : RunView) (keeps : Keeps [] (viewed old.program old.machine o
       record {
         keeps = subst (λ (stop : Option DeviceStop). Keeps (kept_pairs stop) new) (sym is) kept;
         stop = subst (λ (stop : Option DeviceStop). IsStopOf new stop) (sym is)
-        (now, subst (λ (cs : List ℕ). HasFailed new.slots cs call.method.class) (sym counts) has);
+            (now, subst (λ (cs : List ℕ). HasFailed new.slots cs call.method.class) (sym counts) has);
       }
 
 -- ---- the beginning

@@ -35,7 +35,7 @@ answered_more program (s ∷ steps) machine step =
     ap (λ (pairs : Log). answered_by program machine s.thread s.choice ++ pairs) (answered_more program steps (stepped_or_same program machine s) step)
     ∙ sym
     (append_assoc (answered_by program machine s.thread s.choice) (answered_from program (stepped_or_same program machine s) steps)
-        (answered_by program (exec_from program (stepped_or_same program machine s) steps) step.thread step.choice))
+    (answered_by program (exec_from program (stepped_or_same program machine s) steps) step.thread step.choice))
 
 -- a step that is made leads to this machine
 pub leads : (program : Program) (machine after : Machine) (step : Step) (event : Option Event) → stepped program machine step ≡ Some (after, event)

@@ -11,14 +11,10 @@ ghost use Rattle.guest_runner.specs.Book.{IsAnswerOf, IsRun, Keeps, begun, book_
 ghost use Rattle.guest_runner.specs.Running.{HasEnded, end_line};
 
 use api_listing::{ApiAnswer, ApiCall};
-use api_shelf::{
-    ApiDevice, Asked, DeviceFault, SlotOf, ask_first, devices_tell, plain_answer,
-};
+use api_shelf::{ApiDevice, Asked, DeviceFault, SlotOf, ask_first, devices_tell, plain_answer};
 use bytecode_model::Program;
 use event_record::{EndLine, Line};
-use guest_model::{
-    Choice, End, Execution, Step, asks_what_the_rules_say, turns_find_the_enabled,
-};
+use guest_model::{Choice, End, Execution, Step, asks_what_the_rules_say, turns_find_the_enabled};
 use mon_base::{List, NoMemory};
 use std::alloc::Global;
 
@@ -26,7 +22,10 @@ use std::alloc::Global;
 #[derive(Drop)]
 pub enum DeviceStop {
     /// The device failed that was asked for the answer to this call of the thread.
-    Failed { thread: u32, call: ApiCall },
+    Failed {
+        thread: u32,
+        call: ApiCall,
+    },
     /// It answered what does not fit the call.
     Kind {
         thread: u32,
@@ -259,13 +258,7 @@ impl<E: Execution, D: ApiDevice> RunBook<E, D> {
     }
 
     /// The thread takes this answer to its call, if it fits.
-    fn answered(
-        &mut self,
-        alloc: Global,
-        thread: u32,
-        call: ApiCall,
-        answer: ApiAnswer,
-    ) -> Advance
+    fn answered(&mut self, alloc: Global, thread: u32, call: ApiCall, answer: ApiAnswer) -> Advance
         requires keeps { Keeps ((call, answer) ∷ []) (book_view E.program E.machine D.told D.faults self.old) }
         requires unstopped { self.old.stop ≡ None }
         requires room { length self.old.lines.items < self.old.budget }

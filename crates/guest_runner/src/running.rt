@@ -69,13 +69,7 @@ fn run_named<
     L: Naming<D> + Send + Sync,
     G: Gate + Sync,
     R: Threads + Wait + Sync,
->(
-    rt: &R,
-    alloc: Global,
-    book: RunBook<E, D>,
-    workers: u32,
-    gate: &G,
-) -> RunBook<E, D>
+>(rt: &R, alloc: Global, book: RunBook<E, D>, workers: u32, gate: &G) -> RunBook<E, D>
     requires told { L.told ≡ D.told }
     requires faults { L.faults ≡ D.faults }
     requires of { IsRunOf L.named (book_view E.program E.machine D.told D.faults book) }
@@ -96,40 +90,40 @@ fn work_all<
     L: Naming<D> + Send + Sync,
     G: Gate + Sync,
     R: Threads + Wait + Sync,
->(
-    rt: &'x R,
-    alloc: Global,
-    shared: &'x Mutex<Locked<E, D, L>>,
-    workers: u32,
-    gate: &'x G,
-)
+>(rt: &'x R, alloc: Global, shared: &'x Mutex<Locked<E, D, L>>, workers: u32, gate: &'x G)
     requires told { L.told ≡ D.told }
     requires faults { L.faults ≡ D.faults }
 {
-    thread::scope(thread::scope_env(), rt, |scope|
-        requires told { L.told ≡ D.told }
-        requires faults { L.faults ≡ D.faults }
-    {
-        for worker in 0..workers {
-            let started = scope.spawn(move ||
-                requires told { L.told ≡ D.told }
-                requires faults { L.faults ≡ D.faults }
-            { work(rt, alloc, shared, gate, worker) });
-            if started.is_err() {
-                work(rt, alloc, shared, gate, worker);
+    thread::scope(
+        thread::scope_env(),
+        rt,
+        |scope|
+            requires told { L.told ≡ D.told }
+            requires faults { L.faults ≡ D.faults }
+        {
+            for worker in 0..workers {
+                let started = scope.spawn(
+                    move ||
+                        requires told { L.told ≡ D.told }
+                        requires faults { L.faults ≡ D.faults }
+                    { work(rt, alloc, shared, gate, worker) },
+                );
+                if started.is_err() {
+                    work(rt, alloc, shared, gate, worker);
+                }
             }
-        }
-    });
+        },
+    );
 }
 
 /// One worker: it holds the book for some steps, and lets it go, until there is nothing more to do.
-fn work<E: Execution + Send, D: ApiDevice + Send, L: Naming<D> + Send + Sync, G: Gate + Sync, R: Wait>(
-    rt: &R,
-    alloc: Global,
-    shared: &Mutex<Locked<E, D, L>>,
-    gate: &G,
-    worker: u32,
-)
+fn work<
+    E: Execution + Send,
+    D: ApiDevice + Send,
+    L: Naming<D> + Send + Sync,
+    G: Gate + Sync,
+    R: Wait,
+>(rt: &R, alloc: Global, shared: &Mutex<Locked<E, D, L>>, gate: &G, worker: u32)
     requires told { L.told ≡ D.told }
     requires faults { L.faults ≡ D.faults }
 {
