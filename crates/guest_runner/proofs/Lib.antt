@@ -1,0 +1,4 @@
+mod Devices
+mod Keeping
+mod Lines
+mod Traces

@@ -1,0 +1,4 @@
+pub mod Advancing
+pub mod Book
+pub mod Running
+pub mod Runs

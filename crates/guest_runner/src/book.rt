@@ -1,0 +1,338 @@
+//! The book of a run.
+
+ghost use Rattle.std.specs.Prelude.{◌≡◌, ◌≤◌, ◌<◌, ◌∷◌, [], true, length, map, vec_len, vec_capacity, None, Some, IfOk, OnErr};
+ghost use Rattle.api_shelf.specs.Shelf.{AllAreSilent, IsLater, views};
+ghost use Rattle.guest_model.specs.Asking.{is_enabled};
+ghost use Rattle.guest_model.specs.LibraryCalls.{call_asked};
+ghost use Rattle.guest_model.specs.Runs.{start_of};
+ghost use Rattle.guest_model.specs.Turns.{MakesWhatIsEnabled};
+ghost use Rattle.guest_runner.specs.Advancing.{Advances, IsUnchanged, Turned};
+ghost use Rattle.guest_runner.specs.Book.{IsAnswerOf, IsRun, Keeps, begun, book_view, identity};
+ghost use Rattle.guest_runner.specs.Running.{HasEnded, end_line};
+
+use api_listing::{ApiAnswer, ApiCall};
+use api_shelf::{ApiDevice, Asked, DeviceFault, SlotOf, ask_first, devices_tell, plain_answer};
+use bytecode_model::Program;
+use event_record::{EndLine, Line};
+use guest_model::{Choice, End, Execution, Step, asks_what_the_rules_say, turns_find_the_enabled};
+use mon_base::{List, NoMemory};
+use std::alloc::Global;
+
+/// Why a book takes no more steps.
+#[derive(Drop)]
+pub enum DeviceStop {
+    /// The device failed that was asked for the answer to this call of the thread.
+    Failed {
+        thread: u32,
+        call: ApiCall,
+    },
+    /// It answered what does not fit the call.
+    Kind {
+        thread: u32,
+        call: ApiCall,
+        answer: ApiAnswer,
+    },
+}
+
+/// What came of a turn.
+#[derive(Clone, Copy)]
+pub enum Advance {
+    /// A thread made a step.
+    Stepped,
+    /// No thread can make a step any more.
+    Ended(End),
+    /// A thread could, and the book has as many steps as it may have.
+    Budget,
+    /// A device failed, or its answer does not fit; the book takes no more steps.
+    Device,
+}
+
+/// The steps of a program that runs, so far, with what the library saw of each, and the devices that answered.
+#[derive(Drop)]
+pub struct RunBook<E, D> {
+    execution: E,
+    lines: Vec<Line>,
+    slots: Vec<SlotOf<D>>,
+    /// How many faults each device had counted when the book was made.
+    counts: List<u64>,
+    budget: u64,
+    stop: Option<DeviceStop>,
+}
+
+impl<E: Execution, D: ApiDevice> RunBook<E, D> {
+    /// The book of a program that has made no step yet. The devices have told nothing.
+    pub fn new(
+        alloc: Global,
+        execution: E,
+        slots: Vec<SlotOf<D>>,
+        budget: u64,
+    ) -> Result<RunBook<E, D>, NoMemory>
+        requires ready { E.is_ready execution }
+        requires start { E.machine execution ≡ start_of (E.program execution) }
+        requires makes { MakesWhatIsEnabled (E.program execution) }
+        requires silent { AllAreSilent (views D.told D.faults slots.items) }
+        requires budget { budget ≤ 1000000000 }
+        ensures run { IfOk result (λ book. IsRun (book_view E.program E.machine D.told D.faults book)) }
+        ensures ready { IfOk result (λ book. E.is_ready book.execution) }
+        ensures begun { IfOk result (λ book. book_view E.program E.machine D.told D.faults book
+            ≡ begun (E.program execution) (views D.told D.faults slots.items) budget) }
+    {
+        devices_tell();
+        let counts = fault_counts(alloc, slots.as_slice())?;
+        Ok(RunBook {
+            execution,
+            lines: Vec::new(alloc),
+            slots,
+            counts,
+            budget,
+            stop: None,
+        })
+    }
+
+    /// The next thread from this number on that can makes a step. A call of the library that it waits in is answered by the first
+    /// device of its class, which is asked once, or plainly where there is none.
+    pub fn advance(&mut self, alloc: Global, first: u32) -> Result<Advance, NoMemory>
+        requires run { IsRun (book_view E.program E.machine D.told D.faults self.old) }
+        requires ready { E.is_ready self.old.execution }
+        ensures run { IsRun (book_view E.program E.machine D.told D.faults self.new) }
+        ensures ready { E.is_ready self.new.execution }
+        ensures made { IfOk result (λ answer. Advances first (book_view E.program E.machine D.told D.faults self.old)
+            (book_view E.program E.machine D.told D.faults self.new) answer) }
+        // Without memory for a step the book is as it was.
+        ensures memory { OnErr result (IsUnchanged (book_view E.program E.machine D.told D.faults self.old)
+            (book_view E.program E.machine D.told D.faults self.new)) }
+        ensures same { identity (book_view E.program E.machine D.told D.faults self.new)
+            ≡ identity (book_view E.program E.machine D.told D.faults self.old) }
+        ensures later { IsLater (views D.told D.faults self.old.slots.items) (views D.told D.faults self.new.slots.items) }
+    {
+        turns_find_the_enabled();
+        if self.stop.is_some() {
+            return Ok(Advance::Device);
+        }
+        let Some(thread) = self.execution.next_enabled(first) else {
+            return Ok(Advance::Ended(self.execution.ended().unwrap()));
+        };
+        if self.lines.len() as u64 >= self.budget {
+            return Ok(Advance::Budget);
+        }
+        self.turn(alloc, thread)
+    }
+
+    /// Makes at most so many steps, the first of the first thread from this number on, and the others by turns. Whether there may be more.
+    pub fn advance_some(&mut self, alloc: Global, first: u32, steps: u32) -> bool
+        requires run { IsRun (book_view E.program E.machine D.told D.faults self.old) }
+        requires ready { E.is_ready self.old.execution }
+        ensures run { IsRun (book_view E.program E.machine D.told D.faults self.new) }
+        ensures ready { E.is_ready self.new.execution }
+        ensures same { identity (book_view E.program E.machine D.told D.faults self.new)
+            ≡ identity (book_view E.program E.machine D.told D.faults self.old) }
+    {
+        let mut next = first;
+        for _ in 0..steps {
+            match self.advance(alloc, next) {
+                Ok(Advance::Stepped) => next = self.next_turn(),
+                Ok(Advance::Ended(_) | Advance::Budget | Advance::Device) | Err(NoMemory) => {
+                    return false;
+                }
+            }
+        }
+        true
+    }
+
+    /// Makes steps until the book takes no more, and answers how it ended, or nothing where a device stopped it.
+    pub fn finish(&mut self, alloc: Global) -> Result<Option<EndLine>, NoMemory>
+        requires run { IsRun (book_view E.program E.machine D.told D.faults self.old) }
+        requires ready { E.is_ready self.old.execution }
+        ensures run { IsRun (book_view E.program E.machine D.told D.faults self.new) }
+        ensures ready { E.is_ready self.new.execution }
+        ensures same { identity (book_view E.program E.machine D.told D.faults self.new)
+            ≡ identity (book_view E.program E.machine D.told D.faults self.old) }
+        ensures ended { IfOk result (λ end. HasEnded (book_view E.program E.machine D.told D.faults self.new) end) }
+    {
+        let mut next = 0;
+        loop {
+            match self.advance(alloc, next)? {
+                Advance::Stepped => next = self.next_turn(),
+                Advance::Ended(end) => return Ok(Some(end_line(end))),
+                Advance::Budget => return Ok(Some(EndLine::Budget)),
+                Advance::Device => return Ok(None),
+            }
+        }
+    }
+
+    /// The number behind that of the thread which made the last step.
+    fn next_turn(&self) -> u32 {
+        match self.lines.last() {
+            Some(line) => line.step.thread.wrapping_add(1),
+            None => 0,
+        }
+    }
+
+    /// This thread, which can, makes a step.
+    fn turn(&mut self, alloc: Global, thread: u32) -> Result<Advance, NoMemory>
+        requires run { IsRun (book_view E.program E.machine D.told D.faults self.old) }
+        requires ready { E.is_ready self.old.execution }
+        requires unstopped { self.old.stop ≡ None }
+        requires room { length self.old.lines.items < self.old.budget }
+        requires can { is_enabled (E.program self.old.execution) (E.machine self.old.execution) thread ≡ true }
+        ensures run { IsRun (book_view E.program E.machine D.told D.faults self.new) }
+        ensures ready { E.is_ready self.new.execution }
+        ensures made { IfOk result (λ answer. Turned thread (book_view E.program E.machine D.told D.faults self.old)
+            (book_view E.program E.machine D.told D.faults self.new) answer) }
+        ensures memory { OnErr result (IsUnchanged (book_view E.program E.machine D.told D.faults self.old)
+            (book_view E.program E.machine D.told D.faults self.new)) }
+        ensures same { identity (book_view E.program E.machine D.told D.faults self.new)
+            ≡ identity (book_view E.program E.machine D.told D.faults self.old) }
+        ensures later { IsLater (views D.told D.faults self.old.slots.items) (views D.told D.faults self.new.slots.items) }
+    {
+        match self.execution.call_asked(alloc, thread)? {
+            None => self.go(alloc, thread),
+            Some(call) => self.ask(alloc, thread, call),
+        }
+    }
+
+    /// This thread, which asks the library nothing, makes a plain step.
+    fn go(&mut self, alloc: Global, thread: u32) -> Result<Advance, NoMemory>
+        requires run { IsRun (book_view E.program E.machine D.told D.faults self.old) }
+        requires ready { E.is_ready self.old.execution }
+        requires unstopped { self.old.stop ≡ None }
+        requires room { length self.old.lines.items < self.old.budget }
+        requires can { is_enabled (E.program self.old.execution) (E.machine self.old.execution) thread ≡ true }
+        requires plain { call_asked (E.program self.old.execution) (E.machine self.old.execution) thread ≡ None }
+        ensures run { IsRun (book_view E.program E.machine D.told D.faults self.new) }
+        ensures ready { E.is_ready self.new.execution }
+        ensures made { IfOk result (λ answer. Turned thread (book_view E.program E.machine D.told D.faults self.old)
+            (book_view E.program E.machine D.told D.faults self.new) answer) }
+        ensures memory { OnErr result (book_view E.program E.machine D.told D.faults self.new
+            ≡ book_view E.program E.machine D.told D.faults self.old) }
+        ensures same { identity (book_view E.program E.machine D.told D.faults self.new)
+            ≡ identity (book_view E.program E.machine D.told D.faults self.old) }
+        ensures slots { self.new.slots ≡ self.old.slots }
+    {
+        turns_find_the_enabled();
+        self.lines.reserve(1)?;
+        let event = self.execution.go(alloc, thread)?;
+        let step = Step {
+            thread,
+            choice: Choice::Plain,
+        };
+        self.lines.push(Line { step, event }).unwrap();
+        Ok(Advance::Stepped)
+    }
+
+    /// The library is asked for the answer to this call of the thread. All memory is taken before a device is asked.
+    fn ask(&mut self, alloc: Global, thread: u32, call: ApiCall) -> Result<Advance, NoMemory>
+        requires run { IsRun (book_view E.program E.machine D.told D.faults self.old) }
+        requires ready { E.is_ready self.old.execution }
+        requires unstopped { self.old.stop ≡ None }
+        requires room { length self.old.lines.items < self.old.budget }
+        requires asked { call_asked (E.program self.old.execution) (E.machine self.old.execution) thread ≡ Some call }
+        ensures run { IsRun (book_view E.program E.machine D.told D.faults self.new) }
+        ensures ready { E.is_ready self.new.execution }
+        ensures made { IfOk result (λ answer. Turned thread (book_view E.program E.machine D.told D.faults self.old)
+            (book_view E.program E.machine D.told D.faults self.new) answer) }
+        ensures memory { OnErr result (IsUnchanged (book_view E.program E.machine D.told D.faults self.old)
+            (book_view E.program E.machine D.told D.faults self.new)) }
+        ensures same { identity (book_view E.program E.machine D.told D.faults self.new)
+            ≡ identity (book_view E.program E.machine D.told D.faults self.old) }
+        ensures later { IsLater (views D.told D.faults self.old.slots.items) (views D.told D.faults self.new.slots.items) }
+    {
+        self.lines.reserve(1)?;
+        self.execution.prepare(alloc, thread)?;
+        match ask_first(self.slots.as_mut_slice(), &call) {
+            Asked::Nobody => {
+                let answer = plain_answer(alloc, &call);
+                Ok(self.answered(alloc, thread, call, answer))
+            }
+            Asked::Answered(answer) => Ok(self.answered(alloc, thread, call, answer)),
+            Asked::Refused(DeviceFault::Memory) => {
+                self.execution.release(thread);
+                Err(NoMemory)
+            }
+            Asked::Refused(DeviceFault::Failed) => {
+                self.execution.release(thread);
+                self.stop = Some(DeviceStop::Failed { thread, call });
+                Ok(Advance::Device)
+            }
+        }
+    }
+
+    /// The thread takes this answer to its call, if it fits.
+    fn answered(&mut self, alloc: Global, thread: u32, call: ApiCall, answer: ApiAnswer) -> Advance
+        requires keeps { Keeps ((call, answer) ∷ []) (book_view E.program E.machine D.told D.faults self.old) }
+        requires unstopped { self.old.stop ≡ None }
+        requires room { length self.old.lines.items < self.old.budget }
+        requires spare { vec_len self.old.lines < vec_capacity self.old.lines }
+        requires prepared { E.is_prepared self.old.execution thread }
+        requires asked { call_asked (E.program self.old.execution) (E.machine self.old.execution) thread ≡ Some call }
+        requires answers { IsAnswerOf (views D.told D.faults self.old.slots.items) call answer }
+        ensures run { IsRun (book_view E.program E.machine D.told D.faults self.new) }
+        ensures ready { E.is_ready self.new.execution }
+        ensures made { Turned thread (book_view E.program E.machine D.told D.faults self.old)
+            (book_view E.program E.machine D.told D.faults self.new) result }
+        ensures same { identity (book_view E.program E.machine D.told D.faults self.new)
+            ≡ identity (book_view E.program E.machine D.told D.faults self.old) }
+        ensures slots { self.new.slots ≡ self.old.slots }
+    {
+        asks_what_the_rules_say();
+        if !self.execution.answer_fits(thread, &answer) {
+            self.execution.release(thread);
+            self.stop = Some(DeviceStop::Kind {
+                thread,
+                call,
+                answer,
+            });
+            return Advance::Device;
+        }
+        let event = self.execution.take(alloc, thread, &answer);
+        let step = Step {
+            thread,
+            choice: Choice::Answer(answer),
+        };
+        self.lines.push(Line { step, event }).unwrap();
+        Advance::Stepped
+    }
+
+    /// The steps so far, each with what the library saw of it. It takes no memory.
+    pub fn lines(&self) -> &[Line]
+        ensures { result.now ≡ (book_view E.program E.machine D.told D.faults self.now).lines }
+    {
+        self.lines.as_slice()
+    }
+
+    /// The program that runs. It takes no memory.
+    pub fn program(&self) -> &Program
+        ensures { result.now ≡ (book_view E.program E.machine D.told D.faults self.now).program }
+    {
+        self.execution.program()
+    }
+
+    /// Why the book takes no more steps, if so. It takes no memory.
+    pub fn stop(&self) -> &Option<DeviceStop>
+        ensures { result.now ≡ (book_view E.program E.machine D.told D.faults self.now).stop }
+    {
+        &self.stop
+    }
+}
+
+/// The end line of a machine's end.
+fn end_line(end: End) -> EndLine
+    ensures { result ≡ end_line end }
+{
+    match end {
+        End::Finished => EndLine::Finished,
+        End::Deadlock => EndLine::Deadlock,
+        End::Stopped(value) => EndLine::Stopped(value),
+    }
+}
+
+/// How many faults each device has counted.
+fn fault_counts<D: ApiDevice>(alloc: Global, slots: &[SlotOf<D>]) -> Result<List<u64>, NoMemory>
+    ensures { IfOk result (λ counts. counts ≡ map (λ slot. D.faults slot.device) slots.now) }
+{
+    let mut counts = List::new(alloc);
+    for slot in slots {
+        counts.push(slot.device.fault_count())?;
+    }
+    Ok(counts)
+}
