@@ -25,8 +25,7 @@ returns-in-Err-NotEnabled c program =
     let kept = rw c.in-Err-NotEnabled.field-0-is at c.in-Err-NotEnabled.ensures.is in
     let same =
     ap (slice_set frames 0) kept.1
-    ∙ set_same frames 0 c.top_mut.result.now c.top_mut.ensures.top in
-    (
+    ∙ set_same frames 0 c.top_mut.result.now c.top_mut.ensures.top in (
       refused program c.args.thread.now frames c.top_mut.result.now c.args.value c.top_mut.ensures.top kept.0,
       ap (λ (fs : List Frame). record { frames = fs; to_begin = c.args.thread.now.to_begin; doing = c.args.thread.now.doing }) same,
     )
