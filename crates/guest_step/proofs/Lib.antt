@@ -10,3 +10,4 @@ mod Standing
 mod Initialisers
 mod Writing
 mod Sufficing
+mod Returned
