@@ -11,3 +11,5 @@ mod Initialisers
 mod Writing
 mod Sufficing
 mod Returned
+mod Ranges
+mod Growing

@@ -1,5 +1,5 @@
 -- A thread that returns to its caller, or rests where it has none.
-use Rattle.std.proofs.Common.{◌≡◌, ◌<◌, ◌++◌, ◌∙◌, ℕ, Bool, true, false, List, [], ◌∷◌, length, Option, Some, None, refl, sym, ap, arith}
+use Rattle.std.proofs.Common.{◌≡◌, ◌<◌, ◌++◌, Bool, true, false, List, [], ◌∷◌, length, Option, Some, None, refl, sym, ap, arith}
 use Rattle.std.specs.Prelude.{IsSomeAnd, option_map}
 use Rattle.std.specs.Option.{option_to_list}
 use Rattle.api_listing.specs.declared.events.Event.{Event}

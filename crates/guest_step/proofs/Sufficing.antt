@@ -1,5 +1,5 @@
 -- The memory that is taken before the library is asked suffices for each answer that fits.
-use Rattle.std.proofs.Common.{◌≡◌, ◌≤◌, ◌⊎◌, ℕ, Bool, true, false, ◌||◌, List, [], ◌∷◌, ◌++◌, length, Option, Some, None, refl, sym, ap, subst, arith, ◌∙◌, inl, inr}
+use Rattle.std.proofs.Common.{◌≡◌, ◌≤◌, ℕ, Bool, true, false, ◌||◌, List, [], ◌∷◌, ◌++◌, length, Option, Some, None, refl, ap, arith}
 use Rattle.std.specs.Prelude.{IfSome, bytes_eq, max, option_map, slice_get, vec_capacity, if◌then◌else◌}
 use Rattle.std.specs.Option.{option_map_or}
 use Rattle.std.proofs.lemmas.Slice.Eq.{bytes_eq-Decides}
@@ -17,16 +17,16 @@ use Rattle.guest_heap.specs.declared.thread.Doing.{Doing}
 use Rattle.guest_heap.specs.declared.thread.Doing.TheVariants as doings
 use Rattle.guest_heap.specs.declared.value.Value.{Value}
 use Rattle.guest_heap.specs.declared.value.Value.TheVariants as values
-use Rattle.guest_model.specs.Answering.{answer_fits, given, method_takes}
+use Rattle.guest_model.specs.Answering.{answer_fits}
 use Rattle.bytecode_model.specs.Classes.{is_below}
 use Rattle.guest_model.specs.Calls.{types_of}
 use Rattle.guest_model.specs.Kinds.{string}
-use Rattle.guest_model.specs.Changes.{World, with_object}
+use Rattle.guest_model.specs.Changes.{World}
 use Rattle.guest_model.specs.Permitted.{AnswersArePermitted, IsAnswer, fresh, text, throws}
 use Rattle.guest_model.specs.Seen.{bytes_shown, object_bytes}
 use Rattle.guest_model.specs.Throwing.{bare_object}
 use Rattle.guest_step.specs.declared.rooms.Rooms.{Rooms}
-use Rattle.guest_step.specs.Rooms.{EachShowsAtMost, HaveRoom, RoomsSuffice, ShowsAtMost, bytes_given, bytes_made, longest_name}
+use Rattle.guest_step.specs.Rooms.{EachShowsAtMost, RoomsSuffice, ShowsAtMost, bytes_given, bytes_made, longest_name}
 
 -- ---- names
 

@@ -1,4 +1,4 @@
-use Rattle.std.proofs.Common.{◌≡◌, ℕ, length}
+use Rattle.std.proofs.Common.{◌≡◌, length}
 use Rattle.std.specs.Prelude.{max}
 use Rattle.guest_step.specs.Rooms.{longest_name}
 use Rattle.guest_step.proofs.making_room.longest_name.Given as goal

@@ -1,4 +1,5 @@
-use Rattle.std.proofs.Common.{◌≡◌, List, Some, sym, subst, arith, ◌∙◌}
+use Rattle.std.proofs.Common.{◌≡◌, List, subst, arith, ◌∙◌}
+use Rattle.std.proofs.lemmas.Option.{get_or_from_slice_get}
 use Rattle.guest_heap.specs.declared.object.Object.{Object}
 use Rattle.guest_heap.specs.declared.thread.Thread.{Thread}
 use Rattle.guest_model.specs.Changes.{world_of}
@@ -7,15 +8,12 @@ use Rattle.guest_step.specs.declared.rooms.Rooms.{Rooms}
 use Rattle.guest_step.proofs.Sufficing.{suffices}
 use Rattle.guest_step.proofs.making_room.make_rooms.Goals as goal
 
-some_same : (x y : Thread) → Some x ≡ Some y → x ≡ y
-some_same x y e = cc
-
 pub returns : goal.returns
 returns c thread there =
     let rooms : Rooms = record { object = c.reserve.new.self; event = c.reserve-2.new.self; rested = c.in_ok-rooms.field-0 } in
     let here = c.in-Some.thread.now in
-    let found : Some here ≡ Some thread = c.in-Some.ensures.lookup ∙ there in
-    let same : here ≡ thread = some_same here thread found in
+    let threads = rw c.as_slice.ensures at c.in-Some.ensures.lookup in
+    let same : here ≡ thread = (threads.3.1 thread) ∙ get_or_from_slice_get c.args.machine.now.threads c.args.number thread thread there in
     let shows = subst (λ (heap : List Object). ShowsAtMost c.args.guest.now heap here.doing c.most_shown.result) c.as_slice-2.ensures c.most_shown.ensures.most in
     let enough = c.in_ok-reserve.ensures.ok in
     let enough_shown = c.in_ok-reserve-2.ensures.ok in
