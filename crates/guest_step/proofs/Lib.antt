@@ -10,3 +10,6 @@ mod Standing
 mod Initialisers
 mod Writing
 mod Sufficing
+mod Returned
+mod Ranges
+mod Growing

@@ -1,5 +1,5 @@
 -- The memory that is taken before the library is asked suffices for each answer that fits.
-use Rattle.std.proofs.Common.{◌≡◌, ◌≤◌, ◌⊎◌, ℕ, Bool, true, false, ◌||◌, List, [], ◌∷◌, ◌++◌, length, Option, Some, None, refl, sym, ap, subst, arith, ◌∙◌, inl, inr}
+use Rattle.std.proofs.Common.{◌≡◌, ◌≤◌, ℕ, Bool, true, false, ◌||◌, List, [], ◌∷◌, ◌++◌, length, Option, Some, None, refl, ap, arith}
 use Rattle.std.specs.Prelude.{IfSome, bytes_eq, max, option_map, slice_get, vec_capacity, if◌then◌else◌}
 use Rattle.std.specs.Option.{option_map_or}
 use Rattle.std.proofs.lemmas.Slice.Eq.{bytes_eq-Decides}
@@ -17,16 +17,16 @@ use Rattle.guest_heap.specs.declared.thread.Doing.{Doing}
 use Rattle.guest_heap.specs.declared.thread.Doing.TheVariants as doings
 use Rattle.guest_heap.specs.declared.value.Value.{Value}
 use Rattle.guest_heap.specs.declared.value.Value.TheVariants as values
-use Rattle.guest_model.specs.Answering.{answer_fits, given, method_takes}
+use Rattle.guest_model.specs.Answering.{answer_fits}
 use Rattle.bytecode_model.specs.Classes.{is_below}
 use Rattle.guest_model.specs.Calls.{types_of}
 use Rattle.guest_model.specs.Kinds.{string}
-use Rattle.guest_model.specs.Changes.{World, with_object}
-use Rattle.guest_model.specs.Permitted.{AnswersArePermitted, IsAnswer}
+use Rattle.guest_model.specs.Changes.{World}
+use Rattle.guest_model.specs.Permitted.{AnswersArePermitted, IsAnswer, fresh, text, throws}
 use Rattle.guest_model.specs.Seen.{bytes_shown, object_bytes}
 use Rattle.guest_model.specs.Throwing.{bare_object}
 use Rattle.guest_step.specs.declared.rooms.Rooms.{Rooms}
-use Rattle.guest_step.specs.Rooms.{EachShowsAtMost, HaveRoom, RoomsSuffice, ShowsAtMost, bytes_given, bytes_made, longest_name}
+use Rattle.guest_step.specs.Rooms.{EachShowsAtMost, RoomsSuffice, ShowsAtMost, bytes_given, bytes_made, longest_name}
 
 -- ---- names
 
@@ -58,11 +58,11 @@ shown_new program heap object = rw (last_there heap object) refl
 
 -- ---- what suffices
 
-module _ (program : Program) (world : World) (receiver : Option Value) (arguments : List Value) (text most : ℕ)
-    (texts : 65535 ≤ text) (names : longest_name program.listing.classes ≤ text) (least : text ≤ most)
+module _ (program : Program) (world : World) (receiver : Option Value) (arguments : List Value) (long most : ℕ)
+    (texts : 65535 ≤ long) (names : longest_name program.listing.classes ≤ long) (least : long ≤ most)
     (of_receiver : IfSome receiver (λ (v : Value). length (bytes_shown program world.heap v) ≤ most))
     (of_each : EachShowsAtMost program world.heap arguments most) where
-  plain_class : (class : List ℕ) → length class ≤ text → length (object_bytes program (bare_object class)) ≤ most
+  plain_class : (class : List ℕ) → length class ≤ long → length (object_bytes program (bare_object class)) ≤ most
   plain_class class fits = by (is_below program class string) where
     by : (b : Bool) → length (if b then [] else class) ≤ most
     by true = omega arith
@@ -80,26 +80,26 @@ module _ (program : Program) (world : World) (receiver : Option Value) (argument
     by (Some v) is = of_each i v is
 
   suits : (result : Option FieldType) (answer : ApiAnswer) → IsAnswer program world.heap result receiver arguments answer
-      → (length (bytes_made answer) ≤ text) × (length (bytes_given program world receiver arguments answer) ≤ most)
+      → (length (bytes_made answer) ≤ long) × (length (bytes_given program world receiver arguments answer) ≤ most)
   suits result answers.Nothing is = (omega arith, omega arith)
   suits result (answers.Int n) is = (omega arith, omega arith)
   suits result answers.Null is = (omega arith, omega arith)
   suits result (answers.Text bytes) is = of_text is where
     of_text : IsAnswer program world.heap result receiver arguments (answers.Text bytes)
-        → (length bytes ≤ text) × (length (bytes_given program world receiver arguments (answers.Text bytes)) ≤ most)
+        → (length bytes ≤ long) × (length (bytes_given program world receiver arguments (answers.Text bytes)) ≤ most)
     of_text (text bytes name gives takes few) = (omega arith, rw (shown_new program world.heap (objects.Text bytes)) (omega arith))
   suits result (answers.Fresh class) is = of_fresh is where
     of_fresh : IsAnswer program world.heap result receiver arguments (answers.Fresh class)
-        → (length class ≤ text) × (length (bytes_given program world receiver arguments (answers.Fresh class)) ≤ most)
+        → (length class ≤ long) × (length (bytes_given program world receiver arguments (answers.Fresh class)) ≤ most)
     of_fresh (fresh class name gives below listed) =
         let low = named_below program.listing.classes class (known_of_named program.listing.classes class listed.entry listed.there) in
-        let fits : length class ≤ text = omega arith in
+        let fits : length class ≤ long = omega arith in
         (fits, rw (shown_new program world.heap (bare_object class)) (plain_class class fits))
   suits result (answers.Arg i) is = (omega arith, of_value (slice_get arguments i) (at_place i))
   suits result answers.Receiver is = (omega arith, of_value receiver of_receiver)
   suits result (answers.Throws class) is = of_throws is where
     of_throws : IsAnswer program world.heap result receiver arguments (answers.Throws class)
-        → (length class ≤ text) × (length (bytes_given program world receiver arguments (answers.Throws class)) ≤ most)
+        → (length class ≤ long) × (length (bytes_given program world receiver arguments (answers.Throws class)) ≤ most)
     of_throws (throws class known below) = (let low = named_below program.listing.classes class known in omega arith, omega arith)
 
 -- the method that is called is listed, and this is what it gives
@@ -112,7 +112,7 @@ pub suffices : AnswersArePermitted → (program : Program) (world : World) (doin
     → (most : ℕ) → 65535 ≤ most → longest_name program.listing.classes ≤ most → ShowsAtMost program world.heap doing most → most ≤ vec_capacity rooms.event.bytes
     → RoomsSuffice program world doing rooms
 suffices law program world doings.Running rooms texts names most texts_shown names_shown shows enough = tt
-suffices law program world (doings.InCall method receiver arguments) rooms texts names most texts_shown names_shown shows enough answer takes =
+suffices law program world (doings.InCall method receiver arguments) rooms texts names most texts_shown names_shown shows enough = λ answer takes.
     let listed = listed_fits (λ (m : ListedMethod). answer_fits program world.heap (types_of m.id.desc).result receiver arguments answer) (slice_get program.listing.methods method) takes in
     let is = (law program world.heap (types_of listed.0.id.desc).result receiver arguments answer).0 listed.1 in
     let two = suits program world receiver arguments (max 65535 (longest_name program.listing.classes)) most (omega arith) (omega arith) (omega arith) shows.0 shows.1 (types_of listed.0.id.desc).result answer is in

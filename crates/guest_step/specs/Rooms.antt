@@ -124,6 +124,13 @@ abbrev pub machine_with : Machine → Option (Vec Object Global) → Machine
 machine_with machine None = machine
 machine_with machine (Some heap) = with_objects machine heap.items
 
+-- What holds of a program that runs, whose heap may stand apart: its threads have numbers of 32 bits, one less while an answer is
+-- waited for.
+pub record IsSound (program : Program) (machine : Machine) (apart : Option (Vec Object Global)) (longest : ℕ) : Type 0 where
+  pub names : longest ≡ longest_name program.listing.classes
+  pub threads : length machine.threads < 2 ^ 32
+  pub waiting : IfSome apart (λ (heap : Vec Object Global). length machine.threads < 2 ^ 32 - 1)
+
 -- It waits for the answer to the call of the thread with this number, and has memory for it.
 pub record WaitsFor (run : Run) (number : ℕ) : Type 0 where
   pub heap : Vec Object Global

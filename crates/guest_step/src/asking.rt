@@ -1,7 +1,7 @@
 //! What is asked of a machine before a step is made. (docs/MACHINE.md)
 
 ghost use Rattle.std.specs.Option.{option_map_or};
-ghost use Rattle.std.specs.Prelude.{IfOk, List, false, find, slice_get, ◌+◌, ◌<◌, ◌^◌, ◌≡◌};
+ghost use Rattle.std.specs.Prelude.{IfOk, List, false, find, length, slice_get, ◌+◌, ◌<◌, ◌^◌, ◌≡◌};
 ghost use Rattle.std.specs.List.{range_with_len};
 ghost use Rattle.guest_heap.specs.declared.thread.Doing.TheVariants as doings;
 ghost use Rattle.guest_heap.specs.declared.value.Value.{Value};
@@ -86,6 +86,7 @@ fn doing_takes(guest: &Guest, heap: &[Object], doing: &Doing, answer: &ApiAnswer
 
 /// The first thread from this number on, cyclically, that can make a step. It takes no memory.
 pub fn next_enabled(guest: &Guest, machine: &Machine, first: u32) -> Option<u32>
+    requires { length machine.now.threads < 2 ^ 32 }
     ensures { result ≡ next_enabled guest.now machine.now first }
 {
     let count = machine.threads.len() as u32;
@@ -104,12 +105,13 @@ fn first_enabled(guest: &Guest, machine: &Machine, from: u32, count: u32) -> Opt
     ensures { result ≡ find (is_enabled guest.now machine.now) (range_with_len from count) }
 {
     let mut number = from;
-    let end = from + count;
-    while number < end {
+    let mut left = count;
+    while left > 0 {
         if enabled(guest, machine, number) {
             return Some(number);
         }
         number += 1;
+        left -= 1;
     }
     None
 }

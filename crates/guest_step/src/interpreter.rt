@@ -13,12 +13,15 @@ use crate::stepping::{step, step_prepared};
 use api_listing::{ApiAnswer, ApiCall, Event};
 use bytecode_model::Program;
 use guest_heap::Object;
-use guest_model::{Choice, End, Execution, Machine, Step, StepFault};
+use guest_model::{Choice, End, Execution, Machine, Step, StepFault, steps_add_one};
 use guest_tables::Guest;
 use mon_base::{List, NoMemory};
 use std::alloc::Global;
 use std::marker::Model;
 use type_lattice::Indexed;
+
+/// More threads than any memory has: their numbers have 32 bits.
+const MOST_THREADS: usize = 4294967295;
 
 /// A linked program that runs. A contract sees the program, the machine, and what is there for an answer.
 #[derive(Drop)]
@@ -33,14 +36,13 @@ pub struct Interpreter {
 }
 
 impl Model for Interpreter {
-    ghost use Rattle.std.specs.Prelude.{◌≡◌};
-    ghost use Rattle.guest_step.specs.Rooms.{Run, longest_name, machine_with};
+    ghost use Rattle.guest_step.specs.Rooms.{IsSound, Run, machine_with};
 
     ghost Value = { Run };
 
     ghost view = { λ i. record { program = i.guest; machine = machine_with i.machine i.apart; apart = i.apart; rooms = i.rooms } };
 
-    ghost invariant = { λ i. i.longest ≡ longest_name i.guest.listing.classes };
+    ghost invariant = { λ i. IsSound i.guest i.machine i.apart i.longest };
 }
 
 impl Interpreter {
@@ -93,6 +95,10 @@ impl Execution for Interpreter {
     }
 
     fn go(&mut self, alloc: Global, thread: u32) -> Result<Option<Event>, NoMemory> {
+        steps_add_one();
+        if self.machine.threads.len() >= MOST_THREADS {
+            return Err(NoMemory);
+        }
         let next = Step {
             thread,
             choice: Choice::Plain,
@@ -105,6 +111,9 @@ impl Execution for Interpreter {
     }
 
     fn prepare(&mut self, alloc: Global, thread: u32) -> Result<(), NoMemory> {
+        if self.machine.threads.len() >= MOST_THREADS {
+            return Err(NoMemory);
+        }
         make_rooms(
             alloc,
             &self.guest,
@@ -114,12 +123,16 @@ impl Execution for Interpreter {
             &mut self.rooms,
         )?;
         let mut heap = std::mem::replace(&mut self.machine.heap, List::new(alloc)).into_vec();
-        if make_place(&mut heap).is_err() {
-            self.machine.heap = List::from_vec(heap);
-            return Err(NoMemory);
+        match make_place(&mut heap) {
+            Ok(()) => {
+                self.apart = Some(heap);
+                Ok(())
+            }
+            Err(NoMemory) => {
+                self.machine.heap = List::from_vec(heap);
+                Err(NoMemory)
+            }
         }
-        self.apart = Some(heap);
-        Ok(())
     }
 
     fn answer_fits(&self, thread: u32, answer: &ApiAnswer) -> bool {
@@ -136,6 +149,7 @@ impl Execution for Interpreter {
     }
 
     fn take(&mut self, alloc: Global, thread: u32, answer: &ApiAnswer) -> Option<Event> {
+        steps_add_one();
         let Some(mut heap) = self.apart.take() else {
             unreachable!();
         };

@@ -1,7 +1,7 @@
 //! Taking memory for an answer of the library before it is taken.
 
 ghost use Rattle.std.specs.Option.{option_map_or};
-ghost use Rattle.std.specs.Prelude.{IfOk, OnOk, Some, [], length, option_copied, ◌≡◌, ◌≤◌};
+ghost use Rattle.std.specs.Prelude.{IfOk, OnOk, Some, [], length, ◌≡◌, ◌≤◌};
 ghost use Rattle.guest_model.specs.Changes.{World, rests};
 ghost use Rattle.guest_model.specs.Seen.{bytes_shown};
 ghost use Rattle.guest_step.specs.Rooms.{
@@ -86,7 +86,7 @@ fn most_shown(guest: &Guest, heap: &[Object], doing: &Doing, least: usize) -> us
     match doing {
         Doing::Running | Doing::Ended => least,
         Doing::InCall { receiver, args, .. } => {
-            let most = least.max(length_shown(guest, heap, receiver.as_ref()));
+            let most = least.max(length_shown(guest, heap, *receiver));
             most_of_all(guest, heap, args.as_slice(), most)
         }
     }
@@ -98,10 +98,8 @@ fn most_of_all(guest: &Guest, heap: &[Object], args: &[Value], least: usize) -> 
     ensures most { EachShowsAtMost guest.now heap.now args.now result }
 {
     let mut most = least;
-    let mut left = args;
-    while let [value, rest @ ..] = left {
+    for value in args {
         most = most.max(bytes_shown(guest, heap, *value).len());
-        left = rest;
     }
     most
 }
@@ -142,18 +140,18 @@ fn length_given(guest: &Guest, heap: &[Object], call: &InCall, answer: &ApiAnswe
     match answer {
         ApiAnswer::Text(text) => text.len(),
         ApiAnswer::Fresh(class) => class.len(),
-        ApiAnswer::Arg(i) => length_shown(guest, heap, call.args.get(*i as usize)),
-        ApiAnswer::Receiver => length_shown(guest, heap, call.receiver.as_ref()),
+        ApiAnswer::Arg(i) => length_shown(guest, heap, call.args.get(*i as usize).copied()),
+        ApiAnswer::Receiver => length_shown(guest, heap, call.receiver),
         ApiAnswer::Nothing | ApiAnswer::Int(_) | ApiAnswer::Null | ApiAnswer::Throws(_) => 0,
     }
 }
 
 /// The number of bytes in what the library sees of the value, if there is one.
-fn length_shown(guest: &Guest, heap: &[Object], value: Option<&Value>) -> usize
-    ensures { result ≡ length (option_map_or (bytes_shown guest.now heap.now) (option_copied value) []) }
+fn length_shown(guest: &Guest, heap: &[Object], value: Option<Value>) -> usize
+    ensures { result ≡ length (option_map_or (bytes_shown guest.now heap.now) value []) }
 {
     match value {
-        Some(value) => bytes_shown(guest, heap, *value).len(),
+        Some(value) => bytes_shown(guest, heap, value).len(),
         None => 0,
     }
 }
@@ -180,7 +178,7 @@ pub fn ready_to_return(
 {
     match thread.frames.top() {
         Some(frame) => {
-            if frame.at == u32::MAX {
+            if frame.at >= u32::MAX {
                 return Err(NoMemory);
             }
             Ok(None)

@@ -1,6 +1,6 @@
 //! Memory that is taken before the library is asked, so that its answer can be taken in any case.
 
-ghost use Rattle.std.specs.Prelude.{OnOk, length, vec_capacity, vec_len, ◌≡◌, ◌≤◌};
+ghost use Rattle.std.specs.Prelude.{None, OnOk, length, vec_capacity, vec_len, ◌≡◌, ◌≤◌};
 
 use guest_heap::Thread;
 use mon_base::{Bytes, NoMemory};
@@ -15,8 +15,10 @@ pub struct Spare {
 }
 
 impl Spare {
-    /// No memory.
-    pub fn new(alloc: Global) -> Spare {
+    /// No memory is taken.
+    pub fn new(alloc: Global) -> Spare
+        ensures { vec_len result.bytes ≡ 0 }
+    {
         Spare {
             bytes: Vec::new(alloc),
         }
@@ -68,8 +70,10 @@ pub struct Rooms {
 }
 
 impl Rooms {
-    /// No memory.
-    pub fn new(alloc: Global) -> Rooms {
+    /// No memory is taken.
+    pub fn new(alloc: Global) -> Rooms
+        ensures { result.rested ≡ None }
+    {
         Rooms {
             object: Spare::new(alloc),
             event: Spare::new(alloc),

@@ -2,7 +2,8 @@
 
 ghost use Rattle.std.specs.Prelude.{IfOk, ◌≡◌};
 ghost use Rattle.guest_model.specs.Builtins.{characters, continues};
-ghost use Rattle.guest_model.specs.Seen.{bytes_shown, literal_at, object_bytes, object_shown, string_of, text_in, value_shown, values_shown};
+ghost use Rattle.guest_model.specs.Seen.{bytes_shown, literal_at, object_bytes, object_shown};
+ghost use Rattle.guest_model.specs.Seen.{string_of, text_in, value_shown, values_shown};
 
 use crate::guest::Guest;
 use api_listing::ApiValue;

@@ -7,7 +7,8 @@ use Rattle.guest_step.proofs.answering.answer_call.Goals as goal
 pub returns : goal.returns
 returns c =
     let is : c.fits_call-fits.result ≡ true = grind rules in
-    subst (λ (o : Option Change). ActsIn c.take.result c.args.machine.now c.take.new.machine c.args.thread.now c.take.new.thread o)
+    let fits = rw c.as_slice.ensures at c.fits_call-fits.ensures in
+    subst (λ (o : Option Change). ActsIn c.take_at_once.result c.args.machine.now c.take_at_once.new.machine c.args.thread.now c.take_at_once.new.thread o)
     (sym (answered_is c.args.guest.now (world_of c.args.machine.now) c.args.call.now.number c.args.thread.now c.args.call.now.method c.args.call.now.receiver c.args.call.now.args.now c.args.answer.now true
-    (sym is ∙ c.fits_call-fits.ensures)))
-    c.take.ensures
+    (sym is ∙ fits)))
+    c.take_at_once.ensures
