@@ -59,7 +59,8 @@ pub trait Execution: Drop {
         requires made { IsSome (stepped (program self.old) (machine self.old) (record { thread = thread; choice = choices.Plain })) }
         ensures ready { is_ready self.new }
         ensures program { program self.new ≡ program self.old }
-        ensures made { IfOk result (λ seen. stepped (program self.old) (machine self.old) (record { thread = thread; choice = choices.Plain })
+        ensures made { IfOk result (λ seen. stepped (program self.old) (machine self.old)
+            (record { thread = thread; choice = choices.Plain })
             ≡ Some (machine self.new, seen)) }
         ensures refused { OnErr result (machine self.new ≡ machine self.old) };
 
@@ -79,7 +80,8 @@ pub trait Execution: Drop {
     /// The thread takes the library's answer to its call, and this is what the library sees of it. It is never refused.
     fn take(&mut self, alloc: Global, thread: u32, answer: &ApiAnswer) -> Option<Event>
         requires prepared { is_prepared self.old thread }
-        requires made { IsSome (stepped (program self.old) (machine self.old) (record { thread = thread; choice = choices.Answer answer.now })) }
+        requires made { IsSome (stepped (program self.old) (machine self.old)
+            (record { thread = thread; choice = choices.Answer answer.now })) }
         ensures ready { is_ready self.new }
         ensures program { program self.new ≡ program self.old }
         ensures made { stepped (program self.old) (machine self.old) (record { thread = thread; choice = choices.Answer answer.now })

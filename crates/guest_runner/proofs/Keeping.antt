@@ -18,7 +18,7 @@ use Rattle.event_record.specs.declared.writing.Line.{Line}
 use Rattle.guest_runner.specs.declared.book.DeviceStop.{DeviceStop}
 use Rattle.guest_runner.specs.declared.book.DeviceStop.TheVariants as stops
 use Rattle.guest_model.specs.Turns.{MakesWhatIsEnabled}
-use Rattle.guest_runner.specs.Book.{HasFailed, IsStopOf, begun, kept_pairs, IsAnswerOf, IsRun, Keeps, RunView, steps_of}
+use Rattle.guest_runner.specs.Book.{HasFailed, IsStopOf, new_book, kept_pairs, IsAnswerOf, IsRun, Keeps, RunView, steps_of}
 use Rattle.guest_runner.proofs.Devices.{counts_begin, counts_stand, failed}
 use Rattle.guest_runner.proofs.Lines.{answered_more, exec_more, leads, lines_more, steps_more}
 
@@ -182,7 +182,7 @@ module _ (old new : RunView) (keeps : Keeps [] (viewed old.program old.machine o
 -- ---- the beginning
 
 pub begins : ((slots : List View) → AllAreSilent slots → AllTell [] slots) → (program : Program) (slots : List View) (budget : ℕ)
-    → MakesWhatIsEnabled program → AllAreSilent slots → IsRun (begun program slots budget)
+    → MakesWhatIsEnabled program → AllAreSilent slots → IsRun (new_book program slots budget)
 begins law program slots budget makes silent = record {
   keeps = record {
     makes = makes;
@@ -196,5 +196,5 @@ begins law program slots budget makes silent = record {
 }
 
 pub begun_is : (program : Program) (machine : Machine) (lines : List Line) (slots : List View) (counts : List ℕ) (budget : ℕ) → machine ≡ start_of program
-    → lines ≡ [] → counts ≡ map (λ (slot : View). slot.faults) slots → viewed program machine lines slots counts budget None ≡ begun program slots budget
+    → lines ≡ [] → counts ≡ map (λ (slot : View). slot.faults) slots → viewed program machine lines slots counts budget None ≡ new_book program slots budget
 begun_is program machine lines slots counts budget start none are = rw (start, none, are) refl

@@ -44,8 +44,8 @@ book_view program machine told faults book = record {
 }
 
 -- a book with no steps, over these devices
-abbrev pub begun : Program → List View → ℕ → RunView
-begun program slots budget = record {
+abbrev pub new_book : Program → List View → ℕ → RunView
+new_book program slots budget = record {
   program = program;
   machine = start_of program;
   lines = [];

@@ -7,7 +7,7 @@ ghost use Rattle.guest_model.specs.LibraryCalls.{call_asked};
 ghost use Rattle.guest_model.specs.Runs.{start_of};
 ghost use Rattle.guest_model.specs.Turns.{MakesWhatIsEnabled};
 ghost use Rattle.guest_runner.specs.Advancing.{Advances, IsUnchanged, Turned};
-ghost use Rattle.guest_runner.specs.Book.{IsAnswerOf, IsRun, Keeps, begun, book_view, identity};
+ghost use Rattle.guest_runner.specs.Book.{IsAnswerOf, IsRun, Keeps, book_view, identity, new_book};
 ghost use Rattle.guest_runner.specs.Running.{HasEnded, end_line};
 
 use api_listing::{ApiAnswer, ApiCall};
@@ -75,7 +75,7 @@ impl<E: Execution, D: ApiDevice> RunBook<E, D> {
         ensures run { IfOk result (λ book. IsRun (book_view E.program E.machine D.told D.faults book)) }
         ensures ready { IfOk result (λ book. E.is_ready book.execution) }
         ensures begun { IfOk result (λ book. book_view E.program E.machine D.told D.faults book
-            ≡ begun (E.program execution) (views D.told D.faults slots.items) budget) }
+            ≡ new_book (E.program execution) (views D.told D.faults slots.items) budget) }
     {
         devices_tell();
         let counts = fault_counts(alloc, slots.as_slice())?;

@@ -34,7 +34,13 @@ impl<D> Naming<D> for Brand {
     ghost faults = { λ device. 0 };
 
     ghost named = { record {
-      program = record { classes = []; listing = record { classes = []; methods = []; fields = [] }; literals = []; main_class = 0; main_method = 0 };
+      program = record {
+        classes = [];
+        listing = record { classes = []; methods = []; fields = [] };
+        literals = [];
+        main_class = 0;
+        main_method = 0;
+      };
       budget = 0;
       classes = [];
       counts = [];

@@ -4,7 +4,7 @@ ghost use Rattle.std.specs.Prelude.{◌≡◌, ◌≤◌, IfOk, IsOk};
 ghost use Rattle.api_shelf.specs.Shelf.{AllAreSilent, views};
 ghost use Rattle.guest_model.specs.Runs.{start_of};
 ghost use Rattle.guest_model.specs.Turns.{MakesWhatIsEnabled};
-ghost use Rattle.guest_runner.specs.Book.{IsRun, begun, book_view, identity};
+ghost use Rattle.guest_runner.specs.Book.{IsRun, book_view, identity, new_book};
 ghost use Rattle.guest_runner.specs.Running.{Gives, IsRunOf, end_line};
 
 use crate::book::RunBook;
@@ -49,7 +49,7 @@ pub fn run<E: Execution + Send, D: ApiDevice + Send, G: Gate + Sync, R: Threads 
     requires some { 1 ≤ workers }
     requires most { workers ≤ 64 }
     ensures { Gives (book_view E.program E.machine D.told D.faults)
-        (identity (begun (E.program execution) (views D.told D.faults slots.items) budget)) result }
+        (identity (new_book (E.program execution) (views D.told D.faults slots.items) budget)) result }
 {
     let Ok(book) = RunBook::new(alloc, execution, slots, budget) else {
         return Err(RunStop::Memory);

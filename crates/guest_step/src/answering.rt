@@ -48,7 +48,8 @@ fn finish(
     value: Option<Value>,
     rooms: &mut Rooms,
 ) -> Option<Option<Event>>
-    requires event { length (bytes_of_result guest.now (with_heap (world_of machine.now) heap.now, value)) ≤ vec_capacity rooms.old.event.bytes }
+    requires event { length (bytes_of_result guest.now (with_heap (world_of machine.now) heap.now, value))
+        ≤ vec_capacity rooms.old.event.bytes }
     requires returns { CanReturn guest.now thread.old rooms.old }
     ensures { Acted result (with_objects machine.now heap.now) (with_objects machine.now heap.now) thread.old thread.new
         (returned_by guest.now call.now.number thread.old call.now.method (with_heap (world_of machine.now) heap.now, value)) }
@@ -146,7 +147,8 @@ fn throw_made(
     requires one { TakesOne heap.old }
     requires named { name ≡ class.now }
     ensures { Acted result (with_objects machine.old heap.old.items) (with_objects machine.new heap.new.items) thread.old thread.new
-        (thrown_by_library guest.now (with_heap (world_of machine.old) heap.old.items) call.now.number thread.old call.now.method class.now) }
+        (thrown_by_library guest.now (with_heap (world_of machine.old) heap.old.items) call.now.number thread.old call.now.method
+        class.now) }
 {
     let at = heap.len() as u32;
     heap.push(bare_object(alloc, name)).unwrap();
@@ -178,10 +180,11 @@ pub fn take(
 ) -> Option<Option<Event>>
     requires one { TakesOne heap.old }
     requires returns { CanReturn guest.now thread.old rooms.old }
-    requires room { HaveRoom guest.now (with_heap (world_of machine.old) heap.old.items) call.now.receiver call.now.args.now rooms.old answer.now }
+    requires room { HaveRoom guest.now (with_heap (world_of machine.old) heap.old.items) call.now.receiver call.now.args.now
+        rooms.old answer.now }
     ensures { Acted result (with_objects machine.old heap.old.items) (with_objects machine.new heap.new.items) thread.old thread.new
-        (answered_well guest.now (with_heap (world_of machine.old) heap.old.items) call.now.number thread.old call.now.method call.now.receiver
-        call.now.args.now answer.now) }
+        (answered_well guest.now (with_heap (world_of machine.old) heap.old.items) call.now.number thread.old call.now.method
+        call.now.receiver call.now.args.now answer.now) }
 {
     match answer {
         ApiAnswer::Text(text) => {
@@ -243,8 +246,8 @@ pub fn take_if_fit(
     requires room { method_takes guest.now heap.old.items call.now.method call.now.receiver call.now.args.now answer.now ≡ true
         → HaveRoom guest.now (with_heap (world_of machine.old) heap.old.items) call.now.receiver call.now.args.now rooms.old answer.now }
     ensures acts { ActsIn result (with_objects machine.old heap.old.items) (with_objects machine.new heap.new.items) thread.old thread.new
-        (call_stepped guest.now (with_heap (world_of machine.old) heap.old.items) call.now.number thread.old call.now.method call.now.receiver
-        call.now.args.now (choices.Answer answer.now)) }
+        (call_stepped guest.now (with_heap (world_of machine.old) heap.old.items) call.now.number thread.old call.now.method
+        call.now.receiver call.now.args.now (choices.Answer answer.now)) }
     ensures surely { result ≢ Err faults.Memory }
 {
     if is_on_null(call.receiver) {
@@ -356,8 +359,8 @@ fn take_apart(
     answer: &ApiAnswer,
 ) -> Result<Option<Event>, StepFault>
     ensures { ActsIn result (with_objects machine.old heap.old.items) (with_objects machine.new heap.new.items) thread.old thread.new
-        (answered_well guest.now (with_heap (world_of machine.old) heap.old.items) call.now.number thread.old call.now.method call.now.receiver
-        call.now.args.now answer.now) }
+        (answered_well guest.now (with_heap (world_of machine.old) heap.old.items) call.now.number thread.old call.now.method
+        call.now.receiver call.now.args.now answer.now) }
 {
     let mut rooms = Rooms::new(alloc);
     make_room(alloc, guest, heap, thread, call, answer, &mut rooms)?;

@@ -159,7 +159,8 @@ fn call_of(
     receiver: Option<Value>,
     args: &[Value],
 ) -> Result<Option<ApiCall>, NoMemory>
-    ensures { IfOk result (λ call. (list : List Value) → list ≡ args.now → call ≡ call_of_doing guest.now heap.now (doings.InCall method receiver list)) }
+    ensures { IfOk result (λ call. (list : List Value) → list ≡ args.now → call
+        ≡ call_of_doing guest.now heap.now (doings.InCall method receiver list)) }
 {
     if is_on_null(receiver) {
         return Ok(None);

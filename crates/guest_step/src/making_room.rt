@@ -174,7 +174,8 @@ pub fn ready_to_return(
     guest: &Guest,
     thread: &Thread,
 ) -> Result<Option<Thread>, NoMemory>
-    ensures { IfOk result (λ rested. (StandsLow thread.now.frames) × (thread.now.frames ≡ [] → rested ≡ Some (rests guest.now thread.now.to_begin))) }
+    ensures { IfOk result (λ rested. (StandsLow thread.now.frames) × (thread.now.frames ≡ [] → rested
+        ≡ Some (rests guest.now thread.now.to_begin))) }
 {
     match thread.frames.top() {
         Some(frame) => {
