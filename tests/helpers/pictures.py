@@ -1,15 +1,12 @@
-#!/usr/bin/env python3
 """Draws the two pictures of docs/ARCHITECTURE.md from crates.txt, and says whether they are as drawn: docs/house.svg has the crates
-by floors, those below the checker marked; docs/way.svg has the way of `check` and `inline` from files to an answer. With `--write`
-they are written anew.
+by floors, those below the checker marked; docs/way.svg has the way of `check` and `inline` from files to an answer.
 """
 import os
 import re
-import sys
 from xml.sax.saxutils import escape
 
 HERE = os.path.dirname(os.path.realpath(__file__))
-ROOT = os.path.dirname(HERE)
+ROOT = os.path.dirname(os.path.dirname(HERE))
 CHECKER, TOP = "cert_checker", "inliner_tool"
 
 # The stages of a command: what goes in, the crates that work on it in this order, what comes out.
@@ -131,24 +128,15 @@ def wrong_stages(below):
     yield from (f"{name} makes something and stands below {CHECKER}" for name in sorted(cone(CHECKER, below) & making))
 
 
-def main(words):
+def faults(is_written):
+    """What is wrong with the pictures; where they are written anew, what they would claim and crates.txt does not bear out."""
     floors, below = read_crates()
-    failed = 0
-    for problem in wrong_stages(below):
-        print(f"NOT AS EXPECTED: {problem}")
-        failed += 1
+    found = list(wrong_stages(below))
     for name, text in (("house.svg", house(floors, below)), ("way.svg", way(below))):
         path = os.path.join(ROOT, "docs", name)
-        if words == ["--write"]:
-            open(path, "w", encoding="utf-8").write(text)
+        if is_written:
+            with open(path, "w", encoding="utf-8") as file:
+                file.write(text)
         elif not os.path.exists(path) or open(path, encoding="utf-8").read() != text:
-            print(f"NOT AS EXPECTED: docs/{name} is stale: run tests/pictures --write")
-            failed += 1
-    print(f"pictures: {2 - min(failed, 2)} as expected, {failed} not")
-    return 1 if failed else 0
-
-
-if __name__ == "__main__":
-    if sys.argv[1:] not in ([], ["--write"]):
-        sys.exit(__doc__)
-    sys.exit(main(sys.argv[1:]))
+            found.append(f"docs/{name} is not what crates.txt says: tests/crates --write")
+    return found
