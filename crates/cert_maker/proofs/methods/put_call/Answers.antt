@@ -30,11 +30,11 @@ returns-in_ok-put_items-in-Some-clause-notes c =
     c.in_ok-put_items-in-Some.ensures
     ∙ ap (λ (p : Policy). c.args.notes.now ++ where_framed (map (λ (i : Item). note_of p c.args.call i.role) block) c.args.frames.now) c.policy.ensures
     ∙ ap (λ (ns : List Note). c.args.notes.now ++ where_framed ns c.args.frames.now)
-    (noted_so of c.args.call block (sym (ap option_copied c.in-Some.is) ∙ c.of.ensures))
+    (noted_so of c.args.call block (sym (ap option_copied c.in-Some.is) ∙ c.of.ensures.is))
 
 pub returns-in_ok-put_items-in-Some-clause-count : goal.returns-in_ok-put_items-in-Some-clause-count
 returns-in_ok-put_items-in-Some-clause-count c =
     let of : Planned = c.args.items.now in
     let block : List Item = c.in-Some.block.now in
     sym (length-map block (λ (i : Item). note_of of.policy c.args.call i.role))
-    ∙ ap length (noted_so of c.args.call block (sym (ap option_copied c.in-Some.is) ∙ c.of.ensures))
+    ∙ ap length (noted_so of c.args.call block (sym (ap option_copied c.in-Some.is) ∙ c.of.ensures.is))
