@@ -1,4 +1,4 @@
--- How fields are spelled. (docs/PROMISES.md)
+-- How fields are encoded. (docs/PROMISES.md)
 use Rattle.std.specs.Prelude.{ℕ, List, [], ◌∷◌, ◌++◌, decimal}
 use Rattle.std.specs.Fmt.{signed_decimal}
 use Rattle.answer_text.specs.declared.field.Field.{Field}
@@ -9,7 +9,7 @@ use Rattle.answer_text.specs.declared.field.Report.{Report}
 abbrev pub report : ℕ → List Field → Report
 report number fields = record { number = number; fields = fields }
 
--- a report told in another one, behind the fields of that
+-- a report told in another one, after the fields of that
 abbrev pub within : Report → ℕ → List Field → Report
 within inner number front = report number (front ++ Count inner.number ∷ inner.fields)
 
@@ -30,7 +30,7 @@ count n = spaced (Count n)
 abbrev pub word : List ℕ → List ℕ
 word name = spaced (Name name)
 
--- each field behind a space
+-- each field after a space
 abbrev pub all_spaced : List Field → List ℕ
 all_spaced [] = []
 all_spaced (field ∷ fields) = spaced field ++ all_spaced fields

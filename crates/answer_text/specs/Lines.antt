@@ -1,4 +1,4 @@
--- How lines are spelled, and what is printed. (docs/COMMANDS.md)
+-- How lines are encoded, and what is printed. (docs/COMMANDS.md)
 use Rattle.std.specs.Prelude.{ℕ, List, [], ◌∷◌, ◌++◌, Option, Some, None, codes}
 use Rattle.answer_text.specs.declared.line.Line.{Line}
 use Rattle.answer_text.specs.declared.line.Line.TheVariants as lines

@@ -1,4 +1,4 @@
-//! What stands in a line behind its first word.
+//! What stands in a line after its first word.
 
 ghost use Rattle.std.specs.Prelude.{◌≡◌, ◌∷◌, ◌++◌, IfOk, OnOk};
 ghost use Rattle.answer_text.specs.Fields.{all_spaced, count, report, spaced, within, word};
@@ -6,7 +6,7 @@ ghost use Rattle.answer_text.specs.Fields.{all_spaced, count, report, spaced, wi
 use mon_base::{Bytes, List, NoMemory, push_count, push_number};
 use std::alloc::Global;
 
-/// What stands in a line behind a space.
+/// What stands in a line after a space.
 #[derive(Drop)]
 pub enum Field {
     /// How many, or at which place.
@@ -60,7 +60,7 @@ impl Report {
     }
 }
 
-/// Appends each field behind a space.
+/// Appends each field after a space.
 pub(crate) fn push_fields(text: &mut Bytes, fields: &[Field]) -> Result<(), NoMemory>
     ensures { OnOk result (text.new ≡ text.old ++ all_spaced fields.now) }
 {

@@ -39,13 +39,13 @@ one_deeper n left rest first total split bracket so_far =
     sym step ∙ so_far
 
 -- no dimension more
-pub ends_flat : (n : ℕ) (left rest behind : List ℕ) (first : ℕ) (element : Element) (total : Read (FieldType × List ℕ)) → left ≡ first ∷ rest → (first ≡ 91 → ⊥)
-    → element_at first rest ≡ Ok (element, behind) → deepened n (type_at left) ≡ total → total ≡ Ok (record { dimensions = n; element = element }, behind)
+pub ends_flat : (n : ℕ) (left rest following : List ℕ) (first : ℕ) (element : Element) (total : Read (FieldType × List ℕ)) → left ≡ first ∷ rest → (first ≡ 91 → ⊥)
+    → element_at first rest ≡ Ok (element, following) → deepened n (type_at left) ≡ total → total ≡ Ok (record { dimensions = n; element = element }, following)
 unfolding type_at
-ends_flat n left rest behind first element total split other found so_far =
+ends_flat n left rest following first element total split other found so_far =
     let none : n + 0 ≡ n = omega arith in
-    let step : deepened n (type_at left) ≡ Ok (record { dimensions = n + 0; element = element }, behind) = rw (split, ne_eqb first 91 other, found) refl in
-    sym so_far ∙ step ∙ ap (λ (d : ℕ). Ok (record { dimensions = d; element = element }, behind)) none
+    let step : deepened n (type_at left) ≡ Ok (record { dimensions = n + 0; element = element }, following) = rw (split, ne_eqb first 91 other, found) refl in
+    sym so_far ∙ step ∙ ap (λ (d : ℕ). Ok (record { dimensions = d; element = element }, following)) none
 
 pub no_type : (n : ℕ) (left rest : List ℕ) (first : ℕ) (e : FormFault) (total : Read (FieldType × List ℕ)) → left ≡ first ∷ rest → (first ≡ 91 → ⊥)
     → Fails Memory e (element_at first rest) → deepened n (type_at left) ≡ total → Fails Memory e total
@@ -62,8 +62,8 @@ empty_type n (x ∷ xs) total short so_far = absurd (omega arith)
 -- ---- the next `;`
 
 -- bytes before what was found
-abbrev pub behind : List ℕ → Option (List ℕ × List ℕ) → Option (List ℕ × List ℕ)
-behind front read = option_map (λ r. (front ++ r.0, r.1)) read
+abbrev pub following : List ℕ → Option (List ℕ × List ℕ) → Option (List ℕ × List ℕ)
+following front read = option_map (λ r. (front ++ r.0, r.1)) read
 
 take_front : (front rest : List ℕ) (x : ℕ) → take (length front + 1) (front ++ x ∷ rest) ≡ front ++ x ∷ []
 take_front [] rest x = refl
@@ -71,12 +71,12 @@ take_front (y ∷ ys) rest x =
     let n : length (y ∷ ys) + 1 ≡ suc (length ys + 1) = omega arith in
     rw n (ap (λ (t : List ℕ). y ∷ t) (take_front ys rest x))
 
-behind_more : (front : List ℕ) (x : ℕ) (read : Option (List ℕ × List ℕ)) → behind front (option_map (λ r. (x ∷ r.0, r.1)) read) ≡ behind (front ++ x ∷ []) read
-behind_more front x None = refl
-behind_more front x (Some r) = ap (λ (t : List ℕ). Some (t, r.1)) (sym (append_assoc front (x ∷ []) r.0))
+after_more : (front : List ℕ) (x : ℕ) (read : Option (List ℕ × List ℕ)) → following front (option_map (λ r. (x ∷ r.0, r.1)) read) ≡ following (front ++ x ∷ []) read
+after_more front x None = refl
+after_more front x (Some r) = ap (λ (t : List ℕ). Some (t, r.1)) (sym (append_assoc front (x ∷ []) r.0))
 
 pub record Passed (at : ℕ) (left bytes : List ℕ) (total : Option (List ℕ × List ℕ)) : Type 0 where
-  pub found : behind (take at bytes) (until 59 left) ≡ total
+  pub found : following (take at bytes) (until 59 left) ≡ total
   pub whole : take at bytes ++ left ≡ bytes
   pub count : at + length left ≡ length bytes
 
@@ -88,7 +88,7 @@ passes at left bytes rest first total split other p =
     let lengths : length front + length left ≡ length bytes = sym (length-append front left) ∙ ap length p.whole in
     let n : at + 1 ≡ length front + 1 = omega (arith, lengths, p.count) in
     let more : take (at + 1) bytes ≡ front ++ first ∷ [] = ap (λ (k : ℕ). take k bytes) n ∙ ap (take (length front + 1)) (sym whole) ∙ take_front front rest first in
-    let step : behind front (until 59 left) ≡ behind (front ++ first ∷ []) (until 59 rest) = rw (split, ne_eqb first 59 other) (behind_more front first (until 59 rest)) in
+    let step : following front (until 59 left) ≡ following (front ++ first ∷ []) (until 59 rest) = rw (split, ne_eqb first 59 other) (after_more front first (until 59 rest)) in
     record {
       found = rw more (sym step ∙ p.found);
       whole = rw more (append_assoc front (first ∷ []) rest ∙ whole);

@@ -13,7 +13,7 @@ use Rattle.api_listing.proofs.Names.{method_is, is_method_of}
 
 pub record Stands {X : Type 0} (t : X → Bool) (i : ℕ) (xs : List X) (k : ℕ) : Type 0 where
   pub item : X
-  pub behind : i ≤ k
+  pub following : i ≤ k
   pub there : slice_get xs (k - i) ≡ Some item
   pub passes : t item ≡ true
 
@@ -23,11 +23,11 @@ stands_next t i x xs k later h = by (t x) refl h where
   by true is h =
       let same : i ≡ k = cc in
       let n : k - i ≡ 0 = omega arith in
-      record { item = x; behind = omega arith; there = rw n refl; passes = is }
+      record { item = x; following = omega arith; there = rw n refl; passes = is }
   by false is h =
       let s = later h in
-      let n : k - i ≡ suc (k - (i + 1)) = omega (arith, s.behind) in
-      record { item = s.item; behind = omega (arith, s.behind); there = rw n s.there; passes = s.passes }
+      let n : k - i ≡ suc (k - (i + 1)) = omega (arith, s.following) in
+      record { item = s.item; following = omega (arith, s.following); there = rw n s.there; passes = s.passes }
 
 stands : {X : Type 0} (t : X → Bool) (i : ℕ) (xs : List X) (k : ℕ) → position_from t i xs ≡ Some k → Stands t i xs k
 stands t i [] k h = absurd cc

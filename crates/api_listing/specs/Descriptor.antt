@@ -1,4 +1,4 @@
--- Descriptors of methods and fields: how types are spelled, and how they are read from left to right.
+-- Descriptors of methods and fields: how types are encoded, and how they are read from left to right.
 -- (The Java Virtual Machine Specification, section 4.3)
 use Rattle.std.specs.Prelude.{◌≡◌, ℕ, zero, suc, ◌+◌, ◌≤◌, ◌==◌, Bool, true, false, List, [], ◌∷◌, ◌++◌, length, drop, replicate, Option, Some, None, option_map, Ok, Err, ok_or, IsTrue, bytes_eq, codes, if◌then◌else◌}
 use Rattle.std.specs.List.{flat_map, list_all}
@@ -11,29 +11,29 @@ use Rattle.api_listing.specs.declared.fault.FormFault.TheVariants.{NoForm}
 use Rattle.api_listing.specs.Words.{is_class_name}
 use Rattle.api_listing.specs.Fault.{Read}
 
--- ---- spelling
+-- ---- encoding
 
-abbrev pub class_spelled : List ℕ → List ℕ
-class_spelled name = 76 ∷ (name ++ 59 ∷ [])
+abbrev pub class_encoded : List ℕ → List ℕ
+class_encoded name = 76 ∷ (name ++ 59 ∷ [])
 
-abbrev pub element_spelled : Element → List ℕ
-element_spelled Boolean = codes "Z"
-element_spelled Byte = codes "B"
-element_spelled Char = codes "C"
-element_spelled Short = codes "S"
-element_spelled Int = codes "I"
-element_spelled (Class name) = class_spelled name
+abbrev pub element_encoded : Element → List ℕ
+element_encoded Boolean = codes "Z"
+element_encoded Byte = codes "B"
+element_encoded Char = codes "C"
+element_encoded Short = codes "S"
+element_encoded Int = codes "I"
+element_encoded (Class name) = class_encoded name
 
 -- a `[` for each dimension
-abbrev pub type_spelled : FieldType → List ℕ
-type_spelled t = replicate t.dimensions 91 ++ element_spelled t.element
+abbrev pub type_encoded : FieldType → List ℕ
+type_encoded t = replicate t.dimensions 91 ++ element_encoded t.element
 
-abbrev pub result_spelled : Option FieldType → List ℕ
-result_spelled None = codes "V"
-result_spelled (Some t) = type_spelled t
+abbrev pub result_encoded : Option FieldType → List ℕ
+result_encoded None = codes "V"
+result_encoded (Some t) = type_encoded t
 
-abbrev pub method_spelled : MethodType → List ℕ
-method_spelled m = 40 ∷ (flat_map type_spelled m.arguments ++ 41 ∷ result_spelled m.result)
+abbrev pub method_encoded : MethodType → List ℕ
+method_encoded m = 40 ∷ (flat_map type_encoded m.arguments ++ 41 ∷ result_encoded m.result)
 
 abbrev pub is_element : Element → Bool
 is_element (Class name) = is_class_name name
@@ -47,26 +47,26 @@ abbrev pub is_result : Option FieldType → Bool
 is_result None = true
 is_result (Some t) = is_type t
 
--- The text spells the types of a method: its arguments take at most 255 places.
-pub record SpellsDescriptor (text : List ℕ) (m : MethodType) : Type 0 where
-  pub spelled : text ≡ method_spelled m
+-- The text encodes the types of a method: its arguments take at most 255 places.
+pub record EncodesDescriptor (text : List ℕ) (m : MethodType) : Type 0 where
+  pub encoded : text ≡ method_encoded m
   pub places : length m.arguments ≤ 255
   pub arguments : IsTrue (list_all is_type m.arguments)
   pub result : IsTrue (is_result m.result)
 
--- The text spells this type, and nothing stands behind it.
-pub record SpellsType (text : List ℕ) (t : FieldType) : Type 0 where
-  pub spelled : text ≡ type_spelled t
+-- The text encodes this type, and nothing stands after it.
+pub record EncodesType (text : List ℕ) (t : FieldType) : Type 0 where
+  pub encoded : text ≡ type_encoded t
   pub named : IsTrue (is_type t)
 
--- The text spells the type of this class.
-pub record SpellsClass (text name : List ℕ) : Type 0 where
-  pub spelled : text ≡ class_spelled name
+-- The text encodes the type of this class.
+pub record EncodesClass (text name : List ℕ) : Type 0 where
+  pub encoded : text ≡ class_encoded name
   pub named : IsTrue (is_class_name name)
 
 -- ---- reading
 
--- what stands before and behind the first such byte
+-- what stands before and after the first such byte
 abbrev pub until : ℕ → List ℕ → Option (List ℕ × List ℕ)
 until byte [] = None
 until byte (b ∷ bytes) = if b == byte then Some ([], bytes) else option_map (λ r. (b ∷ r.0, r.1)) (until byte bytes)
@@ -78,7 +78,7 @@ abbrev pub named_only : Option (List ℕ × List ℕ) → Option (List ℕ × Li
 named_only None = None
 named_only (Some read) = when_named read
 
--- a class's name before the next `;`, and what stands behind that
+-- a class's name before the next `;`, and what stands after that
 abbrev pub name_at : List ℕ → Option (List ℕ × List ℕ)
 name_at bytes = named_only (until 59 bytes)
 
@@ -108,7 +108,7 @@ type_at [] = Err NoForm
 type_at (b ∷ bytes) =
     if b == 91 then (type_at bytes >>= λ read. Ok (deeper 1 read)) else (element_at b bytes >>= λ read. Ok (flat read))
 
--- a type with nothing behind it
+-- a type with nothing after it
 unfoldable pub whole_type : List ℕ → Read FieldType
 whole_type bytes = do
   read ← type_at bytes
@@ -122,7 +122,7 @@ abbrev pub is_closed : List ℕ → Bool
 is_closed [] = false
 is_closed (b ∷ bytes) = b == 41
 
--- fewer than n types and the bracket behind them
+-- fewer than n types and the bracket after them
 unfoldable pub arguments_at : ℕ → List ℕ → Read (List FieldType × List ℕ)
 arguments_at zero bytes = Err NoForm
 arguments_at (suc n) bytes =
@@ -144,10 +144,10 @@ abbrev pub ended : Option (List ℕ × List ℕ) → Option (List ℕ)
 ended None = None
 ended (Some read) = if length read.1 == 0 then Some read.0 else None
 
-abbrev pub class_behind : ℕ → List ℕ → Option (List ℕ)
-class_behind first rest = if first == 76 then ended (name_at rest) else None
+abbrev pub class_after : ℕ → List ℕ → Option (List ℕ)
+class_after first rest = if first == 76 then ended (name_at rest) else None
 
 -- the class that a field's descriptor of class type names
 abbrev pub class_described : List ℕ → Option (List ℕ)
 class_described [] = None
-class_described (first ∷ rest) = class_behind first rest
+class_described (first ∷ rest) = class_after first rest

@@ -1,4 +1,4 @@
--- What a listing is, and which listing a text spells. (docs/LISTINGS.md)
+-- What a listing is, and which listing a text encodes. (docs/LISTINGS.md)
 use Rattle.std.specs.Prelude.{◌≡◌, ℕ, ◌≤◌, Bool, true, ◌&&◌, ◌||◌, not, List, [], ◌∷◌, ◌++◌, length, codes, bytes_eq, Option, Some, None, IsTrue, filter}
 use Rattle.std.specs.List.{filter_map, list_any, list_all}
 use Rattle.mon_base.specs.declared.method.MethodId.{MethodId}
@@ -13,7 +13,7 @@ use Rattle.api_listing.specs.declared.declaration.Declaration.{Declaration}
 use Rattle.api_listing.specs.declared.declaration.Declaration.TheVariants.{Class, Method, Field}
 use Rattle.api_listing.specs.Words.{pieces}
 use Rattle.api_listing.specs.BuiltIn.{built_in_classes, is_built_in, is_method}
-use Rattle.api_listing.specs.Lines.{says_something, SpellsLine}
+use Rattle.api_listing.specs.Lines.{says_something, EncodesLine}
 
 -- ---- what is known and what stands already
 
@@ -59,7 +59,7 @@ names_known known listing (Class c) = is_below listing.classes c
 names_known known listing (Method m types) = known m.id.class && types_are_known known types
 names_known known listing (Field id class) = known id.class && known class
 
--- ---- spelling
+-- ---- encoding
 
 abbrev pub class_declared : Declaration → Option ListedClass
 class_declared (Class c) = Some c
@@ -84,12 +84,12 @@ listing_of said = record {
   fields = filter_map field_declared said;
 }
 
--- The lines spell the declarations, one each, in words between single spaces.
+-- The lines encode the declarations, one each, in words between single spaces.
 abbrev pub AreSaid : List (List ℕ) → List Declaration → Type 0
 AreSaid [] [] = Unit {0}
 AreSaid [] (d ∷ said) = ⊥
 AreSaid (line ∷ lines) [] = ⊥
-AreSaid (line ∷ lines) (d ∷ said) = SpellsLine (pieces 32 line) d × AreSaid lines said
+AreSaid (line ∷ lines) (d ∷ said) = EncodesLine (pieces 32 line) d × AreSaid lines said
 
 -- Each declares what does not stand before it.
 abbrev pub AreOnce : List Declaration → Type 0
@@ -100,13 +100,13 @@ abbrev pub AreNamed : Listing → List Declaration → Type 0
 AreNamed listing said =
     (before after : List Declaration) (d : Declaration) → said ≡ before ++ d ∷ after → IsTrue (names_known (is_known listing.classes) (listing_of before) d)
 
--- The lines of the text, without those that say nothing, spell the listing behind the built-in classes.
-pub record SpellsListing (text : List ℕ) (listing : Listing) : Type 0 where
+-- The lines of the text, without those that say nothing, encode the listing after the built-in classes.
+pub record EncodesListing (text : List ℕ) (listing : Listing) : Type 0 where
   pub lines : List (List ℕ)
   pub said : List Declaration
   pub ended : pieces 10 text ≡ lines ++ [] ∷ []
   pub few : length lines ≤ 20000
-  pub spelled : AreSaid (filter says_something lines) said
+  pub encoded : AreSaid (filter says_something lines) said
   pub listed : listing ≡ listing_of said
   pub once : AreOnce said
   pub named : AreNamed listing said

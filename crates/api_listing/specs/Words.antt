@@ -3,11 +3,11 @@ use Rattle.std.specs.Prelude.{◌≡◌, ℕ, Bool, false, ◌||◌, ◌==◌, L
 use Rattle.std.specs.List.{slice_split, list_all}
 use Rattle.std.specs.Char.{is_ascii_digit, is_ascii_alphabetic}
 
--- what stands before, between and behind the places of a byte in a text
+-- what stands before, between and after the places of a byte in a text
 abbrev pub pieces : ℕ → List ℕ → List (List ℕ)
 pieces byte text = slice_split (λ b. b == byte) text
 
--- The text is n lines, with a newline behind each.
+-- The text is n lines, with a newline after each.
 pub record IsLines (n : ℕ) (text : List ℕ) : Type 0 where
   pub lines : List (List ℕ)
   pub ended : pieces 10 text ≡ lines ++ [] ∷ []

@@ -9,7 +9,7 @@ use mon_base::{Bytes, MethodId};
 pub enum Declaration {
     /// A class or an interface.
     Class(ListedClass),
-    /// A method, with the types that its descriptor spells.
+    /// A method, with the types that its descriptor encodes.
     Method {
         method: ListedMethod,
         types: MethodType,

@@ -34,12 +34,12 @@ ghost use Rattle.api_listing.specs.Descriptor.{
   arguments_at,
   method_type,
   class_described,
-  class_behind,
+  class_after,
   class_at,
   after_first,
-  SpellsDescriptor,
-  SpellsType,
-  SpellsClass,
+  EncodesDescriptor,
+  EncodesType,
+  EncodesClass,
 };
 ghost use Rattle.api_listing.specs.declared.descriptor.FieldType.{FieldType};
 ghost use Rattle.api_listing.specs.declared.descriptor.MethodType.{MethodType};
@@ -76,14 +76,14 @@ pub struct MethodType {
     pub result: Option<FieldType>,
 }
 
-/// The types that a method's descriptor spells.
+/// The types that a method's descriptor encodes.
 pub fn parse_descriptor(alloc: Global, desc: &[u8]) -> Result<MethodType, FormFault>
     // What is read decides the answer.
     ensures exact { Answers FormFault.Memory result (method_type desc.now) }
-    // What is read is spelled so.
-    ensures found { IfOk result (λ m. SpellsDescriptor desc.now m) }
-    // What is spelled so is read, unless memory runs out.
-    ensures only { (m : MethodType) → SpellsDescriptor desc.now m
+    // What is read is encoded so.
+    ensures found { IfOk result (λ m. EncodesDescriptor desc.now m) }
+    // What is encoded so is read, unless memory runs out.
+    ensures only { (m : MethodType) → EncodesDescriptor desc.now m
         → MatchResult result (λ r. r ≡ m) (λ e. e ≡ forms.Memory) }
 {
     method_type(alloc, desc)
@@ -106,19 +106,19 @@ fn after_first(alloc: Global, first: u8, rest: &[u8]) -> Result<MethodType, Form
     if first != b'(' {
         return Err(FormFault::NoForm);
     }
-    let (arguments, behind) = arguments_at(alloc, rest)?;
-    let result = result_of(alloc, behind)?;
+    let (arguments, following) = arguments_at(alloc, rest)?;
+    let result = result_of(alloc, following)?;
     Ok(MethodType { arguments, result })
 }
 
-/// The type that a field's descriptor spells.
+/// The type that a field's descriptor encodes.
 pub fn parse_field_descriptor(alloc: Global, desc: &[u8]) -> Result<FieldType, FormFault>
     // What is read decides the answer.
     ensures exact { Answers FormFault.Memory result (whole_type desc.now) }
-    // What is read is spelled so.
-    ensures found { IfOk result (λ t. SpellsType desc.now t) }
-    // What is spelled so is read, unless memory runs out.
-    ensures only { (t : FieldType) → SpellsType desc.now t
+    // What is read is encoded so.
+    ensures found { IfOk result (λ t. EncodesType desc.now t) }
+    // What is encoded so is read, unless memory runs out.
+    ensures only { (t : FieldType) → EncodesType desc.now t
         → MatchResult result (λ r. r ≡ t) (λ e. e ≡ forms.Memory) }
 {
     whole_type(alloc, desc)
@@ -127,8 +127,8 @@ pub fn parse_field_descriptor(alloc: Global, desc: &[u8]) -> Result<FieldType, F
 /// The class that a field's descriptor of class type names. It takes no memory.
 pub fn parse_class_descriptor<'a>(desc: &'a [u8]) -> Option<&'a [u8]>
     ensures exact { option_copied result ≡ class_described desc.now }
-    ensures found { IfSome (option_copied result) (λ name. SpellsClass desc.now name) }
-    ensures none { IfNone (option_copied result) ((name : List ℕ) → SpellsClass desc.now name → ⊥) }
+    ensures found { IfSome (option_copied result) (λ name. EncodesClass desc.now name) }
+    ensures none { IfNone (option_copied result) ((name : List ℕ) → EncodesClass desc.now name → ⊥) }
 {
     class_described(desc)
 }
@@ -138,22 +138,22 @@ fn class_described<'a>(desc: &'a [u8]) -> Option<&'a [u8]>
 {
     match desc {
         [] => None,
-        [first, rest @ ..] => class_behind(*first, rest),
+        [first, rest @ ..] => class_after(*first, rest),
     }
 }
 
-fn class_behind<'a>(first: u8, rest: &'a [u8]) -> Option<&'a [u8]>
-    ensures { option_copied result ≡ class_behind first rest.now }
+fn class_after<'a>(first: u8, rest: &'a [u8]) -> Option<&'a [u8]>
+    ensures { option_copied result ≡ class_after first rest.now }
 {
-    let (name, behind) = name_at(rest)?;
-    if first == b'L' && behind.is_empty() {
+    let (name, following) = name_at(rest)?;
+    if first == b'L' && following.is_empty() {
         Some(name)
     } else {
         None
     }
 }
 
-/// At most 255 types and the bracket behind them.
+/// At most 255 types and the bracket after them.
 #[tactic(auto, unfolding(crate::specs::Descriptor::arguments_at))]
 fn arguments_at<'a>(
     alloc: Global,
@@ -167,9 +167,9 @@ fn arguments_at<'a>(
         if is_closed(left) {
             return Ok((arguments, &left[1..]));
         }
-        let (argument, behind) = type_at(alloc, left)?;
+        let (argument, following) = type_at(alloc, left)?;
         arguments.push(argument)?;
-        left = behind;
+        left = following;
     }
     Err(FormFault::NoForm)
 }
@@ -199,14 +199,14 @@ fn result_of(alloc: Global, bytes: &[u8]) -> Result<Option<FieldType>, FormFault
 fn whole_type(alloc: Global, bytes: &[u8]) -> Result<FieldType, FormFault>
     ensures { Answers FormFault.Memory result (whole_type bytes.now) }
 {
-    let (found, behind) = type_at(alloc, bytes)?;
-    if !behind.is_empty() {
+    let (found, following) = type_at(alloc, bytes)?;
+    if !following.is_empty() {
         return Err(FormFault::NoForm);
     }
     Ok(found)
 }
 
-/// A type, and what stands behind it.
+/// A type, and what stands after it.
 fn type_at<'a>(alloc: Global, bytes: &'a [u8]) -> Result<(FieldType, &'a [u8]), FormFault>
     ensures { AnswersAs FormFault.Memory (λ r. (r.0, r.1.now)) result (type_at bytes.now) }
 {
@@ -214,13 +214,13 @@ fn type_at<'a>(alloc: Global, bytes: &'a [u8]) -> Result<(FieldType, &'a [u8]), 
     let mut left = bytes;
     while let [first, rest @ ..] = left {
         if *first != b'[' {
-            let (element, behind) = element_at(alloc, *first, rest)?;
+            let (element, following) = element_at(alloc, *first, rest)?;
             return Ok((
                 FieldType {
                     dimensions,
                     element,
                 },
-                behind,
+                following,
             ));
         }
         dimensions += 1;
@@ -229,7 +229,7 @@ fn type_at<'a>(alloc: Global, bytes: &'a [u8]) -> Result<(FieldType, &'a [u8]), 
     Err(FormFault::NoForm)
 }
 
-/// The element that this byte begins, and what stands behind it.
+/// The element that this byte begins, and what stands after it.
 #[tactic(auto, unfolding(crate::specs::Descriptor::element_at))]
 fn element_at<'a>(
     alloc: Global,
@@ -254,24 +254,24 @@ fn class_at<'a>(alloc: Global, bytes: &'a [u8]) -> Result<(Element, &'a [u8]), F
     ensures { AnswersAs FormFault.Memory (λ r. (r.0, r.1.now)) result (class_at bytes.now) }
 {
     match name_at(bytes) {
-        Some((name, behind)) => Ok((Element::Class(Bytes::from_slice(alloc, name)?), behind)),
+        Some((name, following)) => Ok((Element::Class(Bytes::from_slice(alloc, name)?), following)),
         None => Err(FormFault::NoForm),
     }
 }
 
-/// A class's name before the next `;`, and what stands behind that.
+/// A class's name before the next `;`, and what stands after that.
 fn name_at<'a>(bytes: &'a [u8]) -> Option<(&'a [u8], &'a [u8])>
     ensures { option_map (λ r. (r.0.now, r.1.now)) result ≡ name_at bytes.now }
 {
-    let (name, behind) = until_semicolon(bytes)?;
+    let (name, following) = until_semicolon(bytes)?;
     if class_name(name) {
-        Some((name, behind))
+        Some((name, following))
     } else {
         None
     }
 }
 
-/// The bytes before the first `;`, and those behind it.
+/// The bytes before the first `;`, and those after it.
 fn until_semicolon<'a>(bytes: &'a [u8]) -> Option<(&'a [u8], &'a [u8])>
     ensures { option_map (λ r. (r.0.now, r.1.now)) result ≡ until 59 bytes.now }
 {

@@ -1,6 +1,6 @@
 //! Listings: the library that a program may call without giving its classes, as a person writes it down.
 //!
-//! A listing is a text of lines (docs/LISTINGS.md), each of which makes a [`Declaration`]. What it is that a text spells
+//! A listing is a text of lines (docs/LISTINGS.md), each of which makes a [`Declaration`]. What it is that a text encodes
 //! a listing is said here (specs/Listing.antt); the crate listing_text reads one. [`resolve`] finds the method that a
 //! call means. Descriptors are read here, by [`parse_descriptor`] and [`parse_class_descriptor`]; and here are the types
 //! of what a program and the library say to each other: [`ApiCall`], [`ApiAnswer`], [`Event`].

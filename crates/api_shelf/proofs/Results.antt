@@ -9,10 +9,10 @@ use Rattle.api_listing.specs.declared.descriptor.FieldType.{FieldType}
 use Rattle.api_listing.specs.declared.descriptor.MethodType.{MethodType}
 use Rattle.api_listing.specs.declared.events.ApiCall.{ApiCall}
 use Rattle.api_listing.specs.Words.{is_class_name}
-use Rattle.api_listing.specs.Descriptor.{class_spelled, element_spelled, type_spelled, result_spelled, is_element, is_type, is_result, class_described, SpellsDescriptor}
+use Rattle.api_listing.specs.Descriptor.{class_encoded, element_encoded, type_encoded, result_encoded, is_element, is_type, is_result, class_described, EncodesDescriptor}
 use Rattle.api_listing.proofs.ClassBytes.{class_has_none}
 use Rattle.api_listing.proofs.DescriptorLaws.{both, class_descriptor_again}
-use Rattle.api_shelf.specs.Plain.{plain_answer, plain_for, plain_spelled, plain_named, result_text}
+use Rattle.api_shelf.specs.Plain.{plain_answer, plain_for, plain_encoded, plain_named, result_text}
 
 -- ---- names have no `)`
 
@@ -25,52 +25,52 @@ has_bracket text = list_any closes text
 -- ---- nor have types
 
 -- what is before the bracket is passed over
-past_next : (b : ℕ) (bytes behind : List ℕ) → (has_bracket bytes ≡ false → result_text (bytes ++ behind) ≡ result_text behind) → has_bracket (b ∷ bytes) ≡ false → result_text (b ∷ (bytes ++ behind)) ≡ result_text behind
-past_next b bytes behind others none = by (closes b) refl none where
-  by : (here : Bool) → closes b ≡ here → (here || has_bracket bytes) ≡ false → result_text (b ∷ (bytes ++ behind)) ≡ result_text behind
+past_next : (b : ℕ) (bytes following : List ℕ) → (has_bracket bytes ≡ false → result_text (bytes ++ following) ≡ result_text following) → has_bracket (b ∷ bytes) ≡ false → result_text (b ∷ (bytes ++ following)) ≡ result_text following
+past_next b bytes following others none = by (closes b) refl none where
+  by : (here : Bool) → closes b ≡ here → (here || has_bracket bytes) ≡ false → result_text (b ∷ (bytes ++ following)) ≡ result_text following
   by true is h = absurd (false≢true (sym h))
   by false is h = rw is (others h)
 
-past : (text behind : List ℕ) → has_bracket text ≡ false → result_text (text ++ behind) ≡ result_text behind
-past [] behind none = refl
-past (b ∷ bytes) behind none = past_next b bytes behind (past bytes behind) none
+past : (text following : List ℕ) → has_bracket text ≡ false → result_text (text ++ following) ≡ result_text following
+past [] following none = refl
+past (b ∷ bytes) following none = past_next b bytes following (past bytes following) none
 
-past_class : (name behind : List ℕ) → is_class_name name ≡ true → result_text ((76 ∷ (name ++ 59 ∷ [])) ++ behind) ≡ result_text behind
-past_class name behind named =
-    ap result_text (ap (λ (t : List ℕ). 76 ∷ t) (append_assoc name (59 ∷ []) behind))
-    ∙ past name (59 ∷ behind) (class_has_none 41 refl refl name named)
+past_class : (name following : List ℕ) → is_class_name name ≡ true → result_text ((76 ∷ (name ++ 59 ∷ [])) ++ following) ≡ result_text following
+past_class name following named =
+    ap result_text (ap (λ (t : List ℕ). 76 ∷ t) (append_assoc name (59 ∷ []) following))
+    ∙ past name (59 ∷ following) (class_has_none 41 refl refl name named)
 
-past_element : (e : Element) (behind : List ℕ) → is_element e ≡ true → result_text (element_spelled e ++ behind) ≡ result_text behind
-past_element Boolean behind good = refl
-past_element Byte behind good = refl
-past_element Char behind good = refl
-past_element Short behind good = refl
-past_element Int behind good = refl
-past_element (Class name) behind good = past_class name behind good
+past_element : (e : Element) (following : List ℕ) → is_element e ≡ true → result_text (element_encoded e ++ following) ≡ result_text following
+past_element Boolean following good = refl
+past_element Byte following good = refl
+past_element Char following good = refl
+past_element Short following good = refl
+past_element Int following good = refl
+past_element (Class name) following good = past_class name following good
 
-past_dimensions : (n : ℕ) (e : Element) (behind : List ℕ) → is_element e ≡ true → result_text ((replicate n 91 ++ element_spelled e) ++ behind) ≡ result_text behind
-past_dimensions zero e behind good = past_element e behind good
-past_dimensions (suc n) e behind good = past_dimensions n e behind good
+past_dimensions : (n : ℕ) (e : Element) (following : List ℕ) → is_element e ≡ true → result_text ((replicate n 91 ++ element_encoded e) ++ following) ≡ result_text following
+past_dimensions zero e following good = past_element e following good
+past_dimensions (suc n) e following good = past_dimensions n e following good
 
-past_types : (ts : List FieldType) (behind : List ℕ) → list_all is_type ts ≡ true → result_text (flat_map type_spelled ts ++ behind) ≡ result_text behind
-past_types [] behind good = refl
-past_types (t ∷ ts) behind good =
+past_types : (ts : List FieldType) (following : List ℕ) → list_all is_type ts ≡ true → result_text (flat_map type_encoded ts ++ following) ≡ result_text following
+past_types [] following good = refl
+past_types (t ∷ ts) following good =
     let p = both (is_type t) (list_all is_type ts) good in
-    ap result_text (append_assoc (type_spelled t) (flat_map type_spelled ts) behind)
-    ∙ past_dimensions t.dimensions t.element (flat_map type_spelled ts ++ behind) p.0
-    ∙ past_types ts behind p.1
+    ap result_text (append_assoc (type_encoded t) (flat_map type_encoded ts) following)
+    ∙ past_dimensions t.dimensions t.element (flat_map type_encoded ts ++ following) p.0
+    ∙ past_types ts following p.1
 
-result_text_is : (desc : List ℕ) (m : MethodType) → SpellsDescriptor desc m → result_text desc ≡ result_spelled m.result
-result_text_is desc m s = ap result_text s.spelled ∙ past_types m.arguments (41 ∷ result_spelled m.result) s.arguments
+result_text_is : (desc : List ℕ) (m : MethodType) → EncodesDescriptor desc m → result_text desc ≡ result_encoded m.result
+result_text_is desc m s = ap result_text s.encoded ∙ past_types m.arguments (41 ∷ result_encoded m.result) s.arguments
 
 -- ---- the answer
 
-named_is : (call : ApiCall) (name : List ℕ) → is_class_name name ≡ true → plain_spelled call (class_spelled name) ≡ plain_for call (Some (record { dimensions = 0; element = Class name }))
+named_is : (call : ApiCall) (name : List ℕ) → is_class_name name ≡ true → plain_encoded call (class_encoded name) ≡ plain_for call (Some (record { dimensions = 0; element = Class name }))
 named_is call name named =
-    let found : class_described (class_spelled name) ≡ Some name = class_descriptor_again (class_spelled name) name (record { spelled = refl; named = named }) in
+    let found : class_described (class_encoded name) ≡ Some name = class_descriptor_again (class_encoded name) name (record { encoded = refl; named = named }) in
     ap (plain_named call) found
 
-type_is : (call : ApiCall) (n : ℕ) (e : Element) → is_element e ≡ true → plain_spelled call (replicate n 91 ++ element_spelled e) ≡ plain_for call (Some (record { dimensions = n; element = e }))
+type_is : (call : ApiCall) (n : ℕ) (e : Element) → is_element e ≡ true → plain_encoded call (replicate n 91 ++ element_encoded e) ≡ plain_for call (Some (record { dimensions = n; element = e }))
 type_is call (suc n) e good =
     let deep : eqb (suc n) 0 ≡ false = ne_eqb (suc n) 0 (λ is. omega arith) in
     rw deep refl
@@ -81,9 +81,9 @@ type_is call zero Short good = refl
 type_is call zero Int good = refl
 type_is call zero (Class name) good = named_is call name good
 
-result_is : (call : ApiCall) (r : Option FieldType) → is_result r ≡ true → plain_spelled call (result_spelled r) ≡ plain_for call r
+result_is : (call : ApiCall) (r : Option FieldType) → is_result r ≡ true → plain_encoded call (result_encoded r) ≡ plain_for call r
 result_is call None good = refl
 result_is call (Some t) good = type_is call t.dimensions t.element good
 
-pub plain_is : (call : ApiCall) (m : MethodType) → SpellsDescriptor call.method.desc m → plain_answer call ≡ plain_for call m.result
-plain_is call m s = ap (plain_spelled call) (result_text_is call.method.desc m s) ∙ result_is call m.result s.result
+pub plain_is : (call : ApiCall) (m : MethodType) → EncodesDescriptor call.method.desc m → plain_answer call ≡ plain_for call m.result
+plain_is call m s = ap (plain_encoded call) (result_text_is call.method.desc m s) ∙ result_is call m.result s.result

@@ -33,26 +33,26 @@ plain_for call (Some t) = if t.dimensions == 0 then plain_element call t.element
 
 -- ---- by the text of the descriptor
 
--- what stands behind the arguments
+-- what stands after the arguments
 abbrev pub result_text : List ℕ → List ℕ
 result_text [] = []
 result_text (b ∷ bytes) = if b == 41 then bytes else result_text bytes
 
 -- the letter of a number's type
-abbrev pub spells_number : List ℕ → Bool
-spells_number text =
+abbrev pub encodes_number : List ℕ → Bool
+encodes_number text =
     bytes_eq text (codes "Z") || (bytes_eq text (codes "B") || (bytes_eq text (codes "C") || (bytes_eq text (codes "S") || bytes_eq text (codes "I"))))
 
 abbrev pub plain_named : ApiCall → Option (List ℕ) → ApiAnswer
 plain_named call None = answers.Null
 plain_named call (Some name) = plain_object call name
 
-abbrev pub plain_spelled : ApiCall → List ℕ → ApiAnswer
-plain_spelled call text =
+abbrev pub plain_encoded : ApiCall → List ℕ → ApiAnswer
+plain_encoded call text =
     if bytes_eq text (codes "V") then answers.Nothing
-    else if spells_number text then answers.Int (pos 0)
+    else if encodes_number text then answers.Int (pos 0)
     else plain_named call (class_described text)
 
 -- The plain answer to any call. A result that is no type counts as one of a class that is not named.
 abbrev pub plain_answer : ApiCall → ApiAnswer
-plain_answer call = plain_spelled call (result_text call.method.desc)
+plain_answer call = plain_encoded call (result_text call.method.desc)

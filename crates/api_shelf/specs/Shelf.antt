@@ -33,7 +33,7 @@ pairs_of class pairs = filter (λ pair. bytes_eq pair.0.method.class class) pair
 abbrev pub share_of : List View → ℕ → View → Log → Log
 share_of slots place slot pairs = if is_first slots place slot then pairs_of slot.class pairs else []
 
--- Of each class the first device tells the pairs of that class, in their order, and those behind it tell none.
+-- Of each class the first device tells the pairs of that class, in their order, and those after it tell none.
 abbrev pub AllTell : Log → List View → Type 0
 AllTell pairs slots =
     (place : ℕ) (slot : View) → slice_get slots place ≡ Some slot → HasLog slot.told (share_of slots place slot pairs)

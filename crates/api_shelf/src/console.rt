@@ -14,7 +14,7 @@ use std::alloc::Global;
 use std::io::Write;
 use std::marker::Model;
 
-/// A device that writes the text or the number that is passed to `print` and `println`, the latter with a newline behind
+/// A device that writes the text or the number that is passed to `print` and `println`, the latter with a newline after
 /// it, and answers every call plainly. It keeps no log. Over standard error it is made of `rt.stderr()`.
 #[derive(Drop)]
 pub struct Console<W: Write + Drop> {

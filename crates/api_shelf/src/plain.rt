@@ -2,8 +2,8 @@
 
 ghost use Rattle.std.specs.Prelude.{◌≡◌, option_copied};
 ghost use Rattle.api_listing.specs.declared.descriptor.MethodType.{MethodType};
-ghost use Rattle.api_listing.specs.Descriptor.{SpellsDescriptor};
-ghost use Rattle.api_shelf.specs.Plain.{plain_answer, plain_for, plain_named, plain_object, plain_spelled, result_text, spells_number};
+ghost use Rattle.api_listing.specs.Descriptor.{EncodesDescriptor};
+ghost use Rattle.api_shelf.specs.Plain.{plain_answer, plain_for, plain_named, plain_object, plain_encoded, result_text, encodes_number};
 
 use api_listing::{ApiAnswer, ApiCall, parse_class_descriptor};
 use mon_base::Bytes;
@@ -13,13 +13,13 @@ use std::alloc::Global;
 /// result is of the method's own class, the empty text for a String, and else null. It takes no memory.
 pub fn plain_answer(alloc: Global, call: &ApiCall) -> ApiAnswer
     ensures exact { result ≡ plain_answer call.now }
-    // The type that the descriptor spells decides it.
-    ensures typed { (m : MethodType) → SpellsDescriptor call.now.method.desc m → result ≡ plain_for call.now m.result }
+    // The type that the descriptor encodes decides it.
+    ensures typed { (m : MethodType) → EncodesDescriptor call.now.method.desc m → result ≡ plain_for call.now m.result }
 {
-    plain_spelled(alloc, call, result_text(call.method.desc.as_slice()))
+    plain_encoded(alloc, call, result_text(call.method.desc.as_slice()))
 }
 
-/// What stands in a descriptor behind its arguments.
+/// What stands in a descriptor after its arguments.
 fn result_text<'a>(desc: &'a [u8]) -> &'a [u8]
     ensures { result.now ≡ result_text desc.now }
 {
@@ -33,21 +33,21 @@ fn result_text<'a>(desc: &'a [u8]) -> &'a [u8]
     left
 }
 
-fn plain_spelled(alloc: Global, call: &ApiCall, text: &[u8]) -> ApiAnswer
-    ensures { result ≡ plain_spelled call.now text.now }
+fn plain_encoded(alloc: Global, call: &ApiCall, text: &[u8]) -> ApiAnswer
+    ensures { result ≡ plain_encoded call.now text.now }
 {
     if text == b"V".as_slice() {
         return ApiAnswer::Nothing;
     }
-    if spells_number(text) {
+    if encodes_number(text) {
         return ApiAnswer::Int(0);
     }
     plain_named(alloc, call, parse_class_descriptor(text))
 }
 
 /// Whether it is the letter of a number's type.
-fn spells_number(text: &[u8]) -> bool
-    ensures { result ≡ spells_number text.now }
+fn encodes_number(text: &[u8]) -> bool
+    ensures { result ≡ encodes_number text.now }
 {
     text == b"Z".as_slice()
         || text == b"B".as_slice()

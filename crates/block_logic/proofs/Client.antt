@@ -11,4 +11,4 @@ pub mod Passing
 pub mod Steps
 pub mod Throws
 pub mod Values
-pub mod Works
+pub mod Operates

@@ -41,10 +41,10 @@ use Rattle.block_logic.specs.Clauses.{clause_at}
 use Rattle.block_logic.specs.Fitting.{AreBelow, AreBlockFrames, AreClientFrames, AreOthers, Fits, IsBlockDoing, IsClient, IsClientDoing, IsClientFrame, IsCleanWorld, IsInBlock, IsKept, IsLocked, IsOther, IsUnlocked, ObeysIn, held_locks, locked_by, state_of}
 use Rattle.block_logic.specs.Meaning.{AreClean, IsFrame, IsFree, IsGranted, IsJudged, IsReleasing, MeansGranted, note_of}
 use Rattle.block_logic.specs.Obeying.{IsObeying}
-use Rattle.block_logic.specs.Standing.{is_open, needs_no_grant}
+use Rattle.block_logic.specs.Weakening.{is_open, needs_no_grant}
 use Rattle.block_logic.proofs.Agreement.{SeenIsEnough, alone, one_clear, same_spoken, spoken_with, still_agrees, still_followed}
 use Rattle.block_logic.proofs.Owner.Fair.{block_anywhere, block_fair, block_loose, clear_fair}
-use Rattle.block_logic.proofs.Owner.Standing.{none_there, slice_get_there}
+use Rattle.block_logic.proofs.Owner.Weakening.{none_there, slice_get_there}
 use Rattle.block_logic.proofs.Owner.Variables.{set_elsewhere, set_there}
 use Rattle.block_logic.proofs.Racing.{IsLoose, IsLooseEvent, Turning, keeps_agreement}
 use Rattle.block_logic.proofs.Steps.{AreLoose, BlockAnswers, ChangesBlock, ChangesClient, ClientAnswers, ClientSteps, GivesUp, HasIntsIn, IsFair, IsFit, OtherSteps, OwnerSteps, StaysOther, StaysOwner, Takes, TakingSteps}
@@ -57,10 +57,10 @@ get_before [] ys n inside = absurd (omega (arith, inside))
 get_before (x ∷ xs) ys zero inside = refl
 get_before (x ∷ xs) ys (suc n) inside = get_before xs ys n (omega (arith, inside))
 
-get_behind : {X : Type 0} (xs ys : List X) (n : ℕ) (y : X) → length xs ≤ n → slice_get (xs ++ ys) n ≡ Some y → (m : ℕ) × (slice_get ys m ≡ Some y)
-get_behind [] ys n y past there = (n, there)
-get_behind (x ∷ xs) ys zero y past there = absurd (omega (arith, past))
-get_behind (x ∷ xs) ys (suc n) y past there = get_behind xs ys n y (omega (arith, past)) there
+get_after : {X : Type 0} (xs ys : List X) (n : ℕ) (y : X) → length xs ≤ n → slice_get (xs ++ ys) n ≡ Some y → (m : ℕ) × (slice_get ys m ≡ Some y)
+get_after [] ys n y past there = (n, there)
+get_after (x ∷ xs) ys zero y past there = absurd (omega (arith, past))
+get_after (x ∷ xs) ys (suc n) y past there = get_after xs ys n y (omega (arith, past)) there
 
 length_set : {X : Type 0} (xs : List X) (n : ℕ) (x : X) → length (slice_set xs n x) ≡ length xs
 length_set [] n x = refl
@@ -414,8 +414,8 @@ module _ (program : Program) (policy : Policy) (annotations : Annotations) (laws
                   let old : slice_get among n ≡ Some part = sym (get_before among (begun_parts change.begins) n (omega (arith, inside, fits.each))) ∙ is in
                   others n t part this other.1 old
               | inr (inr begun) ↦
-                  let behind = get_behind among (begun_parts change.begins) n part (omega (arith, begun.0, fits.each)) is in
-                  inl (begun_client change.begins t c.begins begun.1, begun_clear change.begins behind.0 part behind.1)
+                  let following = get_after among (begun_parts change.begins) n part (omega (arith, begun.0, fits.each)) is in
+                  inl (begun_client change.begins t c.begins begun.1, begun_clear change.begins following.0 part following.1)
             ]
 
         lock_after : IsUnlocked program policy annotations machine fits.recorded fits.fields among ⊎ ((l : IsLocked program policy annotations machine fits.recorded fits.fields among) × (l.owner ≢ number))

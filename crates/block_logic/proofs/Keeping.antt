@@ -23,7 +23,7 @@ use Rattle.block_logic.specs.Agreement.{Part}
 use Rattle.block_logic.specs.Agreement as parts
 use Rattle.block_logic.specs.Fitting.{AreOthers, Fits, IsKept, IsLocked, IsOther, IsOwner, IsUnlocked, ObeysIn, held_locks, locked_by}
 use Rattle.block_logic.proofs.Composing.{Fair, IsKnownIn, Moves, StepLaws, client_keeps, holder_keeps, other_fair, other_keeps, other_moves, owner_fair, own_part, owner_moves}
-use Rattle.block_logic.proofs.Owner.Standing.{slice_get_there}
+use Rattle.block_logic.proofs.Owner.Weakening.{slice_get_there}
 use Rattle.block_logic.proofs.Steps.{ChangesBlock, ChangesClient, IsFit, StartsWell}
 
 -- what is done unless the program was stopped

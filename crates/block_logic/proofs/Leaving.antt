@@ -30,7 +30,7 @@ use Rattle.block_logic.specs.Notes.{Here, handlers_of, handlers_pass, meets, nex
 use Rattle.block_logic.specs.Operands.{adds, compared, enters, goes, leaves, pushes_state, variable_named, writes_static}
 use Rattle.block_logic.specs.Outside.{ErrorsLeaveBlocks, IsOutside, LeavesBlocks, StandsOutside, is_granted_call}
 use Rattle.block_logic.specs.Rows.{Asked, Check, Given, Open, Row, Rules, Taking, adding_row, all_hold, asks_atom, begins_owed, calls_of, check_row, comparing_row, failing, first_row, free_row, gives, granted_row, held_row, holding_on, is_negation, is_on_way, is_relation, last_term, leads, leaves_done, left, next_atom, note_taken, only_if, owed_row, pushing_row, row, sum_on_top, term_pushed, tested, tests, with_terms, without, writes, writing_row}
-use Rattle.block_logic.specs.Standing.{is_open, needs_no_grant}
+use Rattle.block_logic.specs.Weakening.{is_open, needs_no_grant}
 use Rattle.block_logic.proofs.Owner.GrantedRows.{granted_cases}
 use Rattle.block_logic.proofs.Tests.{it_is_there, not_there, passed_by}
 use Rattle.block_logic.proofs.Told.{IsIn, here_at, is_in, is_reached, notes_of, rules_hold_at, told_in_method}

@@ -15,7 +15,7 @@ other_length (t ∷ ts) (u ∷ us) differ = by (same_term t u) (other_length ts 
   by true e = e
   by false e = refl
 
--- one place, and those behind it
+-- one place, and those after it
 from_place : (ts us : List Term) (at : ℕ) → at < length ts → length ts ≡ length us
     → same_terms (drop at ts) (drop at us) ≡ (same_at ts us at && same_terms (drop (suc at) ts) (drop (suc at) us))
 from_place [] us at within same = absurd (omega (arith, within))
@@ -31,7 +31,7 @@ pub goes_on_at : (ts us : List Term) (at : ℕ) → at < length ts → length ts
     → same_terms (drop at ts) (drop at us) ≡ same_terms (drop (at + 1) ts) (drop (at + 1) us)
 goes_on_at ts us at within same holds = rw (add-one, from_place ts us at within same, holds) refl
 
--- behind the last place nothing differs
+-- after the last place nothing differs
 pub at_end : (ts us : List Term) (at : ℕ) → length ts ≤ at → length ts ≡ length us → same_terms (drop at ts) (drop at us) ≡ true
 at_end [] [] zero past same = refl
 at_end [] [] (suc at) past same = refl

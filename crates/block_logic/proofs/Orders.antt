@@ -33,7 +33,7 @@ module _ {S E : Type 0} (next : S → E → Option S) (ok : S → Bool) (keeps :
   abbrev pub TurnsWith : E → List E → Type 0
   TurnsWith e ds = AllByRecursion (λ d. Turns next ok e d) ds
 
-  -- an event comes first that came behind these
+  -- an event comes first that came after these
   pub comes_first : (s end : S) (ds : List E) (e : E) (rest : List E) → IsTrue (ok s) → TurnWith ds e → Leads s (ds ++ e ∷ rest) end → Leads s (e ∷ (ds ++ rest)) end
   comes_first s end [] e rest in_range turn leads = leads
   comes_first s end (d ∷ ds) e rest in_range turn leads =

@@ -13,7 +13,7 @@ pub mod Owed
 pub mod Passed
 pub mod Pushes
 pub mod Rows
-pub mod Standing
+pub mod Weakening
 pub mod Steps
 pub mod Stop
 pub mod Taking

@@ -309,8 +309,8 @@ module _ (policy : Policy) (held : HeldCalls) (Fit : Event → Type 0) where
         by (inl mine) = inl mine
         by (inr others) = inr (each_other IsLoose among own others)
 
-      behind : Agrees (next policy) (in_range policy) keeps (initial policy) (traced ++ option_to_list event) now (all_granted front ++ (granted_by due ++ all_granted back)) (all_owed front ++ (owed_by due ++ all_owed back))
-      behind = turned enough keeps starts traced recorded now ranged front back good_sides.0 good_sides.1 in_range_now part event due good good_due fit sides turns before
+      following : Agrees (next policy) (in_range policy) keeps (initial policy) (traced ++ option_to_list event) now (all_granted front ++ (granted_by due ++ all_granted back)) (all_owed front ++ (owed_by due ++ all_owed back))
+      following = turned enough keeps starts traced recorded now ranged front back good_sides.0 good_sides.1 in_range_now part event due good good_due fit sides turns before
 
       -- The agreement is kept, and the events so far are accepted.
       pub keeps_agreement : Agree (next policy) (initial policy) (traced ++ option_to_list event) now (all_granted (slice_set among own due)) (all_owed (slice_set among own due))
@@ -319,6 +319,6 @@ module _ (policy : Policy) (held : HeldCalls) (Fit : Event → Type 0) where
           let is = set_at among own part due there in
           let granted_is : all_granted (slice_set among own due) ≡ all_granted front ++ (granted_by due ++ all_granted back) = ap all_granted is ∙ whole due in
           let owed_is : all_owed (slice_set among own due) ≡ all_owed front ++ (owed_by due ++ all_owed back) = ap all_owed is ∙ whole_owed due in
-          let b = behind in
+          let b = following in
           let p = parted (next policy) (in_range policy) keeps (initial policy) (traced ++ option_to_list event) (all_granted front ++ (granted_by due ++ all_granted back)) b.end starts b.happened in
           (rw (granted_is, owed_is) (b.happened ∙ sym b.due), ap is_some p.to)

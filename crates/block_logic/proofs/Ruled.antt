@@ -5,7 +5,7 @@ use Rattle.insn_codec.specs.declared.insn.Insn.{Insn}
 use Rattle.insn_codec.specs.Control.{jump_targets}
 use Rattle.insn_codec.specs.Opcodes.{goes_on}
 use Rattle.insn_codec.specs.Shapes.{shape_of}
-use Rattle.insn_codec.specs.Spelling.{opcode_of}
+use Rattle.insn_codec.specs.Encoding.{opcode_of}
 use Rattle.bytecode_model.specs.declared.program.Handler.{Handler}
 use Rattle.bytecode_model.specs.declared.program.Method.{Method}
 use Rattle.bytecode_model.specs.declared.program.Program.{Program}
@@ -23,7 +23,7 @@ use Rattle.block_logic.specs.Meaning.{AreClean, IsFree, note_at, note_of}
 use Rattle.block_logic.specs.Notes.{is_free, is_granted, is_stop, meets}
 use Rattle.block_logic.specs.Operands.{calls, has_clause, is_way_out, variable_named}
 use Rattle.block_logic.specs.Rows.{Asked, Row, Rules, is_duty, row}
-use Rattle.block_logic.specs.Standing.{is_open}
+use Rattle.block_logic.specs.Weakening.{is_open}
 
 module _ (program : Program) (policy : Policy) (annotations : Annotations) where
   abbrev pub rules : Rules

@@ -10,7 +10,7 @@ use Rattle.insn_codec.specs.declared.insn.Insn.{Insn}
 use Rattle.insn_codec.specs.Control.{jump_targets, successors}
 use Rattle.insn_codec.specs.Opcodes.{goes_on}
 use Rattle.insn_codec.specs.Shapes.{shape_of}
-use Rattle.insn_codec.specs.Spelling.{opcode_of}
+use Rattle.insn_codec.specs.Encoding.{opcode_of}
 use Rattle.bytecode_model.specs.declared.program.Handler.{Handler}
 use Rattle.bytecode_model.specs.declared.program.LinkedClass.{LinkedClass}
 use Rattle.bytecode_model.specs.declared.program.Method.{Method}
@@ -29,7 +29,7 @@ use Rattle.cert_format.specs.declared.typing.FrameType.{FrameType}
 use Rattle.conspec_automaton.specs.declared.policy.Policy.{Policy}
 use Rattle.guest_heap.specs.declared.frame.Frame.{Frame}
 use Rattle.guest_model.specs.Places.{insn_in, method_at}
-use Rattle.guest_model.specs.Standing.{IsAt}
+use Rattle.guest_model.specs.ClosedPlaces.{IsAt}
 use Rattle.guest_model.specs.Throwing.{catches, handler_of}
 use Rattle.guest_model.proofs.Catching.{caught_at}
 use Rattle.guest_model.proofs.Options.{all_get, and_then_of, find_is}
@@ -38,7 +38,7 @@ use Rattle.block_logic.specs.Notes.{Here, all_pass, catches_all, first_handler, 
 use Rattle.block_logic.specs.Obeying.{IsObeying}
 use Rattle.block_logic.specs.Operands.{calls, has_clause, is_way_out, pushes_state, variable_named}
 use Rattle.block_logic.specs.Rows.{Asked, Row, Rules, is_duty, row}
-use Rattle.block_logic.specs.Standing.{is_open}
+use Rattle.block_logic.specs.Weakening.{is_open}
 use Rattle.block_logic.proofs.Handling.{catching_covers, first_takes, taking_passes}
 use Rattle.block_logic.proofs.Ruled.{BeginsOpen, LeadsTo, RulesHold, rules}
 use Rattle.block_logic.proofs.Tests.{all_passed, chosen, get_within, if_so, it_is_there, not_chosen, not_there, passed_by}

@@ -25,7 +25,7 @@ notes_in methods told method = list_at told (length (coded (take method methods)
 abbrev pub notes_told : Annotations → ℕ → List (List Note)
 notes_told annotations class = list_at annotations.notes class
 
--- what the rules are told of a program; where it has no class of the policy's variables, the number behind its classes names none
+-- what the rules are told of a program; where it has no class of the policy's variables, the number after its classes names none
 abbrev pub rules_of : Program → Policy → Annotations → Rules
 rules_of program policy annotations = record {
   held = annotations.held;

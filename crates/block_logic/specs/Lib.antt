@@ -2,9 +2,9 @@ pub mod Annotations
 pub mod Clauses
 pub mod Operands
 pub mod Terms
-pub mod Standing
+pub mod Weakening
 pub mod Rows
-pub mod Lent
+pub mod Borrowed
 pub mod Notes
 pub mod State
 pub mod Accepted

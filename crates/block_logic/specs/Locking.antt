@@ -35,7 +35,7 @@ pub record IsAtLock (program : Program) (machine : Machine) (number : ℕ) : Typ
 abbrev pub plain_step : ℕ → Step
 plain_step number = record { thread = number; choice = choices.Plain }
 
--- Where nobody holds the lock, the step of such a thread is enabled, and behind it the thread holds the lock.
+-- Where nobody holds the lock, the step of such a thread is enabled, and after it the thread holds the lock.
 abbrev pub FreeLockIsTaken : Type 0
 FreeLockIsTaken =
     (program : Program) (machine : Machine) (number : ℕ) → IsAtLock program machine number → held_locks program machine.monitors ≡ []

@@ -43,7 +43,7 @@ use Rattle.block_logic.specs.Agreement as parts
 use Rattle.block_logic.specs.Clauses.{clause_at, clause_of, is_of_phase, needs}
 use Rattle.block_logic.specs.Operands.{calls, has_clause, state_name}
 use Rattle.block_logic.specs.Formed.{FitsRuns, RunsAreFormed}
-use Rattle.block_logic.specs.Standing.{in_phase, is_before, is_open, takes_for_call}
+use Rattle.block_logic.specs.Weakening.{in_phase, is_before, is_open, takes_for_call}
 
 -- of two methods the lock is not held round the calls of both
 abbrev pub one_is_loose : HeldCalls → Pairs
@@ -242,7 +242,7 @@ HasResult None kept base locals rest event = Unit {0}
 HasResult (Some kind) true base locals rest event = option_and_then number_in (slice_get locals base) ≡ returned event
 HasResult (Some kind) false base locals rest event = option_and_then number_in (slice_get rest 0) ≡ returned event
 
--- It is so behind a return that gives something.
+-- It is so after a return that gives something.
 abbrev pub HasResultIn : Clause → Phase8 → Bool → ℕ → List Value → List Value → Event → Type 0
 HasResultIn clause Before kept base locals rest event = Unit {0}
 HasResultIn clause Exceptional kept base locals rest event = Unit {0}
@@ -270,7 +270,7 @@ IsOwed program policy held true site (suc (suc (suc n))) clause part kept locals
 -- The call is over.
 pub record MeansOwed (program : Program) (policy : Policy) (held : HeldCalls) (mine : Bool) (recorded : Values) (fields : List Value) (frame : Frame)
     (site : Site) (stage : ℕ) (kept top : Bool) (part : Part) : Type 0 where
-  pub behind : is_before site.phase ≡ false
+  pub following : is_before site.phase ≡ false
   pub round : GoesRound mine (holds_round held site.method)
   pub variables : HasState mine fields recorded
   pub above : IsAbove program (lock_on program top) frame.stack.items

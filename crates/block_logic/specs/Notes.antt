@@ -6,7 +6,7 @@ use Rattle.std.specs.Option.{option_map_or}
 use Rattle.insn_codec.specs.declared.insn.Insn.{Insn}
 use Rattle.insn_codec.specs.Control.{jump_targets}
 use Rattle.insn_codec.specs.Opcodes.{goes_on}
-use Rattle.insn_codec.specs.Spelling.{opcode_of}
+use Rattle.insn_codec.specs.Encoding.{opcode_of}
 use Rattle.insn_codec.specs.Shapes.{shape_of}
 use Rattle.bytecode_model.specs.declared.program.Handler.{Handler}
 use Rattle.bytecode_model.specs.declared.program.Method.{Method}
@@ -20,7 +20,7 @@ use Rattle.block_logic.specs.Annotations.{holds_round}
 use Rattle.block_logic.specs.Clauses.{needs}
 use Rattle.block_logic.specs.Operands.{calls, enters, has_clause, is_way_out, leaves, pushes_state, variable_named, writes_static}
 use Rattle.block_logic.specs.Rows.{Asked, Nothing, Open, Given, Taking, Row, Rules, is_duty, row, thrown}
-use Rattle.block_logic.specs.Standing.{is_exceptional, is_open, may_stand, takes_for_call}
+use Rattle.block_logic.specs.Weakening.{is_exceptional, is_open, may_stand, takes_for_call}
 
 -- an instruction: its index, itself, and what its operand names
 pub record Here : Type 0 where
@@ -172,7 +172,7 @@ thrown_by rules (notes.Held site failed holding list map) = Nothing
 thrown_by rules (notes.Owed site stage kept top) = Nothing
 thrown_by rules (notes.Stop site place) = Nothing
 
--- It takes any class, and behind it an update is due for the exception.
+-- It takes any class, and after it an update is due for the exception.
 abbrev pub catches_all : Rules → List Note → Note → Handler → Bool
 catches_all rules told note handler =
     not (is_some handler.class)

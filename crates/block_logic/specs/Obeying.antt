@@ -19,7 +19,7 @@ use Rattle.guest_model.specs.declared.machine.Machine.{Machine}
 use Rattle.guest_model.specs.declared.machine.Step.{Step}
 use Rattle.guest_model.specs.Calls.{arity, types_of}
 use Rattle.guest_model.specs.Runs.{exec, seen, trace}
-use Rattle.guest_model.specs.Standing.{HasInsns, IsClosed}
+use Rattle.guest_model.specs.ClosedPlaces.{HasInsns, IsClosed}
 use Rattle.guest_model.specs.Stepping.{stepped}
 use Rattle.block_logic.specs.Accepted.{AreAccepted}
 use Rattle.block_logic.specs.Fitting.{held_locks, locked_by}

@@ -11,7 +11,7 @@ use Rattle.cert_format.specs.declared.note.Note.{Note}
 use Rattle.cert_format.specs.declared.note.Note.TheVariants as notes
 use Rattle.cert_format.specs.declared.note.Phase8.TheVariants.{Before}
 use Rattle.conspec_automaton.specs.declared.policy.Policy.{Policy}
-use Rattle.guest_model.specs.Standing.{IsAt}
+use Rattle.guest_model.specs.ClosedPlaces.{IsAt}
 use Rattle.block_logic.specs.Accepted.{AreAccepted}
 use Rattle.block_logic.specs.Clauses.{clause_at}
 use Rattle.block_logic.specs.Meaning.{note_at, note_in}

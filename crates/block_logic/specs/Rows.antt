@@ -24,7 +24,7 @@ use Rattle.block_logic.specs.Annotations.{holds_round}
 use Rattle.block_logic.specs.declared.held_calls.HeldCalls.{HeldCalls}
 use Rattle.block_logic.specs.Clauses.{clause_at, clause_of, needs, result_kind}
 use Rattle.block_logic.specs.Operands.{adds, calls, compared, enters, goes, is_way_out, leaves, loaded, loaded_number, number_pushed, pushes, pushes_null, pushes_state, reads_static, stored, throws, variable_named, writes_static}
-use Rattle.block_logic.specs.Standing.{asks_kept, begun, branches_of, is_after, is_before, is_done, in_phase}
+use Rattle.block_logic.specs.Weakening.{asks_kept, begun, branches_of, is_after, is_before, is_done, in_phase}
 use Rattle.block_logic.specs.Terms.{base_term, same_term, same_terms}
 use Rattle.conspec_tree.specs.Kinds.{is_number}
 
@@ -259,7 +259,7 @@ calls_of site shape (target.ClassName name) = false
 calls_of site shape (target.Number n) = false
 calls_of site shape (target.Literal index) = false
 
--- Behind the call its lock is still held, if it is held round the call; if not, an update is due where a clause is for the return.
+-- After the call its lock is still held, if it is held round the call; if not, an update is due where a clause is for the return.
 abbrev pub returned : Rules → Site → Asked
 returned rules site =
     if holds_round rules.held site.method then Given (notes.Owed (in_phase After site) 1 false false)
@@ -270,13 +270,13 @@ returned rules site =
 abbrev pub is_duty : Rules → ℕ → Bool
 is_duty rules method = holds_round rules.held method || is_some (clause_at rules.policy method Exceptional)
 
-abbrev pub stage_behind : Bool → ℕ
-stage_behind held = if held then 1 else 0
+abbrev pub stage_after : Bool → ℕ
+stage_after held = if held then 1 else 0
 
 -- where the call throws
 abbrev pub thrown : Rules → Site → Asked
 thrown rules site =
-    if is_duty rules site.method then Given (notes.Owed (in_phase Exceptional site) (stage_behind (holds_round rules.held site.method)) false false) else Open
+    if is_duty rules site.method then Given (notes.Owed (in_phase Exceptional site) (stage_after (holds_round rules.held site.method)) false false) else Open
 
 abbrev pub granted_row : Rules → Site → Bool → ℕ → Bool → Shape → Target → Option Row
 granted_row rules site locked count top shape ref =

@@ -2,24 +2,26 @@
 
 ghost use Rattle.std.specs.Prelude.{◌≡◌, ◌∷◌, [], ◌++◌, if◌then◌else◌, option_and_then, option_map};
 ghost use Rattle.cert_format.specs.declared.note.Term.TheVariants as terms;
-ghost use Rattle.block_logic.specs.Lent.{asked_lent, check_lent, note_lent, row_lent, term_lent};
+ghost use Rattle.block_logic.specs.Borrowed.{asked_borrowed, check_borrowed, note_borrowed, row_borrowed, term_borrowed};
 ghost use Rattle.block_logic.specs.Operands.{loaded_number};
 ghost use Rattle.block_logic.specs.Rows.{adding_row, all_hold, argument_in, asks_atom, check_row, comparing_row};
 ghost use Rattle.block_logic.specs.Rows.{failing, field_term, gives, holding_on};
 ghost use Rattle.block_logic.specs.Rows.{is_addend, is_negation, is_relation, leaves_done, left, local_term, next_atom};
 ghost use Rattle.block_logic.specs.Rows.{pushing_row, result_in, sum_of, sum_on_top, term_pushed, tested};
 ghost use Rattle.block_logic.specs.Rows.{tests, with_terms, writes, writing_row};
-ghost use Rattle.block_logic.specs.Standing.{is_done};
+ghost use Rattle.block_logic.specs.Weakening.{is_done};
 ghost use Rattle.block_logic.specs.Terms.{same_terms};
 
-use crate::lent::{AskedRef, CheckRef, HeldRef, NoteRef, RowRef, TermsRef, WideTerm, gives, leads};
+use crate::borrowed::{
+    AskedRef, CheckRef, HeldRef, NoteRef, RowRef, TermsRef, WideTerm, gives, leads,
+};
 use crate::operands::{
     adds, compared, goes, leaves, loaded_number, number_pushed, pushes_state, reads_static,
     variable_named, writes_static,
 };
 use crate::rules::Rules;
-use crate::standing::{branches_of, is_after, is_before, is_done};
 use crate::terms::{base_term, last_but_one, last_term, same_term, same_terms, widened, without};
+use crate::weakening::{branches_of, is_after, is_before, is_done};
 use bytecode_model::Target;
 use cert_format::{Site, Term};
 use conspec_automaton::{Clause, Policy};
@@ -30,7 +32,7 @@ use insn_codec::{Relation, Shape};
 
 /// The argument that stands in a local, where it is a number.
 fn argument_in(clause: &Clause, base: u16, slot: u16) -> Option<WideTerm>
-    ensures { option_map term_lent result ≡ argument_in clause.now base slot }
+    ensures { option_map term_borrowed result ≡ argument_in clause.now base slot }
 {
     if base > slot {
         return None;
@@ -44,7 +46,7 @@ fn argument_in(clause: &Clause, base: u16, slot: u16) -> Option<WideTerm>
 
 /// The result, where it stands in the local and is a number.
 fn result_in(clause: &Clause, base: u16, slot: u16) -> Option<WideTerm>
-    ensures { option_map term_lent result ≡ result_in clause.now base slot }
+    ensures { option_map term_borrowed result ≡ result_in clause.now base slot }
 {
     match clause.result {
         Some(kind) if slot == base && is_number(kind) => Some(WideTerm::Result),
@@ -54,7 +56,7 @@ fn result_in(clause: &Clause, base: u16, slot: u16) -> Option<WideTerm>
 
 /// What a local holds while a check is made.
 fn local_term(site: Site, clause: &Clause, slot: u16) -> Option<WideTerm>
-    ensures { option_map term_lent result ≡ local_term site clause.now slot }
+    ensures { option_map term_borrowed result ≡ local_term site clause.now slot }
 {
     if is_before(site.phase) {
         argument_in(clause, site.base, slot)
@@ -67,14 +69,14 @@ fn local_term(site: Site, clause: &Clause, slot: u16) -> Option<WideTerm>
 
 /// The number that is loaded from a local.
 fn number_loaded(site: Site, clause: &Clause, shape: Shape) -> Option<WideTerm>
-    ensures { option_map term_lent result ≡ option_and_then (local_term site clause.now) (loaded_number shape) }
+    ensures { option_map term_borrowed result ≡ option_and_then (local_term site clause.now) (loaded_number shape) }
 {
     local_term(site, clause, loaded_number(shape)?)
 }
 
 /// What a variable is.
 fn field_term(rules: &Rules<'_>, map: &[Term], shape: Shape, target: &Target) -> Option<WideTerm>
-    ensures { option_map term_lent result ≡ field_term rules.now map.now shape target.now }
+    ensures { option_map term_borrowed result ≡ field_term rules.now map.now shape target.now }
 {
     if !reads_static(shape) {
         return None;
@@ -91,7 +93,7 @@ fn term_pushed(
     shape: Shape,
     target: &Target,
 ) -> Option<WideTerm>
-    ensures { option_map term_lent result
+    ensures { option_map term_borrowed result
         ≡ term_pushed rules.now check.entry.site check.entry.clause.now check.entry.map.now shape target.now }
 {
     if pushes_state(shape, target) {
@@ -110,7 +112,7 @@ fn term_pushed(
 
 /// The sum of a variable and a constant, in either order.
 fn sum_of(term: Term, other: Term) -> Option<WideTerm>
-    ensures { option_map term_lent result ≡ sum_of term other }
+    ensures { option_map term_borrowed result ≡ sum_of term other }
 {
     match term {
         Term::Var(var) => match other {
@@ -127,7 +129,7 @@ fn sum_of(term: Term, other: Term) -> Option<WideTerm>
 
 /// The sum of a variable and a constant, where it may be added: one of at most 1,000,000,000, or that is taken away.
 fn sum(var: u8, n: i32) -> Option<WideTerm>
-    ensures { option_map term_lent result ≡ (if is_addend n then Some (terms.VarAdd var n) else None) }
+    ensures { option_map term_borrowed result ≡ (if is_addend n then Some (terms.VarAdd var n) else None) }
 {
     if -1_000_000_000 <= n && n <= 1_000_000_000 {
         Some(WideTerm::VarAdd(usize::from(var), n))
@@ -137,7 +139,7 @@ fn sum(var: u8, n: i32) -> Option<WideTerm>
 }
 
 fn sum_on_top(terms: &[Term]) -> Option<WideTerm>
-    ensures { option_map term_lent result ≡ sum_on_top terms.now }
+    ensures { option_map term_borrowed result ≡ sum_on_top terms.now }
 {
     sum_of(last_but_one(terms)?, last_term(terms)?)
 }
@@ -191,7 +193,7 @@ fn is_negation(rel: Rel, relation: Relation) -> bool
 
 /// The check once the atom holds.
 pub fn holding_on(check: CheckRef<'_>) -> NoteRef<'_>
-    ensures { note_lent result ≡ holding_on (check_lent check.entry) }
+    ensures { note_borrowed result ≡ holding_on (check_borrowed check.entry) }
 {
     NoteRef::Held(HeldRef {
         site: check.site,
@@ -204,7 +206,7 @@ pub fn holding_on(check: CheckRef<'_>) -> NoteRef<'_>
 
 /// The check once the atom does not hold.
 pub fn failing(check: CheckRef<'_>) -> NoteRef<'_>
-    ensures { note_lent result ≡ failing (check_lent check.entry) }
+    ensures { note_borrowed result ≡ failing (check_borrowed check.entry) }
 {
     NoteRef::Held(HeldRef {
         site: check.site,
@@ -217,7 +219,7 @@ pub fn failing(check: CheckRef<'_>) -> NoteRef<'_>
 
 /// The row of a jump by the atom's relation, or by the other one.
 fn tested(check: CheckRef<'_>, rel: Rel, relation: Relation) -> Option<RowRef<'_>>
-    ensures { option_map row_lent result ≡ tested (check_lent check.entry) rel relation }
+    ensures { option_map row_borrowed result ≡ tested (check_borrowed check.entry) rel relation }
 {
     if is_relation(rel, relation) {
         Some(RowRef::Tests { check, jumps: true })
@@ -232,7 +234,7 @@ fn tested(check: CheckRef<'_>, rel: Rel, relation: Relation) -> Option<RowRef<'_
 }
 
 fn tests<'a>(policy: &Policy, check: CheckRef<'a>, relation: Relation) -> Option<RowRef<'a>>
-    ensures { option_map row_lent result ≡ tests policy.now (check_lent check.entry) relation }
+    ensures { option_map row_borrowed result ≡ tests policy.now (check_borrowed check.entry) relation }
 {
     let atom = next_atom(policy, check.site, check.failed, check.holding)?;
     if asks_atom(check.terms, atom) {
@@ -246,7 +248,7 @@ fn tests<'a>(policy: &Policy, check: CheckRef<'a>, relation: Relation) -> Option
 
 /// Whether all atoms of the branch hold.
 fn all_hold(policy: &Policy, check: CheckRef<'_>) -> bool
-    ensures { result ≡ all_hold policy.now (check_lent check.entry) }
+    ensures { result ≡ all_hold policy.now (check_borrowed check.entry) }
 {
     match branches_of(policy, check.site).get(usize::from(check.failed)) {
         Some(branch) => usize::from(check.holding) == branch.atoms.len(),
@@ -256,7 +258,7 @@ fn all_hold(policy: &Policy, check: CheckRef<'_>) -> bool
 
 /// The row where a variable is written.
 fn writes<'a>(policy: &Policy, check: CheckRef<'a>, var: u32) -> Option<RowRef<'a>>
-    ensures { option_map row_lent result ≡ writes policy.now (check_lent check.entry) var }
+    ensures { option_map row_borrowed result ≡ writes policy.now (check_borrowed check.entry) var }
 {
     let term = last_term(check.terms)?;
     if !all_hold(policy, check) {
@@ -277,7 +279,7 @@ fn writes<'a>(policy: &Policy, check: CheckRef<'a>, var: u32) -> Option<RowRef<'
 
 /// What is asked once the lock is left.
 fn left<'a>(site: Site) -> AskedRef<'a>
-    ensures { asked_lent result ≡ left site }
+    ensures { asked_borrowed result ≡ left site }
 {
     if is_before(site.phase) {
         AskedRef::Given(NoteRef::Granted {
@@ -293,7 +295,7 @@ fn left<'a>(site: Site) -> AskedRef<'a>
 
 /// The row where the lock is left once the updates are made: its class is all that is pushed.
 fn leaves_done<'a>(policy: &Policy, check: CheckRef<'a>) -> Option<RowRef<'a>>
-    ensures { option_map row_lent result ≡ leaves_done policy.now (check_lent check.entry) }
+    ensures { option_map row_borrowed result ≡ leaves_done policy.now (check_borrowed check.entry) }
 {
     let failed = usize::from(check.failed);
     let holding = usize::from(check.holding);
@@ -314,7 +316,7 @@ fn leaves_done<'a>(policy: &Policy, check: CheckRef<'a>) -> Option<RowRef<'a>>
 
 /// The check with another term on top of some terms.
 fn with_top<'a>(check: CheckRef<'a>, below: &'a [Term], top: WideTerm) -> Option<RowRef<'a>>
-    ensures { option_map row_lent result ≡ gives (with_terms (check_lent check.entry) (below.now ++ term_lent top ∷ [])) }
+    ensures { option_map row_borrowed result ≡ gives (with_terms (check_borrowed check.entry) (below.now ++ term_borrowed top ∷ [])) }
 {
     gives(NoteRef::Held(HeldRef {
         site: check.site,
@@ -327,7 +329,7 @@ fn with_top<'a>(check: CheckRef<'a>, below: &'a [Term], top: WideTerm) -> Option
 
 /// The check as it is.
 fn unchanged(check: CheckRef<'_>) -> Option<RowRef<'_>>
-    ensures { option_map row_lent result ≡ gives (with_terms (check_lent check.entry) check.entry.terms.now) }
+    ensures { option_map row_borrowed result ≡ gives (with_terms (check_borrowed check.entry) check.entry.terms.now) }
 {
     gives(NoteRef::Held(HeldRef {
         site: check.site,
@@ -344,14 +346,14 @@ fn pushing_row<'a>(
     shape: Shape,
     target: &Target,
 ) -> Option<RowRef<'a>>
-    ensures { option_map row_lent result ≡ pushing_row rules.now (check_lent check.entry) shape target.now }
+    ensures { option_map row_borrowed result ≡ pushing_row rules.now (check_borrowed check.entry) shape target.now }
 {
     let top = term_pushed(rules, check, shape, target)?;
     with_top(check, check.terms, top)
 }
 
 fn adding_row<'a>(check: CheckRef<'a>, shape: Shape) -> Option<RowRef<'a>>
-    ensures { option_map row_lent result ≡ adding_row (check_lent check.entry) shape }
+    ensures { option_map row_borrowed result ≡ adding_row (check_borrowed check.entry) shape }
 {
     if !adds(shape) {
         return None;
@@ -361,7 +363,7 @@ fn adding_row<'a>(check: CheckRef<'a>, shape: Shape) -> Option<RowRef<'a>>
 }
 
 fn comparing_row<'a>(policy: &Policy, check: CheckRef<'a>, shape: Shape) -> Option<RowRef<'a>>
-    ensures { option_map row_lent result ≡ comparing_row policy.now (check_lent check.entry) shape }
+    ensures { option_map row_borrowed result ≡ comparing_row policy.now (check_borrowed check.entry) shape }
 {
     tests(policy, check, compared(shape)?)
 }
@@ -372,7 +374,7 @@ fn writing_row<'a>(
     shape: Shape,
     target: &Target,
 ) -> Option<RowRef<'a>>
-    ensures { option_map row_lent result ≡ writing_row rules.now (check_lent check.entry) shape target.now }
+    ensures { option_map row_borrowed result ≡ writing_row rules.now (check_borrowed check.entry) shape target.now }
 {
     if !writes_static(shape) {
         return None;
@@ -387,7 +389,7 @@ pub fn check_row<'a>(
     shape: Shape,
     target: &Target,
 ) -> Option<RowRef<'a>>
-    ensures { option_map row_lent result ≡ check_row rules.now (check_lent check.entry) shape target.now }
+    ensures { option_map row_borrowed result ≡ check_row rules.now (check_borrowed check.entry) shape target.now }
 {
     if let Some(row) = pushing_row(rules, check, shape, target) {
         return Some(row);

@@ -10,7 +10,7 @@ use cert_format::Mode;
 pub enum HeldCalls {
     /// Of all.
     Always,
-    /// Of none: the lock is let go before the call, and taken again behind it.
+    /// Of none: the lock is let go before the call, and taken again after it.
     Never,
 }
 

@@ -26,7 +26,7 @@ pub fn errors_leave_blocks()
 {}
 
 /// What is promised of the lock is not empty: where nobody holds it, and a thread stands before `monitorenter` with the lock on
-/// top of its operands, the step of this thread is enabled, and behind it the thread holds the lock.
+/// top of its operands, the step of this thread is enabled, and after it the thread holds the lock.
 pub fn free_lock_is_taken()
     ensures taken { FreeLockIsTaken }
 {

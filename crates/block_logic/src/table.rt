@@ -7,23 +7,23 @@ ghost use Rattle.std.specs.Option.{option_map_or};
 ghost use Rattle.cert_format.specs.declared.note.Note.TheVariants as notes;
 ghost use Rattle.block_logic.specs.Annotations.{holds_round};
 ghost use Rattle.block_logic.specs.Clauses.{needs};
-ghost use Rattle.block_logic.specs.Lent.{asked_lent, due_lent, note_lent, row_lent};
+ghost use Rattle.block_logic.specs.Borrowed.{asked_borrowed, due_borrowed, note_borrowed, row_borrowed};
 ghost use Rattle.block_logic.specs.Operands.{loaded, stored};
 ghost use Rattle.block_logic.specs.Rows.{Given, begins_owed, calls_of, free_row, gives, granted_row};
 ghost use Rattle.block_logic.specs.Rows.{held_row, is_duty, is_on_way, may_keep};
-ghost use Rattle.block_logic.specs.Rows.{may_leave, may_push, note_taken, owed_row, returned, row, stage_behind, stop_row};
+ghost use Rattle.block_logic.specs.Rows.{may_leave, may_push, note_taken, owed_row, returned, row, stage_after, stop_row};
 ghost use Rattle.block_logic.specs.Rows.{taking_row, thrown};
 
+use crate::borrowed::{AskedRef, CheckRef, DueRef, NoteRef, RowRef, gives, leads};
 use crate::checks::check_row;
 use crate::clauses::{clause_at, clause_of, needs, result_kind};
 use crate::held_calls::holds_round;
-use crate::lent::{AskedRef, CheckRef, DueRef, NoteRef, RowRef, gives, leads};
 use crate::operands::{
     calls, enters, is_way_out, leaves, loaded, pushes, pushes_null, pushes_state, stored, throws,
     variable_named,
 };
 use crate::rules::Rules;
-use crate::standing::{asks_kept, begun, in_phase, is_after};
+use crate::weakening::{asks_kept, begun, in_phase, is_after};
 use bytecode_model::Target;
 use cert_format::{Note, Phase8, Site, Term};
 use conspec_automaton::Policy;
@@ -36,7 +36,7 @@ pub fn row<'a>(
     shape: Shape,
     target: &Target,
 ) -> Option<RowRef<'a>>
-    ensures { option_map row_lent result ≡ row rules.now note.now shape target.now }
+    ensures { option_map row_borrowed result ≡ row rules.now note.now shape target.now }
 {
     match note {
         Note::Free => free_row(rules, shape, target),
@@ -80,7 +80,7 @@ pub fn row<'a>(
 
 /// The object of the lock's class is pushed to take the lock. Any other instruction leaves the policy's variables alone.
 fn free_row<'a>(rules: &Rules<'_>, shape: Shape, target: &Target) -> Option<RowRef<'a>>
-    ensures { option_map row_lent result ≡ free_row rules.now shape target.now }
+    ensures { option_map row_borrowed result ≡ free_row rules.now shape target.now }
 {
     if pushes_state(shape, target) {
         return leads(AskedRef::Taking);
@@ -95,7 +95,7 @@ fn free_row<'a>(rules: &Rules<'_>, shape: Shape, target: &Target) -> Option<RowR
 
 /// The lock is taken: the check begins, or there is none before the call.
 fn note_taken(policy: &Policy, site: Site) -> NoteRef<'_>
-    ensures { note_lent result ≡ note_taken policy.now site }
+    ensures { note_borrowed result ≡ note_taken policy.now site }
 {
     if clause_at(policy, u32::from(site.method), Phase8::Before).is_some() {
         NoteRef::Held(begun(policy, site))
@@ -110,7 +110,7 @@ fn note_taken(policy: &Policy, site: Site) -> NoteRef<'_>
 }
 
 fn taking_row<'a>(rules: &Rules<'a>, site: Site, shape: Shape) -> Option<RowRef<'a>>
-    ensures { option_map row_lent result ≡ taking_row rules.now site shape }
+    ensures { option_map row_borrowed result ≡ taking_row rules.now site shape }
 {
     if enters(shape) {
         gives(note_taken(rules.policy, site))
@@ -132,7 +132,7 @@ fn held_row<'a>(
     shape: Shape,
     target: &Target,
 ) -> Option<RowRef<'a>>
-    ensures { option_map row_lent result ≡ held_row rules.now site failed holding terms.now map.now shape target.now }
+    ensures { option_map row_borrowed result ≡ held_row rules.now site failed holding terms.now map.now shape target.now }
 {
     let check = CheckRef {
         site,
@@ -157,16 +157,16 @@ fn calls_of(site: Site, shape: Shape, target: &Target) -> bool
     }
 }
 
-/// Behind the call its lock is still held, if it is held round the call; if not, an update is due where a clause is for the
+/// After the call its lock is still held, if it is held round the call; if not, an update is due where a clause is for the
 /// return.
 fn returned(rules: &Rules<'_>, site: Site) -> DueRef
-    ensures { due_lent result ≡ returned rules.now site }
+    ensures { due_borrowed result ≡ returned rules.now site }
 {
-    let behind = in_phase(Phase8::After, site);
+    let following = in_phase(Phase8::After, site);
     if holds_round(rules.held, u32::from(site.method)) {
-        due(behind, 1)
-    } else if clause_of(rules.policy, behind).is_some() {
-        due(behind, 0)
+        due(following, 1)
+    } else if clause_of(rules.policy, following).is_some() {
+        due(following, 0)
     } else {
         DueRef::Open
     }
@@ -174,7 +174,7 @@ fn returned(rules: &Rules<'_>, site: Site) -> DueRef
 
 /// An update is due at this stage, and nothing is done for it.
 fn due(site: Site, stage: usize) -> DueRef
-    ensures { due_lent result ≡ Given (notes.Owed site stage false false) }
+    ensures { due_borrowed result ≡ Given (notes.Owed site stage false false) }
 {
     DueRef::Due { site, stage }
 }
@@ -187,20 +187,20 @@ pub fn is_duty(rules: &Rules<'_>, method: u32) -> bool
         || clause_at(rules.policy, method, Phase8::Exceptional).is_some()
 }
 
-fn stage_behind(held: bool) -> usize
-    ensures { result ≡ stage_behind held }
+fn stage_after(held: bool) -> usize
+    ensures { result ≡ stage_after held }
 {
     if held { 1 } else { 0 }
 }
 
 /// What is asked where the call throws.
 pub fn thrown(rules: &Rules<'_>, site: Site) -> DueRef
-    ensures { due_lent result ≡ thrown rules.now site }
+    ensures { due_borrowed result ≡ thrown rules.now site }
 {
     if is_duty(rules, u32::from(site.method)) {
         due(
             in_phase(Phase8::Exceptional, site),
-            stage_behind(holds_round(rules.held, u32::from(site.method))),
+            stage_after(holds_round(rules.held, u32::from(site.method))),
         )
     } else {
         DueRef::Open
@@ -216,7 +216,7 @@ fn granted_row<'a>(
     shape: Shape,
     target: &Target,
 ) -> Option<RowRef<'a>>
-    ensures { option_map row_lent result ≡ granted_row rules.now site locked count top shape target.now }
+    ensures { option_map row_borrowed result ≡ granted_row rules.now site locked count top shape target.now }
 {
     if top {
         return if locked && leaves(shape) {
@@ -241,7 +241,7 @@ fn granted_row<'a>(
 }
 
 fn granted<'a>(site: Site, locked: bool, loaded: usize, top: bool) -> Option<RowRef<'a>>
-    ensures { option_map row_lent result ≡ gives (notes.Granted site locked loaded top) }
+    ensures { option_map row_borrowed result ≡ gives (notes.Granted site locked loaded top) }
 {
     gives(NoteRef::Granted {
         site,
@@ -302,7 +302,7 @@ fn may_keep(policy: &Policy, site: Site, stage: u8, kept: bool, top: bool) -> bo
 
 /// The check of a return begins with the result kept.
 fn begins_owed(policy: &Policy, site: Site, kept: bool) -> AskedRef<'_>
-    ensures { asked_lent result ≡ begins_owed policy.now site kept }
+    ensures { asked_borrowed result ≡ begins_owed policy.now site kept }
 {
     if kept == asks_kept(policy, site) {
         AskedRef::Given(NoteRef::Held(begun(policy, site)))
@@ -320,7 +320,7 @@ fn owed_row<'a>(
     shape: Shape,
     target: &Target,
 ) -> Option<RowRef<'a>>
-    ensures { option_map row_lent result ≡ owed_row rules.now site stage kept top shape target.now }
+    ensures { option_map row_borrowed result ≡ owed_row rules.now site stage kept top shape target.now }
 {
     let policy = rules.policy;
     if may_keep(policy, site, stage, kept, top) && stores_first(site, shape) {
@@ -339,7 +339,7 @@ fn owed_row<'a>(
 }
 
 fn owed<'a>(site: Site, stage: u8, kept: bool, top: bool) -> Option<RowRef<'a>>
-    ensures { option_map row_lent result ≡ gives (notes.Owed site stage kept top) }
+    ensures { option_map row_borrowed result ≡ gives (notes.Owed site stage kept top) }
 {
     gives(NoteRef::Owed {
         site,
@@ -378,7 +378,7 @@ fn is_on_way(place: u8, shape: Shape, target: &Target) -> bool
 }
 
 fn stop_row<'a>(site: Site, place: u8, shape: Shape, target: &Target) -> Option<RowRef<'a>>
-    ensures { option_map row_lent result ≡ stop_row site place shape target.now }
+    ensures { option_map row_borrowed result ≡ stop_row site place shape target.now }
 {
     if !is_on_way(place, shape, target) {
         return None;

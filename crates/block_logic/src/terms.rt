@@ -1,18 +1,18 @@
 //! What stands on the stack above the client's operands while a check is made, and what the policy's variables are.
 
 ghost use Rattle.std.specs.Prelude.{◌≡◌, ◌∷◌, ◌++◌, [], length, option_copied, option_map, slice_get, slice_set};
-ghost use Rattle.block_logic.specs.Lent.{term_lent, terms_lent};
+ghost use Rattle.block_logic.specs.Borrowed.{term_borrowed, terms_borrowed};
 ghost use Rattle.block_logic.specs.Rows.{last_but_one, last_term, without};
 ghost use Rattle.block_logic.specs.Terms.{after_updates, base_term, same_at, same_term, same_terms, update_of, variable_after, written};
 
-use crate::lent::{TermsRef, WideTerm};
+use crate::borrowed::{TermsRef, WideTerm};
 use cert_format::Term;
 use conspec_automaton::Policy;
 use conspec_tree::{Base, Update, target};
 
 /// The term, with its numbers as they are.
 pub fn widened(term: Term) -> WideTerm
-    ensures { term_lent result ≡ term }
+    ensures { term_borrowed result ≡ term }
 {
     match term {
         Term::Const(n) => WideTerm::Const(n),
@@ -26,7 +26,7 @@ pub fn widened(term: Term) -> WideTerm
 
 /// Whether both are one term.
 pub fn same_term(term: WideTerm, other: WideTerm) -> bool
-    ensures { result ≡ same_term (term_lent term) (term_lent other) }
+    ensures { result ≡ same_term (term_borrowed term) (term_borrowed other) }
 {
     match term {
         WideTerm::Const(n) => matches!(other, WideTerm::Const(m) if n == m),
@@ -42,7 +42,7 @@ pub fn same_term(term: WideTerm, other: WideTerm) -> bool
 
 /// What an atom compares.
 pub fn base_term(base: Base) -> WideTerm
-    ensures { term_lent result ≡ base_term base }
+    ensures { term_borrowed result ≡ base_term base }
 {
     match base {
         Base::Var(var) => WideTerm::Var(var as usize),
@@ -53,7 +53,7 @@ pub fn base_term(base: Base) -> WideTerm
 
 /// What an update writes.
 fn written(update: Update) -> WideTerm
-    ensures { term_lent result ≡ written update }
+    ensures { term_borrowed result ≡ written update }
 {
     match update {
         Update::Set { value, .. } => WideTerm::Const(value),
@@ -63,7 +63,7 @@ fn written(update: Update) -> WideTerm
 
 /// What a variable is once the updates are made: each is of another variable.
 fn variable_after(updates: &[Update], var: usize) -> WideTerm
-    ensures { term_lent result ≡ variable_after updates.now var }
+    ensures { term_borrowed result ≡ variable_after updates.now var }
 {
     match update_of(updates, var) {
         Some(update) => written(*update),
@@ -84,7 +84,7 @@ fn update_of(updates: &[Update], var: usize) -> Option<&Update>
 
 /// Whether a list is this one.
 pub fn same_told(terms: &TermsRef<'_>, others: &[Term]) -> bool
-    ensures { result ≡ same_terms (terms_lent terms.now) others.now }
+    ensures { result ≡ same_terms (terms_borrowed terms.now) others.now }
 {
     match terms {
         TermsRef::Told(told) => same_lists(*told, others),
@@ -114,7 +114,7 @@ fn same_lists(terms: &[Term], others: &[Term]) -> bool
 
 /// Whether terms with another one on top are this list.
 fn same_pushed(below: &[Term], top: WideTerm, others: &[Term]) -> bool
-    ensures { result ≡ same_terms (below.now ++ term_lent top ∷ []) others.now }
+    ensures { result ≡ same_terms (below.now ++ term_borrowed top ∷ []) others.now }
 {
     let mut below = below;
     let mut others = others;
@@ -136,7 +136,7 @@ fn same_pushed(below: &[Term], top: WideTerm, others: &[Term]) -> bool
 
 /// Whether both lists are one.
 pub fn same_terms(terms: &TermsRef<'_>, others: &TermsRef<'_>) -> bool
-    ensures { result ≡ same_terms (terms_lent terms.now) (terms_lent others.now) }
+    ensures { result ≡ same_terms (terms_borrowed terms.now) (terms_borrowed others.now) }
 {
     let count = length_of(terms);
     if count != length_of(others) {
@@ -152,7 +152,7 @@ pub fn same_terms(terms: &TermsRef<'_>, others: &TermsRef<'_>) -> bool
 
 /// Whether one term stands in this place of both.
 fn same_at(terms: &TermsRef<'_>, others: &TermsRef<'_>, at: usize) -> bool
-    ensures { result ≡ same_at (terms_lent terms.now) (terms_lent others.now) at }
+    ensures { result ≡ same_at (terms_borrowed terms.now) (terms_borrowed others.now) at }
 {
     let (Some(term), Some(other)) = (term_at(terms, at), term_at(others, at)) else {
         return false;
@@ -162,7 +162,7 @@ fn same_at(terms: &TermsRef<'_>, others: &TermsRef<'_>, at: usize) -> bool
 
 /// The number of terms of a list.
 pub fn length_of(terms: &TermsRef<'_>) -> usize
-    ensures { result ≡ length (terms_lent terms.now) }
+    ensures { result ≡ length (terms_borrowed terms.now) }
 {
     match terms {
         TermsRef::Told(told) => told.len(),
@@ -174,7 +174,7 @@ pub fn length_of(terms: &TermsRef<'_>) -> usize
 
 /// The term in this place of a list.
 fn term_at(terms: &TermsRef<'_>, at: usize) -> Option<WideTerm>
-    ensures { option_map term_lent result ≡ slice_get (terms_lent terms.now) at }
+    ensures { option_map term_borrowed result ≡ slice_get (terms_borrowed terms.now) at }
 {
     match terms {
         TermsRef::Told(told) => told_at(*told, at),
@@ -185,7 +185,7 @@ fn term_at(terms: &TermsRef<'_>, at: usize) -> Option<WideTerm>
 }
 
 fn told_at(told: &[Term], at: usize) -> Option<WideTerm>
-    ensures { option_map term_lent result ≡ slice_get told.now at }
+    ensures { option_map term_borrowed result ≡ slice_get told.now at }
 {
     match told.get(at) {
         Some(term) => Some(widened(*term)),
@@ -194,7 +194,7 @@ fn told_at(told: &[Term], at: usize) -> Option<WideTerm>
 }
 
 fn pushed_at(below: &[Term], top: WideTerm, at: usize) -> Option<WideTerm>
-    ensures { option_map term_lent result ≡ slice_get (below.now ++ term_lent top ∷ []) at }
+    ensures { option_map term_borrowed result ≡ slice_get (below.now ++ term_borrowed top ∷ []) at }
 {
     if at == below.len() {
         Some(top)
@@ -204,7 +204,7 @@ fn pushed_at(below: &[Term], top: WideTerm, at: usize) -> Option<WideTerm>
 }
 
 fn written_at(map: &[Term], var: usize, term: WideTerm, at: usize) -> Option<WideTerm>
-    ensures { option_map term_lent result ≡ slice_get (slice_set map.now var (term_lent term)) at }
+    ensures { option_map term_borrowed result ≡ slice_get (slice_set map.now var (term_borrowed term)) at }
 {
     if at == var && at < map.len() {
         Some(term)
@@ -214,7 +214,7 @@ fn written_at(map: &[Term], var: usize, term: WideTerm, at: usize) -> Option<Wid
 }
 
 fn after_at(policy: &Policy, updates: &[Update], at: usize) -> Option<WideTerm>
-    ensures { option_map term_lent result ≡ slice_get (after_updates policy.now updates.now) at }
+    ensures { option_map term_borrowed result ≡ slice_get (after_updates policy.now updates.now) at }
 {
     if at < policy.vars.len() {
         Some(variable_after(updates, at))

@@ -24,7 +24,7 @@ use Rattle.block_template.specs.declared.item.Item.{Item}
 use Rattle.block_template.specs.declared.item.Role.TheVariants as roles
 use Rattle.block_template.specs.Blocks.{
   Clauses,
-  behind,
+  following,
   block_with,
   bools_of,
   call,
@@ -165,7 +165,7 @@ rethrow_straight = (λ at. tt, tt)
 
 -- ---- checks
 
--- Where an atom does not hold the next branch is tried, which stands behind.
+-- Where an atom does not hold the next branch is tried, which stands after.
 asks_ahead : (bools : List Bool) (base : ℕ) (phase : Phase) (at branch n next : ℕ) (atoms : List Atom) → at + asks_size atoms ≤ next
     → Ahead at (asks bools base phase branch n next atoms)
 asks_ahead bools base phase at branch n next [] less = tt
@@ -180,13 +180,13 @@ tried_ahead bools base phase at n next done branch first last =
     let asked = asks bools base phase n 0 next branch.atoms in
     let made = writes bools phase n 0 branch.updates in
     let over = item (Jump GOTO done) (roles.Taken phase n) ∷ [] in
-    let behind_asks : ℕ = at + asks_size branch.atoms in
-    let behind_writes : ℕ = behind_asks + updates_size branch.updates in
-    let goes : behind_writes < done = omega (arith, last) in
-    joined at behind_asks asked (made ++ over) (omega (arith, asks_length bools base phase n 0 next branch.atoms))
+    let after_asks : ℕ = at + asks_size branch.atoms in
+    let after_writes : ℕ = after_asks + updates_size branch.updates in
+    let goes : after_writes < done = omega (arith, last) in
+    joined at after_asks asked (made ++ over) (omega (arith, asks_length bools base phase n 0 next branch.atoms))
     (asks_ahead bools base phase at n 0 next branch.atoms (omega (arith, first)))
-    (joined behind_asks behind_writes made over (omega (arith, writes_length bools base phase n 0 branch.updates))
-    (straight behind_asks made (writes_straight bools phase n 0 branch.updates)) (goes, tt))
+    (joined after_asks after_writes made over (omega (arith, writes_length bools base phase n 0 branch.updates))
+    (straight after_asks made (writes_straight bools phase n 0 branch.updates)) (goes, tt))
 
 branches_ahead : (bools : List Bool) (base : ℕ) (phase : Phase) (n at done : ℕ) (all : List Branch) → at + branches_size all ≤ done
     → Ahead at (branches bools base phase n at done all)
@@ -212,7 +212,7 @@ released_ahead bools base at clause later all =
     (straight at (lock clause.phase) (lock_straight clause.phase))
     (checked_ahead bools base (at + 2) clause (unlock clause.phase true ++ later) (both (unlock clause.phase true) later (unlock_straight clause.phase true) all))
 
--- ---- before the call, behind it, and in the handler
+-- ---- before the call, after it, and in the handler
 
 front_ahead : (mode : Mode) (bools : List Bool) (base : ℕ) (o : Option Clause) → Ahead 0 (front mode bools base o)
 front_ahead Release bools base None = tt
@@ -230,16 +230,16 @@ front_ahead Hold bools base (Some clause) =
     (joined (length clause.args) from (lock Before) (checked bools base from clause later) (omega arith)
     (straight (length clause.args) (lock Before) (lock_straight Before)) (checked_ahead bools base from clause later (loads_straight true base 0 clause.args)))
 
-behind_ahead : (mode : Mode) (bools : List Bool) (base at : ℕ) (o : Option Clause) → Ahead at (behind mode bools base at o)
-behind_ahead Release bools base at None = tt
-behind_ahead Hold bools base at None = straight at (unlock After false) (unlock_straight After false)
-behind_ahead Release bools base at (Some clause) =
+after_ahead : (mode : Mode) (bools : List Bool) (base at : ℕ) (o : Option Clause) → Ahead at (following mode bools base at o)
+after_ahead Release bools base at None = tt
+after_ahead Hold bools base at None = straight at (unlock After false) (unlock_straight After false)
+after_ahead Release bools base at (Some clause) =
     let from : ℕ = at + kept clause.result in
     let later = give base clause.result in
     joined at from (keep false base clause.result) (released bools base from clause later) (omega (arith, keep_length false base clause.result))
     (straight at (keep false base clause.result) (keep_straight false base clause.result))
     (released_ahead bools base from clause later (give_straight base clause.result))
-behind_ahead Hold bools base at (Some clause) =
+after_ahead Hold bools base at (Some clause) =
     let from : ℕ = at + kept clause.result in
     let later = unlock After true ++ give base clause.result in
     joined at from (keep true base clause.result) (checked bools base from clause later) (omega (arith, keep_length true base clause.result))
@@ -276,7 +276,7 @@ from_call_ahead : (mode : Mode) (bools : List Bool) (base at : ℕ) (clauses : C
 from_call_ahead mode bools base at clauses =
     let to : ℕ = at + length (called mode bools base at clauses) in
     joined at to (called mode bools base at clauses) (caught mode bools base to clauses) refl
-    (tt, behind_ahead mode bools base (at + 1) clauses.after) (caught_ahead mode bools base to clauses)
+    (tt, after_ahead mode bools base (at + 1) clauses.after) (caught_ahead mode bools base to clauses)
 
 items_ahead : (mode : Mode) (bools : List Bool) (base : ℕ) (clauses : Clauses) → Ahead 0 (items mode bools base clauses)
 items_ahead mode bools base clauses =

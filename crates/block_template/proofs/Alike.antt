@@ -19,7 +19,7 @@ use Rattle.block_template.specs.declared.item.Role.{Role}
 use Rattle.block_template.specs.declared.item.Role.TheVariants as roles
 use Rattle.block_template.specs.Blocks.{
   Clauses,
-  behind,
+  following,
   block_with,
   bools_of,
   call,
@@ -126,13 +126,13 @@ module _ (bools : List Bool) (base other : ℕ) where
   keep_alike locked None = refl
   keep_alike locked (Some kind) = refl
 
-  behind_alike : (mode : Mode) (at there : ℕ) (o : Option Clause) → Alike (behind mode bools base at o) (behind mode bools other there o)
-  behind_alike Release at there None = refl
-  behind_alike Hold at there None = refl
-  behind_alike Release at there (Some clause) =
+  after_alike : (mode : Mode) (at there : ℕ) (o : Option Clause) → Alike (following mode bools base at o) (following mode bools other there o)
+  after_alike Release at there None = refl
+  after_alike Hold at there None = refl
+  after_alike Release at there (Some clause) =
       both (keep false base clause.result) _ (keep false other clause.result) _ (keep_alike false clause.result)
       (released_alike _ _ clause (give base clause.result) (give other clause.result) (give_alike clause.result))
-  behind_alike Hold at there (Some clause) =
+  after_alike Hold at there (Some clause) =
       both (keep true base clause.result) _ (keep true other clause.result) _ (keep_alike true clause.result)
       (checked_alike _ _ clause (unlock After true ++ give base clause.result) (unlock After true ++ give other clause.result)
       (both (unlock After true) (give base clause.result) (unlock After true) (give other clause.result) refl (give_alike clause.result)))
@@ -163,7 +163,7 @@ module _ (bools : List Bool) (base other : ℕ) where
     from_alike at there =
         both (called mode bools base at clauses) (caught mode bools base (at + length (called mode bools base at clauses)) clauses)
         (called mode bools other there clauses) (caught mode bools other (there + length (called mode bools other there clauses)) clauses)
-        (ap (λ (rs : List Role). (call mode).role ∷ rs) (behind_alike mode (at + 1) (there + 1) clauses.after))
+        (ap (λ (rs : List Role). (call mode).role ∷ rs) (after_alike mode (at + 1) (there + 1) clauses.after))
         (caught_alike (at + length (called mode bools base at clauses)) (there + length (called mode bools other there clauses))
         (catches mode clauses.exceptional))
 

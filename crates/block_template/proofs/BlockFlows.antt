@@ -34,7 +34,7 @@ use Rattle.block_template.specs.declared.item.Role.{Role}
 use Rattle.block_template.specs.declared.item.Role.TheVariants as roles
 use Rattle.block_template.specs.Blocks.{
   Clauses,
-  behind,
+  following,
   call,
   called,
   catches,
@@ -53,7 +53,7 @@ use Rattle.block_template.specs.Blocks.{
   rethrow,
   with_handler,
 }
-use Rattle.block_template.specs.Flow.{AreForPhases, BlocksFlow, entered, keeps_result, locked_for, behind_return, role_at, thrown}
+use Rattle.block_template.specs.Flow.{AreForPhases, BlocksFlow, entered, keeps_result, locked_for, after_return, role_at, thrown}
 use Rattle.block_template.specs.Parts.{give, if_reached, keep, loads, lock, save, unlock, unreached}
 use Rattle.block_template.proofs.Laying.{Laid, entry, laid_all, laid_end, laid_entry, laid_left, laid_right, row_got}
 use Rattle.block_template.proofs.Sizes.{keep_length, reached_length, save_length}
@@ -106,20 +106,20 @@ module _ (bools : List Bool) (base : ℕ) (clauses : Clauses) (end : ℕ) (there
       (laid_right there role_of (length args) (length args + 2) (lock Before) test t refl
       (laid_right there role_of 0 (length args) (save base 0 args) (lock Before ++ test) t size placed))))
 
-  -- ---- behind it, where it returns
+  -- ---- after it, where it returns
 
-  behind_leads : (mode : Mode) (o : Option Clause) → clauses.after ≡ o → IfSome o (λ c. c.phase ≡ After) → (at : ℕ) (t : Role)
+  after_leads : (mode : Mode) (o : Option Clause) → clauses.after ≡ o → IfSome o (λ c. c.phase ≡ After) → (at : ℕ) (t : Role)
       → (lets_pass o ≡ true → t ≡ roles.Leave)
-      → Laid there role_of at (behind mode bools base at o) t
-      → Led mode bools base clauses end there (behind_return mode o) (behind mode bools base at o) t
-  behind_leads Release None is for at t ends placed =
+      → Laid there role_of at (following mode bools base at o) t
+      → Led mode bools base clauses end there (after_return mode o) (following mode bools base at o) t
+  after_leads Release None is for at t ends placed =
       ended Release bools base clauses end there [] (sym (ends refl)) (empty Release bools base clauses end there roles.Leave)
-  behind_leads Hold None is for at t ends placed =
+  after_leads Hold None is for at t ends placed =
       let none : keeps_result clauses ≡ false = ap (λ (o : Option Clause). option_map_or (λ (c : Clause). is_some c.result) o false) is in
       ended Hold bools base clauses end there (unlock After false)
       (ap (λ (b : Bool). if b then roles.Give else roles.Leave) none ∙ sym (ends refl))
       (unlock_leads Hold bools base clauses end there After false)
-  behind_leads Release (Some clause) is for at t ends placed =
+  after_leads Release (Some clause) is for at t ends placed =
       let first = keep false base clause.result in
       let later = give base clause.result in
       let to = at + kept clause.result in
@@ -128,7 +128,7 @@ module _ (bools : List Bool) (base : ℕ) (clauses : Clauses) (end : ℕ) (there
       (released_leads Release bools base clauses end there After clause is for refl to later t
       (λ goes. give_leads Release bools base clauses end there clause is t (ends goes))
       (laid_right there role_of at to first rest t (ap (λ k. at + k) (keep_length false base clause.result)) placed))
-  behind_leads Hold (Some clause) is for at t ends placed =
+  after_leads Hold (Some clause) is for at t ends placed =
       let first = keep true base clause.result in
       let later = give base clause.result in
       let to = at + kept clause.result in
@@ -193,7 +193,7 @@ module _ (bools : List Bool) (base : ℕ) (clauses : Clauses) (end : ℕ) (there
     abbrev if_caught : Bool → ℕ → List Item
     if_caught b at = if b then with_handler mode bools base (at + 1) clauses else []
 
-    -- What stands behind a call that returns begins with the block's end, where that is reached.
+    -- What stands after a call that returns begins with the block's end, where that is reached.
     pub record Ends (part : List Item) : Type 0 where
       pub leads : LeadsTo (entry role_of part roles.Leave) part roles.Leave
       pub left : lets_pass clauses.after ≡ true → entry role_of part roles.Leave ≡ roles.Leave
@@ -232,10 +232,10 @@ module _ (bools : List Bool) (base : ℕ) (clauses : Clauses) (end : ℕ) (there
         let t = entry role_of rest roles.Leave in
         let ends = caught_ends (catches mode clauses.exceptional) refl (at + length (calls at)) left (caught_placed at placed) in
         let first = laid_left there role_of at (calls at) rest roles.Leave placed in
-        let part = behind mode bools base (at + 1) clauses.after in
+        let part = following mode bools base (at + 1) clauses.after in
         join mode bools base clauses end there (calls at) rest
         (go mode bools base clauses end there (call mode) part (call_row mode bools base clauses end there)
-        (behind_leads mode clauses.after refl phases.after (at + 1) t ends.left first.1)) ends.leads
+        (after_leads mode clauses.after refl phases.after (at + 1) t ends.left first.1)) ends.leads
 
     abbrev before : List Item
     before = front mode bools base clauses.before

@@ -71,7 +71,7 @@ use Rattle.conspec_automaton.specs.declared.policy.Clause.{Clause}
 use Rattle.block_template.specs.declared.item.Role.{Role}
 use Rattle.block_template.specs.declared.item.Role.TheVariants as roles
 use Rattle.block_template.specs.Blocks.{Clauses, is_locked}
-use Rattle.block_template.specs.Flow.{check_behind, keeps_result, behind_return, thrown}
+use Rattle.block_template.specs.Flow.{check_after, keeps_result, after_return, thrown}
 use Rattle.block_template.specs.Frames.{Around, frame, frame_at, kept_types, padded, phase_frame, saved_locals}
 use Rattle.block_template.specs.Typed.{
   CallIsTyped,
@@ -109,7 +109,7 @@ takes_more program f g same j (t ∷ to) e =
     by (inl e) t fits = ap (λ (u : VType). assignable program u t) e ∙ fits
     by {x} (inr e) t fits = from_nothing x t (subst (λ (u : VType). assignable program u t ≡ true) e fits)
 
--- a local of a list with others behind it
+-- a local of a list with others after it
 front_or_nothing : (xs ys : List VType) (j : ℕ) → (type_at (xs ++ ys) j ≡ type_at xs j) ⊎ (type_at xs j ≡ types.Top)
 front_or_nothing [] ys j = inr refl
 front_or_nothing (t ∷ xs) ys zero = inl refl
@@ -241,25 +241,25 @@ module _ (mode : Mode) (clauses : Clauses) (around : Around) (locked : Bool) (fi
   abbrev left : Option FrameType
   left = Some (frame (padded around.base around.after.locals) around.after.stack)
 
-  returned_of : (o : Option Clause) → clauses.after ≡ o → frame_at clauses around (behind_return mode o) ≡ left
+  returned_of : (o : Option Clause) → clauses.after ≡ o → frame_at clauses around (after_return mode o) ≡ left
   returned_of None e =
       let none : keeps_result clauses ≡ false = ap (λ (o : Option Clause). option_map_or (λ (c : Clause). is_some c.result) o false) e in
       by mode (at.nothing_pushed clauses around fits (phase_frame clauses around After) ∙ ap Some (at.not_kept clauses around fits none))
     where
-      by : (m : Mode) → frame_at clauses around (roles.Unlock After false false) ≡ left → frame_at clauses around (behind_return m None) ≡ left
+      by : (m : Mode) → frame_at clauses around (roles.Unlock After false false) ≡ left → frame_at clauses around (after_return m None) ≡ left
       by Release is = refl
       by Hold is = is
   returned_of (Some clause) e =
       by mode (is_some clause.result)
-      (λ no. at.behind_enters clauses around fits mode After clause ∙ ap Some (at.not_kept clauses around fits (keeps ∙ no))) refl
+      (λ no. at.after_enters clauses around fits mode After clause ∙ ap Some (at.not_kept clauses around fits (keeps ∙ no))) refl
     where
       keeps : keeps_result clauses ≡ is_some clause.result
       keeps = ap (λ (o : Option Clause). option_map_or (λ (c : Clause). is_some c.result) o false) e
 
-      by : (m : Mode) (b : Bool) → (b ≡ false → frame_at clauses around (check_behind m After clause) ≡ left) → is_some clause.result ≡ b
-          → frame_at clauses around (cond b (roles.Keep (is_locked m)) (check_behind m After clause)) ≡ left
-      by m true behind is = refl
-      by m false behind is = behind refl
+      by : (m : Mode) (b : Bool) → (b ≡ false → frame_at clauses around (check_after m After clause) ≡ left) → is_some clause.result ≡ b
+          → frame_at clauses around (cond b (roles.Keep (is_locked m)) (check_after m After clause)) ≡ left
+      by m true following is = refl
+      by m false following is = following refl
 
   before_same : (j : ℕ) → j < around.base → type_at locals j ≡ type_at around.before.locals j
   before_same j lt =
@@ -289,7 +289,7 @@ module _ (mode : Mode) (clauses : Clauses) (around : Around) (locked : Bool) (fi
       (ap (λ (s : List VType). stack_fits place.program s around.after.stack) (same_stack ∙ sym call.stack)
       ∙ stack_itself place.program around.after.stack) returns_locals
 
-  returns : IfSome (frame_at clauses around (behind_return mode clauses.after)) (λ to. goes_well place these to ≡ true)
+  returns : IfSome (frame_at clauses around (after_return mode clauses.after)) (λ to. goes_well place these to ≡ true)
   returns =
       subst (λ (o : Option FrameType). IfSome o (λ to. goes_well place these to ≡ true)) (sym (returned_of clauses.after refl)) returns_well
 
@@ -305,7 +305,7 @@ module _ (mode : Mode) (clauses : Clauses) (around : Around) (locked : Bool) (fi
           (frame_at clauses around (thrown m None) ≡ Some (phase_frame clauses around Exceptional))
       by Release = inl refl
       by Hold = inr (at.nothing_pushed clauses around fits (phase_frame clauses around Exceptional))
-  thrown_of (Some clause) = inr (at.behind_enters clauses around fits mode Exceptional clause)
+  thrown_of (Some clause) = inr (at.after_enters clauses around fits mode Exceptional clause)
 
   throws_well : (handler : Handler) → handler.class ≡ None
       → catches_well place these handler (phase_frame clauses around Exceptional) ≡ true

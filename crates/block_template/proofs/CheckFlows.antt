@@ -272,15 +272,15 @@ module _ (mode : Mode) (bools : List Bool) (base : ℕ) (clauses : Clauses) (end
         (go _ _ (update_row u 3 update _ l.0 refl refl) (writes_lead (u + 1) updates l.1)))))
 
     taken_row : (done : ℕ) (t : Role) → there done ≡ checked_in mode clauses phase → Row (item (Jump GOTO done) (roles.Taken phase n)) t
-    taken_row done t behind reached = record { is = (done, refl); passes = λ may. absurd cc; lands = behind }
+    taken_row done t following reached = record { is = (done, refl); passes = λ may. absurd cc; lands = following }
 
     tried_leads : (to done : ℕ) (t : Role) → there to ≡ tries phase (n + 1) (branches_in clauses phase)
         → there done ≡ checked_in mode clauses phase
         → Led (held phase n 0 branch) (tried bools base phase n to done branch) t
-    tried_leads to done t jump behind =
+    tried_leads to done t jump following =
         join (asks bools base phase n 0 to branch.atoms) _ (asks_lead 0 to branch.atoms jump (laid_got branch.atoms))
         (join (writes bools phase n 0 branch.updates) _ (writes_lead 0 branch.updates (laid_got branch.updates))
-        (last _ (taken_row done t behind)))
+        (last _ (taken_row done t following)))
 
   -- ---- a check
 
@@ -292,37 +292,37 @@ module _ (mode : Mode) (bools : List Bool) (base : ℕ) (clauses : Clauses) (end
       → Laid (slice_get (branches_in clauses phase)) Some n others None
       → there done ≡ checked_in mode clauses phase → Laid there role_of at (branches bools base phase n at done others) t
       → Led (tries phase n (branches_in clauses phase)) (branches bools base phase n at done others) t
-  branches_lead phase n at done [] t l behind placed =
+  branches_lead phase n at done [] t l following placed =
       from Row role_of (stop phase) (tries_as phase n (branches_in clauses phase) None l) (stop_leads phase t)
-  branches_lead phase n at done (branch ∷ others) t l behind placed =
+  branches_lead phase n at done (branch ∷ others) t l following placed =
       let to = at + branch_size branch in
       let rest = branches bools base phase (n + 1) to done others in
       let part = tried bools base phase n to done branch in
       let size : at + length part ≡ to = ap (λ k. at + k) (tried_length bools base phase n to done branch) in
       let later = laid_right there role_of at to part rest t size placed in
-      let leads = branches_lead phase (n + 1) to done others t l.1 behind later in
+      let leads = branches_lead phase (n + 1) to done others t l.1 following later in
       from Row role_of (branches bools base phase n at done (branch ∷ others))
       (tries_as phase n (branches_in clauses phase) (Some branch) l.0)
-      (join part rest (tried_leads phase n branch l.0 to done _ (laid_entry there role_of to rest t later ∙ leads.enters) behind) leads)
+      (join part rest (tried_leads phase n branch l.0 to done _ (laid_entry there role_of to rest t later ∙ leads.enters) following) leads)
 
-  -- a check of these branches, and what stands behind it
+  -- a check of these branches, and what stands after it
   abbrev pub check_then : Phase → ℕ → List Branch → List Item → List Item
-  check_then phase at all behind = branches bools base phase 0 at (at + branches_size all) all ++ if_reached (not (is_empty all)) behind
+  check_then phase at all following = branches bools base phase 0 at (at + branches_size all) all ++ if_reached (not (is_empty all)) following
 
-  pub check_leads : (phase : Phase) (at : ℕ) (all : List Branch) (behind : List Item) (t : Role)
+  pub check_leads : (phase : Phase) (at : ℕ) (all : List Branch) (following : List Item) (t : Role)
       → Laid (slice_get (branches_in clauses phase)) Some 0 all None
-      → (is_empty all ≡ false → Led (checked_in mode clauses phase) behind t) → Laid there role_of at (check_then phase at all behind) t
-      → Led (tries phase 0 (branches_in clauses phase)) (check_then phase at all behind) t
-  check_leads phase at [] behind t l later placed =
-      join (stop phase) (map unreached behind)
-      (from Row role_of (stop phase) (tries_as phase 0 (branches_in clauses phase) None l) (stop_leads phase _)) (unreached_lead behind t)
-  check_leads phase at (branch ∷ others) behind t l later placed =
+      → (is_empty all ≡ false → Led (checked_in mode clauses phase) following t) → Laid there role_of at (check_then phase at all following) t
+      → Led (tries phase 0 (branches_in clauses phase)) (check_then phase at all following) t
+  check_leads phase at [] following t l later placed =
+      join (stop phase) (map unreached following)
+      (from Row role_of (stop phase) (tries_as phase 0 (branches_in clauses phase) None l) (stop_leads phase _)) (unreached_lead following t)
+  check_leads phase at (branch ∷ others) following t l later placed =
       let all = branch ∷ others in
       let done = at + branches_size all in
       let part = branches bools base phase 0 at done all in
       let size : at + length part ≡ done = ap (λ k. at + k) (branches_length bools base phase 0 at done all) in
       let leads = later refl in
       let stands : there done ≡ checked_in mode clauses phase =
-      laid_entry there role_of done behind t (laid_right there role_of at done part behind t size placed) ∙ leads.enters in
-      join part behind (branches_lead phase 0 at done all (checked_in mode clauses phase) l stands
-      (subst (λ r. Laid there role_of at part r) leads.enters (laid_left there role_of at part behind t placed))) leads
+      laid_entry there role_of done following t (laid_right there role_of at done part following t size placed) ∙ leads.enters in
+      join part following (branches_lead phase 0 at done all (checked_in mode clauses phase) l stands
+      (subst (λ r. Laid there role_of at part r) leads.enters (laid_left there role_of at part following t placed))) leads

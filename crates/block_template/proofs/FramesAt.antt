@@ -1,4 +1,4 @@
--- The types before a call and behind it, at the roles of a block.
+-- The types before a call and after it, at the roles of a block.
 use Rattle.std.proofs.Common.{◌≡◌, ℕ, zero, suc, ◌+◌, ◌-◌, ◌<◌, ◌≤◌, Bool, true, false, cond, List, [], ◌∷◌, ◌++◌, length, map, drop, replicate, Option, Some, None, refl, sym, ap, subst, ◌∙◌, append-nil, arith, length-append}
 use Rattle.std.specs.Prelude.{◌==◌, IfSome, is_some, option_and_then, slice_get}
 use Rattle.std.specs.Option.{option_map_or}
@@ -28,7 +28,7 @@ use Rattle.block_template.specs.Blocks.{Clauses}
 use Rattle.block_template.specs.Flow.{
   argument_at,
   atom_at,
-  check_behind,
+  check_after,
   checked_in,
   held,
   keeps_result,
@@ -61,7 +61,7 @@ use Rattle.block_template.proofs.Types.{
   from_place,
   split_kept,
   split_top,
-  stored_behind,
+  stored_after,
   stored_last,
   topmost_there,
   type_right,
@@ -156,7 +156,7 @@ module _ (clauses : Clauses) (around : Around) (fits : FitsAround clauses around
       let client : List VType = padded around.base around.before.locals in
       let long : around.base + n ≡ length client + n = ap (λ (m : ℕ). m + n) (sym (padded_length around.before.locals fits.before)) in
       ap (λ (m : ℕ). cond (j == m) (type_at kept n) (type_at (saved_locals clauses around (suc n)) j)) long
-      ∙ stored_behind client (replicate (suc n) types.Top ++ drop (suc n) kept)
+      ∙ stored_after client (replicate (suc n) types.Top ++ drop (suc n) kept)
       (replicate n types.Top ++ type_at kept n ∷ drop (suc n) kept) n (type_at kept n)
       (stored_last n (type_at kept n) (drop (suc n) kept)) j
       ∙ ap (λ (xs : List VType). type_at (client ++ (replicate n types.Top ++ xs)) j)
@@ -212,9 +212,9 @@ module _ (clauses : Clauses) (around : Around) (fits : FitsAround clauses around
   pub tries_enters : (phase : Phase) (n : ℕ) (branches : List Branch) → Enters phase (tries phase n branches)
   tries_enters phase n branches = tries_of phase n (slice_get branches n)
 
-  pub behind_enters : (mode : Mode) (phase : Phase) (clause : Clause) → Enters phase (check_behind mode phase clause)
-  behind_enters Release phase clause = nothing_pushed (phase_frame clauses around phase)
-  behind_enters Hold phase clause = tries_enters phase 0 clause.branches
+  pub after_enters : (mode : Mode) (phase : Phase) (clause : Clause) → Enters phase (check_after mode phase clause)
+  after_enters Release phase clause = nothing_pushed (phase_frame clauses around phase)
+  after_enters Hold phase clause = tries_enters phase 0 clause.branches
 
   -- ---- arguments that are kept or loaded
 
@@ -252,7 +252,7 @@ module _ (clauses : Clauses) (around : Around) (fits : FitsAround clauses around
   pub keeps_is : keeps_result clauses ≡ is_some (result_in clauses)
   keeps_is = result_of clauses.after
 
-  -- With a result it is on top behind the call, and kept in the local behind the client's.
+  -- With a result it is on top after the call, and kept in the local after the client's.
   pub record IsKept (kind : Kind) : Type 0 where
     pub type : VType
     pub held : kept_kind kind type ≡ true
@@ -288,7 +288,7 @@ module _ (clauses : Clauses) (around : Around) (fits : FitsAround clauses around
       (cond b (below 1 around.after.stack) around.after.stack)) without
       ∙ ap (λ (locals : List VType). frame locals around.after.stack) (append-nil (padded around.base around.after.locals))
 
-  -- ---- what comes behind a check and its lock
+  -- ---- what comes after a check and its lock
 
   pub checked_enters : (mode : Mode) (phase : Phase) → Enters phase (checked_in mode clauses phase)
   checked_enters Release phase = nothing_pushed (phase_frame clauses around phase)

@@ -34,7 +34,7 @@ use Rattle.offset_patch.specs.Fits.{IsBlock, IsBlockInsn, IsSite, JumpsWithin, c
 use Rattle.offset_patch.specs.Plan.{IsListedCall, NamesVariable}
 use Rattle.offset_patch.specs.Splicing.{block_wants, want_of}
 use Rattle.block_template.specs.declared.item.Item.{Item}
-use Rattle.block_template.specs.Blocks.{Clauses, behind, block, block_with, bools_of, called, catches, caught, clause_at, clauses_of, from_call, front, lets_pass, handler, handler_at, has_block, is_phase, items, kept, locals_used, site, site_locals, with_handler}
+use Rattle.block_template.specs.Blocks.{Clauses, following, block, block_with, bools_of, called, catches, caught, clause_at, clauses_of, from_call, front, lets_pass, handler, handler_at, has_block, is_phase, items, kept, locals_used, site, site_locals, with_handler}
 use Rattle.block_template.specs.Good.{AreNumbers, HasNumbers, PlansAreGood}
 use Rattle.block_template.specs.Parts.{if_reached, unreached}
 use Rattle.block_template.specs.Pushing.{bools_in}
@@ -42,9 +42,9 @@ use Rattle.block_template.specs.Room.{HasLocal, HasLocals, IsRoomy, IsShort}
 use Rattle.block_template.proofs.Insns.{AsksKnown, AsksNumber, HasIndex, IsKnown, IsOwn, MakesNumber, Names, names_rows, number_of, own_rows}
 use Rattle.block_template.proofs.Policies.{Found, IsOf, clause_is, found_is, policy_roomy}
 use Rattle.block_template.proofs.Rows.{Tried, all_joined, front_each, rest_each}
-use Rattle.block_template.proofs.Sizes.{behind_short, caught_short, front_short, mapped_length, reached_length, rest, with_handler_length, handler_length}
+use Rattle.block_template.proofs.Sizes.{after_short, caught_short, front_short, mapped_length, reached_length, rest, with_handler_length, handler_length}
 
--- ---- the instructions of a block: those before the call, the call, and those behind it
+-- ---- the instructions of a block: those before the call, the call, and those after it
 
 abbrev pub insns_of : List Item → List BlockInsn
 insns_of items = map (λ (i : Item). i.insn) items
@@ -130,7 +130,7 @@ handler_within mode bools base clauses = by (catches mode clauses.exceptional) r
           arith,
           count_is mode bools base clauses,
           mapped_length (λ (i : Item). i.insn) (items mode bools base clauses),
-          length-append (behind mode bools base (at + 1) clauses.after) thrown,
+          length-append (following mode bools base (at + 1) clauses.after) thrown,
           caught_there mode bools base (at + length (called mode bools base at clauses)) clauses e,
         )
     by false e = tt
@@ -320,8 +320,8 @@ module _ (policy : Policy) (mode : Mode) (method base : ℕ) (read : IsPolicy po
             same,
             count_is mode bools base clauses,
             front_short mode bools base clauses.before roomy.arguments roomy.before,
-            length-append (behind mode bools base (length first + 1) clauses.after) (caught mode bools base thrown_at clauses),
-            behind_short mode bools base (length first + 1) clauses.after roomy.after,
+            length-append (following mode bools base (length first + 1) clauses.after) (caught mode bools base thrown_at clauses),
+            after_short mode bools base (length first + 1) clauses.after roomy.after,
             caught_short mode bools base thrown_at clauses roomy.exceptional,
           );
           once = called_once mode bools base clauses first_own later_own;

@@ -5,7 +5,7 @@ use Rattle.std.specs.Option.{option_map_or}
 
 -- ---- places
 
--- From this place on `f` tells what `v` tells of these in turn, and behind them it tells `t`.
+-- From this place on `f` tells what `v` tells of these in turn, and after them it tells `t`.
 abbrev pub Laid : {X Y : Type 0} → (ℕ → Y) → (X → Y) → ℕ → List X → Y → Type 0
 Laid f v at [] t = f at ≡ t
 Laid f v at (x ∷ xs) t = (f at ≡ v x) × Laid f v (at + 1) xs t
@@ -34,24 +34,24 @@ module _ {X Y : Type 0} (f : ℕ → Y) (v : X → Y) where
   laid_right at to [] ys t e l = let same : at ≡ to = omega (arith, e) in subst (λ n. Laid f v n ys t) same l
   laid_right at to (x ∷ xs) ys t e l = laid_right (at + 1) to xs ys t (omega (arith, e)) l.1
 
-laid_behind : {X Y : Type 0} (f : ℕ → Y) (v : X → Y) (at : ℕ) (xs : List X) (t : Y) → Laid (λ n. f (suc n)) v at xs t
+laid_after : {X Y : Type 0} (f : ℕ → Y) (v : X → Y) (at : ℕ) (xs : List X) (t : Y) → Laid (λ n. f (suc n)) v at xs t
     → Laid f v (suc at) xs t
-laid_behind f v at [] t l = l
-laid_behind f v at (x ∷ xs) t l =
+laid_after f v at [] t l = l
+laid_after f v at (x ∷ xs) t l =
     let e : suc (at + 1) ≡ suc at + 1 = omega arith in
-    (l.0, subst (λ n. Laid f v n xs t) e (laid_behind f v (at + 1) xs t l.1))
+    (l.0, subst (λ n. Laid f v n xs t) e (laid_after f v (at + 1) xs t l.1))
 
 pub laid_all : {X Y : Type 0} (v : X → Y) (xs : List X) (t : Y) → Laid (λ n. option_map_or v (slice_get xs n) t) v 0 xs t
 laid_all v [] t = refl
-laid_all v (x ∷ xs) t = (refl, laid_behind (λ n. option_map_or v (slice_get (x ∷ xs) n) t) v 0 xs t (laid_all v xs t))
+laid_all v (x ∷ xs) t = (refl, laid_after (λ n. option_map_or v (slice_get (x ∷ xs) n) t) v 0 xs t (laid_all v xs t))
 
 pub laid_got : {X : Type 0} (xs : List X) → Laid (slice_get xs) Some 0 xs None
 laid_got [] = refl
-laid_got (x ∷ xs) = (refl, laid_behind (slice_get (x ∷ xs)) Some 0 xs None (laid_got xs))
+laid_got (x ∷ xs) = (refl, laid_after (slice_get (x ∷ xs)) Some 0 xs None (laid_got xs))
 
 -- ---- leading
 
--- Each item is as the rule asks, given what stands behind it.
+-- Each item is as the rule asks, given what stands after it.
 abbrev pub Run : {X Y : Type 0} → (X → Y → Type 0) → (X → Y) → List X → Y → Type 0
 Run row v [] t = ⊤
 Run row v (x ∷ xs) t = row x (entry v xs t) × Run row v xs t
@@ -92,7 +92,7 @@ module _ {X Y : Type 0} (row : X → Y → Type 0) (v : X → Y) where
   entry_got [] t = refl
   entry_got (x ∷ xs) t = refl
 
-  -- So each item is as the rule asks, given what is got behind it.
+  -- So each item is as the rule asks, given what is got after it.
   pub row_got : (xs : List X) (t : Y) (at : ℕ) (x : X) → Run row v xs t → slice_get xs at ≡ Some x
       → row x (option_map_or v (slice_get xs (at + 1)) t)
   row_got [] t at x run e = absurd cc

@@ -40,7 +40,7 @@ use Rattle.block_template.specs.Flow.{
   argument_at,
   branches_in,
   branches_of,
-  check_behind,
+  check_after,
   checked_in,
   clause_in,
   insn_of,
@@ -50,7 +50,7 @@ use Rattle.block_template.specs.Flow.{
   locked_for,
   next,
   result_in,
-  behind_return,
+  after_return,
   saving,
   tries,
   unlocked_in,
@@ -83,7 +83,7 @@ module _ (mode : Mode) (bools : List Bool) (base : ℕ) (clauses : Clauses) (end
   abbrev pub LeadsTo : Role → List Item → Role → Type 0
   LeadsTo s part t = Led mode bools base clauses end there s part t
 
-  -- the check of a clause, and what stands behind it
+  -- the check of a clause, and what stands after it
   pub checked_leads : (phase : Phase) (clause : Clause) → clause_in clauses phase ≡ Some clause → clause.phase ≡ phase
       → (at : ℕ) (later : List Item) (t : Role)
       → (lets_pass (Some clause) ≡ true → LeadsTo (checked_in mode clauses phase) later t)
@@ -184,14 +184,14 @@ module _ (mode : Mode) (bools : List Bool) (base : ℕ) (clauses : Clauses) (end
   result_is clause o is e = ap (option_and_then (λ (c : Clause). c.result)) is ∙ e
 
   pub keep_leads : (locked : Bool) (clause : Clause) → clauses.after ≡ Some clause
-      → LeadsTo (if is_some clause.result then roles.Keep locked else check_behind mode After clause) (keep locked base clause.result)
-      (check_behind mode After clause)
+      → LeadsTo (if is_some clause.result then roles.Keep locked else check_after mode After clause) (keep locked base clause.result)
+      (check_after mode After clause)
   keep_leads locked clause is = by clause.result refl
     where
       by : (o : Option Kind) → clause.result ≡ o
-          → LeadsTo (if is_some o then roles.Keep locked else check_behind mode After clause) (keep locked base o)
-          (check_behind mode After clause)
-      by None e = empty mode bools base clauses end there (check_behind mode After clause)
+          → LeadsTo (if is_some o then roles.Keep locked else check_after mode After clause) (keep locked base o)
+          (check_after mode After clause)
+      by None e = empty mode bools base clauses end there (check_after mode After clause)
       by (Some kind) e =
           last mode bools base clauses end there _
           (plain mode bools base clauses end there (store kind base) (roles.Keep locked) _ (store_stays kind base)
@@ -216,7 +216,7 @@ module _ (mode : Mode) (bools : List Bool) (base : ℕ) (clauses : Clauses) (end
 
   -- ---- the call, and the ends
 
-  pub call_row : Row mode bools base clauses end there (call mode) (behind_return mode clauses.after)
+  pub call_row : Row mode bools base clauses end there (call mode) (after_return mode clauses.after)
   call_row = plain mode bools base clauses end there Call (roles.Call (is_locked mode)) _ refl refl refl
 
   pub rethrow_leads : (t : Role) → LeadsTo roles.Rethrow rethrow t

@@ -50,7 +50,7 @@ use Rattle.block_template.specs.Flow.{
   compared,
   branch_at,
   branches_in,
-  check_behind,
+  check_after,
   checked_in,
   clause_in,
   entered,
@@ -64,7 +64,7 @@ use Rattle.block_template.specs.Flow.{
   made,
   may_pass,
   next,
-  behind_return,
+  after_return,
   role_at,
   saving,
   stop_insn,
@@ -111,22 +111,22 @@ saving_reached : (n : ℕ) → IsReached (saving n)
 saving_reached zero = λ e. absurd cc
 saving_reached (suc n) = λ e. absurd cc
 
-behind_reached : (mode : Mode) (phase : Phase) (clause : Clause) → IsReached (check_behind mode phase clause)
-behind_reached Release phase clause = λ e. absurd cc
-behind_reached Hold phase clause = tries_reached phase 0 clause.branches
+after_reached : (mode : Mode) (phase : Phase) (clause : Clause) → IsReached (check_after mode phase clause)
+after_reached Release phase clause = λ e. absurd cc
+after_reached Hold phase clause = tries_reached phase 0 clause.branches
 
 either : (b : Bool) (x y : Role) → IsReached x → IsReached y → IsReached (cond b x y)
 either true x y p q = p
 either false x y p q = q
 
-returned_reached : (mode : Mode) (o : Option Clause) → IsReached (behind_return mode o)
+returned_reached : (mode : Mode) (o : Option Clause) → IsReached (after_return mode o)
 returned_reached Release None = λ e. absurd cc
 returned_reached Hold None = λ e. absurd cc
 returned_reached Release (Some clause) =
-    either (is_some clause.result) (roles.Keep false) (check_behind Release After clause) (λ e. absurd cc)
-    (behind_reached Release After clause)
+    either (is_some clause.result) (roles.Keep false) (check_after Release After clause) (λ e. absurd cc)
+    (after_reached Release After clause)
 returned_reached Hold (Some clause) =
-    either (is_some clause.result) (roles.Keep true) (check_behind Hold After clause) (λ e. absurd cc) (behind_reached Hold After clause)
+    either (is_some clause.result) (roles.Keep true) (check_after Hold After clause) (λ e. absurd cc) (after_reached Hold After clause)
 
 entered_reached : (mode : Mode) (o : Option Clause) → IsReached (entered mode o)
 entered_reached Release None = λ e. absurd cc
@@ -137,8 +137,8 @@ entered_reached Hold (Some clause) = saving_reached (length clause.args)
 thrown_reached : (mode : Mode) (o : Option Clause) → catches mode o ≡ true → IsReached (thrown mode o)
 thrown_reached Release None e = absurd (false≢true e)
 thrown_reached Hold None e = λ u. absurd cc
-thrown_reached Release (Some clause) e = behind_reached Release Exceptional clause
-thrown_reached Hold (Some clause) e = behind_reached Hold Exceptional clause
+thrown_reached Release (Some clause) e = after_reached Release Exceptional clause
+thrown_reached Hold (Some clause) e = after_reached Hold Exceptional clause
 
 module _ (clauses : Clauses) where
   loading_of : (n : ℕ) (locked : Bool) (o : Option Kind)
@@ -208,7 +208,7 @@ module _ (clauses : Clauses) where
     kept_reached : (insn : BlockInsn) (o : Option Clause)
         → option_map (λ (k : Kind). store k base) (option_and_then (λ (c : Clause). c.result) o) ≡ Some insn → IsReached (kept_by mode o)
     kept_reached insn None e = absurd cc
-    kept_reached insn (Some clause) e = behind_reached mode After clause
+    kept_reached insn (Some clause) e = after_reached mode After clause
 
     never_passes : (one insn : BlockInsn) → ◌≡◌ {A = Option BlockInsn} (Some one) (Some insn) → may_pass one ≡ false
         → may_pass insn ≡ true → ⊥

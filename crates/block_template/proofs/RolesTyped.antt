@@ -126,7 +126,7 @@ use Rattle.block_template.proofs.Types.{
   below_none,
   itself,
   locals_are,
-  stored_behind,
+  stored_after,
   stored_new,
   topmost_few,
   type_left,
@@ -271,7 +271,7 @@ module _ (mode : Mode) (bools : List Bool) (vars : List Var) (maxint : ℤ) (cla
       let at_end : base ≡ length client + 0 = omega (arith, at.padded_length clauses around fits around.after.locals fits.after) in
       ap (λ (n : ℕ). cond (j == n) t (type_at client j)) at_end
       ∙ ap (λ (xs : List VType). cond (j == length client + 0) t (type_at xs j)) (sym (append-nil client))
-      ∙ stored_behind client [] (t ∷ []) 0 t (stored_new t) j
+      ∙ stored_after client [] (t ∷ []) 0 t (stored_new t) j
 
   -- What comes once the result is kept.
   kept_next : (program : Program) (t : VType) (rest : List VType) → pf After ≡ frame (padded base around.after.locals ++ t ∷ []) rest
@@ -285,7 +285,7 @@ module _ (mode : Mode) (bools : List Bool) (vars : List Var) (maxint : ℤ) (cla
       IfSome o
       (λ f. (f.stack ≡ rest ++ []) ×
       (locals_fit program (λ j. cond (j == base) t (type_at (padded base around.after.locals) j)) 0 f.locals ≡ true)))
-      (sym (at.behind_enters clauses around fits mode After clause ∙ ap Some is)) (sym (append-nil rest), fit)
+      (sym (at.after_enters clauses around fits mode After clause ∙ ap Some is)) (sym (append-nil rest), fit)
 
   -- ---- within a phase
 

@@ -20,7 +20,7 @@ use Rattle.offset_patch.specs.declared.block.PoolWant.TheVariants.{StateClass, E
 use Rattle.block_template.specs.declared.item.Item.{Item}
 use Rattle.block_template.specs.Blocks.{
   Clauses,
-  behind,
+  following,
   called,
   catches,
   caught,
@@ -37,7 +37,7 @@ use Rattle.block_template.specs.Blocks.{
 }
 use Rattle.block_template.specs.Parts.{asks, branch_size, branches, branches_size, check, give, if_reached, keep, loads, lock, save, stop, tried, unlock, unreached, writes}
 use Rattle.block_template.specs.Pushing.{field, load, negated, push, push_base, store}
-use Rattle.block_template.proofs.Sizes.{behind_covers, front_covers, handler_covers, rest, with_handler_length}
+use Rattle.block_template.proofs.Sizes.{after_covers, front_covers, handler_covers, rest, with_handler_length}
 
 pub all_joined : {X : Type 0} (P : X → Type 0) (xs ys : List X) → AllByRecursion P xs → AllByRecursion P ys → AllByRecursion P (xs ++ ys)
 all_joined P [] ys a b = b
@@ -164,16 +164,16 @@ module _ (P : BlockInsn → Type 0) (Slot : ℕ → Type 0) (Asked : Atom → Ty
       (joined (lock Before) _ (lock_each Before)
       (checked_each (length clause.args + 2) clause (loads true base 0 clause.args) (omega (arith, covers)) t (loads_each true 0 clause.args (λ i below. slots i (omega arith)))))
 
-  pub behind_each : (mode : Mode) (at : ℕ) (o : Option Clause) → IfSome o (λ c. IfSome c.result (λ k. Slot base)) → IfSome o (λ c. AllByRecursion (Tried Asked Made) c.branches)
-      → at + length (behind mode bools base at o) ≤ count → Each (behind mode bools base at o)
-  behind_each Release at None slots t within = tt
-  behind_each Hold at None slots t within = unlock_each After false
-  behind_each Release at (Some clause) slots t within =
-      let covers = behind_covers Release bools base at clause in
+  pub after_each : (mode : Mode) (at : ℕ) (o : Option Clause) → IfSome o (λ c. IfSome c.result (λ k. Slot base)) → IfSome o (λ c. AllByRecursion (Tried Asked Made) c.branches)
+      → at + length (following mode bools base at o) ≤ count → Each (following mode bools base at o)
+  after_each Release at None slots t within = tt
+  after_each Hold at None slots t within = unlock_each After false
+  after_each Release at (Some clause) slots t within =
+      let covers = after_covers Release bools base at clause in
       joined (keep false base clause.result) _ (keep_each false clause.result slots)
       (released_each (at + kept clause.result) clause (give base clause.result) (omega (arith, covers)) t (give_each clause.result slots))
-  behind_each Hold at (Some clause) slots t within =
-      let covers = behind_covers Hold bools base at clause in
+  after_each Hold at (Some clause) slots t within =
+      let covers = after_covers Hold bools base at clause in
       joined (keep true base clause.result) _ (keep_each true clause.result slots)
       (checked_each (at + kept clause.result) clause (unlock After true ++ give base clause.result) (omega (arith, covers)) t
       (joined (unlock After true) _ (unlock_each After true) (give_each clause.result slots)))
@@ -213,6 +213,6 @@ module _ (P : BlockInsn → Type 0) (Slot : ℕ → Type 0) (Asked : Atom → Ty
       → at + length (from_call mode bools base at clauses) ≤ count → Each (rest mode bools base at clauses)
   rest_each mode at clauses slots after thrown within =
       let later = caught mode bools base (at + length (called mode bools base at clauses)) clauses in
-      let parts = length-append (behind mode bools base (at + 1) clauses.after) later in
-      joined (behind mode bools base (at + 1) clauses.after) later (behind_each mode (at + 1) clauses.after slots after (omega (arith, parts)))
+      let parts = length-append (following mode bools base (at + 1) clauses.after) later in
+      joined (following mode bools base (at + 1) clauses.after) later (after_each mode (at + 1) clauses.after slots after (omega (arith, parts)))
       (caught_each mode (at + length (called mode bools base at clauses)) clauses thrown (omega (arith, parts)))

@@ -16,7 +16,7 @@ use Rattle.insn_codec.specs.declared.opcodes.TheConstants.{GOTO}
 use Rattle.block_template.specs.declared.item.Item.{Item}
 use Rattle.block_template.specs.declared.item.Role.TheVariants as roles
 use Rattle.block_template.specs.Pushing.{store}
-use Rattle.block_template.specs.Blocks.{Clauses, behind, called, catches, caught, checked, from_call, front, items, lets_pass, handler, kept, leave, released, rethrow, with_handler}
+use Rattle.block_template.specs.Blocks.{Clauses, following, called, catches, caught, checked, from_call, front, items, lets_pass, handler, kept, leave, released, rethrow, with_handler}
 use Rattle.block_template.specs.Room.{IsRoomy, IsShort}
 use Rattle.block_template.specs.Parts.{
   asks,
@@ -106,7 +106,7 @@ module _ (bools : List Bool) (base : ℕ) (phase : Phase) where
 pub check_length : (bools : List Bool) (base at : ℕ) (clause : Clause) → length (check bools base at clause) ≡ branches_size clause.branches
 check_length bools base at clause = branches_length bools base clause.phase 0 at (at + branches_size clause.branches) clause.branches
 
--- ---- what stands before the call, behind it, and in the handler
+-- ---- what stands before the call, after it, and in the handler
 
 pub keep_length : (locked : Bool) (base : ℕ) (kind : Option Kind) → length (keep locked base kind) ≡ kept kind
 keep_length locked base None = refl
@@ -160,13 +160,13 @@ front_length Hold bools base clause =
       loads_length true base 0 clause.args,
     )
 
-abbrev pub behind_rest : Mode → Clause → ℕ
-behind_rest Release clause = kept clause.result + kept clause.result + 4
-behind_rest Hold clause = kept clause.result + kept clause.result + 2
+abbrev pub after_rest : Mode → Clause → ℕ
+after_rest Release clause = kept clause.result + kept clause.result + 4
+after_rest Hold clause = kept clause.result + kept clause.result + 2
 
-pub behind_length : (mode : Mode) (bools : List Bool) (base at : ℕ) (clause : Clause)
-    → length (behind mode bools base at (Some clause)) ≡ branches_size clause.branches + behind_rest mode clause
-behind_length Release bools base at clause =
+pub after_length : (mode : Mode) (bools : List Bool) (base at : ℕ) (clause : Clause)
+    → length (following mode bools base at (Some clause)) ≡ branches_size clause.branches + after_rest mode clause
+after_length Release bools base at clause =
     let begin = at + kept clause.result in
     omega (
       arith,
@@ -175,7 +175,7 @@ behind_length Release bools base at clause =
       released_length bools base begin clause (give base clause.result),
       give_length base clause.result,
     )
-behind_length Hold bools base at clause =
+after_length Hold bools base at clause =
     let begin = at + kept clause.result in
     let later = unlock After true ++ give base clause.result in
     omega (
@@ -206,10 +206,10 @@ pub front_covers : (mode : Mode) (bools : List Bool) (base : ℕ) (clause : Clau
 front_covers Release bools base clause = omega (arith, front_length Release bools base clause)
 front_covers Hold bools base clause = omega (arith, front_length Hold bools base clause)
 
-pub behind_covers : (mode : Mode) (bools : List Bool) (base at : ℕ) (clause : Clause)
-    → kept clause.result + (locking mode + branches_size clause.branches) ≤ length (behind mode bools base at (Some clause))
-behind_covers Release bools base at clause = omega (arith, behind_length Release bools base at clause)
-behind_covers Hold bools base at clause = omega (arith, behind_length Hold bools base at clause)
+pub after_covers : (mode : Mode) (bools : List Bool) (base at : ℕ) (clause : Clause)
+    → kept clause.result + (locking mode + branches_size clause.branches) ≤ length (following mode bools base at (Some clause))
+after_covers Release bools base at clause = omega (arith, after_length Release bools base at clause)
+after_covers Hold bools base at clause = omega (arith, after_length Hold bools base at clause)
 
 pub handler_covers : (mode : Mode) (bools : List Bool) (base at : ℕ) (clause : Clause)
     → locking mode + branches_size clause.branches ≤ length (handler mode bools base at (Some clause))
@@ -225,11 +225,11 @@ front_short Hold bools base None few short = omega arith
 front_short Release bools base (Some clause) few short = omega (arith, front_length Release bools base clause, short.size)
 front_short Hold bools base (Some clause) few short = omega (arith, front_length Hold bools base clause, short.size)
 
-pub behind_short : (mode : Mode) (bools : List Bool) (base at : ℕ) (o : Option Clause) → IfSome o (IsShort base) → length (behind mode bools base at o) < 2 ^ 14
-behind_short Release bools base at None short = omega arith
-behind_short Hold bools base at None short = omega arith
-behind_short Release bools base at (Some clause) short = omega (arith, behind_length Release bools base at clause, kept_few clause.result, short.size)
-behind_short Hold bools base at (Some clause) short = omega (arith, behind_length Hold bools base at clause, kept_few clause.result, short.size)
+pub after_short : (mode : Mode) (bools : List Bool) (base at : ℕ) (o : Option Clause) → IfSome o (IsShort base) → length (following mode bools base at o) < 2 ^ 14
+after_short Release bools base at None short = omega arith
+after_short Hold bools base at None short = omega arith
+after_short Release bools base at (Some clause) short = omega (arith, after_length Release bools base at clause, kept_few clause.result, short.size)
+after_short Hold bools base at (Some clause) short = omega (arith, after_length Hold bools base at clause, kept_few clause.result, short.size)
 
 pub handler_short : (mode : Mode) (bools : List Bool) (base at : ℕ) (o : Option Clause) → IfSome o (IsShort base) → length (handler mode bools base at o) < 2 ^ 14
 handler_short Release bools base at None short = omega arith
@@ -246,10 +246,10 @@ with_handler_length mode bools base at clauses =
     let over = leave (at + length thrown) ∷ [] in
     omega (arith, length-append (if_reached (lets_pass clauses.after) over) thrown, reached_length (lets_pass clauses.after) over)
 
--- what stands behind the call
+-- what stands after the call
 abbrev pub rest : Mode → List Bool → ℕ → ℕ → Clauses → List Item
 rest mode bools base at clauses =
-    behind mode bools base (at + 1) clauses.after ++ caught mode bools base (at + length (called mode bools base at clauses)) clauses
+    following mode bools base (at + 1) clauses.after ++ caught mode bools base (at + length (called mode bools base at clauses)) clauses
 
 pub caught_short : (mode : Mode) (bools : List Bool) (base at : ℕ) (clauses : Clauses) → IfSome clauses.exceptional (IsShort base)
     → length (caught mode bools base at clauses) < 2 ^ 15
@@ -279,7 +279,7 @@ from_call_short mode bools base at clauses room =
     omega (
       arith,
       length-append made (caught mode bools base (at + length made) clauses),
-      behind_short mode bools base (at + 1) clauses.after room.after,
+      after_short mode bools base (at + 1) clauses.after room.after,
       caught_short mode bools base (at + length made) clauses room.exceptional,
     )
 

@@ -18,7 +18,7 @@ use Rattle.block_template.specs.declared.item.Role.{Role}
 use Rattle.block_template.specs.declared.item.Role.TheVariants as roles
 use Rattle.block_template.specs.Blocks.{
   Clauses,
-  behind,
+  following,
   called,
   catches,
   caught,
@@ -38,7 +38,7 @@ use Rattle.block_template.specs.Flow.{AreForPhases, branch_at, branches_of, clau
 use Rattle.block_template.specs.Parts.{ask, asks, branch_size, branches, branches_size, check, give, if_reached, keep, loads, lock, save, tried, unlock, unreached, write, writes}
 
 module _ (mode : Mode) (clauses : Clauses) where
-  -- The lock is held over the call as the mode has it, it is taken for a check or before the call, it is left behind a check
+  -- The lock is held over the call as the mode has it, it is taken for a check or before the call, it is left after a check
   -- where a clause is for the phase, and a branch that is taken is there.
   abbrev pub Suits : Role → Type 0
   Suits (roles.Call locked) = locked ≡ is_locked mode
@@ -165,13 +165,13 @@ module _ (mode : Mode) (clauses : Clauses) where
     keep_suit locked is None = tt
     keep_suit locked is (Some kind) = (is, tt)
 
-    behind_suit : (m : Mode) → m ≡ mode → (at : ℕ) (o : Option Clause) → clauses.after ≡ o → AllSuit (behind m bools base at o)
-    behind_suit Release is at None e = tt
-    behind_suit Hold is at None e = (ap is_some (sym e), (ap is_some (sym e), tt))
-    behind_suit Release is at (Some clause) e =
+    after_suit : (m : Mode) → m ≡ mode → (at : ℕ) (o : Option Clause) → clauses.after ≡ o → AllSuit (following m bools base at o)
+    after_suit Release is at None e = tt
+    after_suit Hold is at None e = (ap is_some (sym e), (ap is_some (sym e), tt))
+    after_suit Release is at (Some clause) e =
         both (keep false base clause.result) _ (keep_suit false (ap is_locked is) clause.result)
         (released_suit After clause e (after_for clause e) bools base _ _ (give_suit clause.result))
-    behind_suit Hold is at (Some clause) e =
+    after_suit Hold is at (Some clause) e =
         both (keep true base clause.result) _ (keep_suit true (ap is_locked is) clause.result)
         (checked_suit After clause e (after_for clause e) bools base _ _ (both (unlock After true) _ (unlock_suit After clause e) (give_suit clause.result)))
 
@@ -200,4 +200,4 @@ module _ (mode : Mode) (clauses : Clauses) where
         both (front mode bools base clauses.before) _ (front_suit mode clauses.before refl)
         (reached_suit (lets_pass clauses.before) (from_call mode bools base at clauses)
         (both (called mode bools base at clauses) (caught mode bools base later clauses)
-        (refl, behind_suit mode refl (at + 1) clauses.after refl) (caught_suit later (catches mode clauses.exceptional))))
+        (refl, after_suit mode refl (at + 1) clauses.after refl) (caught_suit later (catches mode clauses.exceptional))))

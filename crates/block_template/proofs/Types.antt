@@ -106,13 +106,13 @@ take_one i [] lt = absurd (omega (arith, lt))
 take_one zero (t ∷ s) lt = refl
 take_one (suc i) (t ∷ s) lt = ap (λ (r : List VType). t ∷ r) (take_one i s (omega (arith, lt)))
 
-pub type_behind : (k n : ℕ) (s : List VType) → type_at (drop k s) n ≡ type_at s (k + n)
-type_behind zero n s = ap (type_at s) (nothing n)
+pub type_after : (k n : ℕ) (s : List VType) → type_at (drop k s) n ≡ type_at s (k + n)
+type_after zero n s = ap (type_at s) (nothing n)
   where
     nothing : (n : ℕ) → n ≡ 0 + n
     nothing n = omega arith
-type_behind (suc k) n [] = refl
-type_behind (suc k) n (t ∷ s) = type_behind k n s ∙ ap (type_at (t ∷ s)) (more k n)
+type_after (suc k) n [] = refl
+type_after (suc k) n (t ∷ s) = type_after k n s ∙ ap (type_at (t ∷ s)) (more k n)
   where
     more : (k n : ℕ) → suc (k + n) ≡ suc k + n
     more k n = omega arith
@@ -123,7 +123,7 @@ split_kept k n s lt le =
     let one : length s - (k - suc n) ≡ suc (length s - (k - n)) = omega (arith, lt, le) in
     let at : (length s - k) + n ≡ length s - (k - n) = omega (arith, lt, le) in
     ap (λ (i : ℕ). take i s) one ∙ take_one (length s - (k - n)) s (omega (arith, lt, le))
-    ∙ ap (λ (t : VType). below (k - n) s ++ t ∷ []) (ap (type_at s) (sym at) ∙ sym (type_behind (length s - k) n s))
+    ∙ ap (λ (t : VType). below (k - n) s ++ t ∷ []) (ap (type_at s) (sym at) ∙ sym (type_after (length s - k) n s))
 
 pub topmost_few : (n : ℕ) (s : List VType) → length (topmost n s) ≤ n
 topmost_few n s = omega (arith, length-drop (length s - n) s)
@@ -134,7 +134,7 @@ topmost_there n s e = omega (arith, length-drop (length s - n) s, e)
 pub below_few : (n : ℕ) (s : List VType) → length (below n s) ≤ length s
 below_few n s = omega (arith, length-take-le (length s - n) s (omega arith))
 
--- ---- locals behind others
+-- ---- locals after others
 
 before_more : (n : ℕ) → (0 == suc n) ≡ false
 before_more n = ne_eqb 0 (suc n) (λ e. absurd (omega (arith, e)))
@@ -154,20 +154,20 @@ both_more j n =
     not_same : (j n : ℕ) → (j == n) ≡ false → j ≡ n → ⊥
     not_same j n differ e = false≢true (sym differ ∙ eq-eqb j n e)
 
--- What is stored in a list of locals is stored behind others.
-pub stored_behind : (p x y : List VType) (n : ℕ) (t : VType) → ((j : ℕ) → cond (j == n) t (type_at x j) ≡ type_at y j) → (j : ℕ)
+-- What is stored in a list of locals is stored after others.
+pub stored_after : (p x y : List VType) (n : ℕ) (t : VType) → ((j : ℕ) → cond (j == n) t (type_at x j) ≡ type_at y j) → (j : ℕ)
     → cond (j == length p + n) t (type_at (p ++ x) j) ≡ type_at (p ++ y) j
-stored_behind [] x y n t same j =
+stored_after [] x y n t same j =
     let nothing : length {A = VType} [] + n ≡ n = omega arith in
     ap (λ (m : ℕ). cond (j == m) t (type_at x j)) nothing ∙ same j
-stored_behind (u ∷ p) x y n t same zero =
+stored_after (u ∷ p) x y n t same zero =
     let more : length (u ∷ p) + n ≡ suc (length p + n) = omega arith in
     ap (λ (m : ℕ). cond (zero == m) t u) more ∙ ap (λ (b : Bool). cond b t u) (before_more (length p + n))
-stored_behind (u ∷ p) x y n t same (suc j) =
+stored_after (u ∷ p) x y n t same (suc j) =
     let more : length (u ∷ p) + n ≡ suc (length p + n) = omega arith in
     ap (λ (m : ℕ). cond (suc j == m) t (type_at (p ++ x) j)) more
     ∙ ap (λ (b : Bool). cond b t (type_at (p ++ x) j)) (both_more j (length p + n))
-    ∙ stored_behind p x y n t same j
+    ∙ stored_after p x y n t same j
 
 -- It is stored in the last of those that have nothing.
 pub stored_last : (n : ℕ) (t : VType) (y : List VType) (j : ℕ)

@@ -1,4 +1,4 @@
--- The block of a call: what is done before it, behind it where it returns, and where it throws. (docs/BLOCKS.md)
+-- The block of a call: what is done before it, after it where it returns, and where it throws. (docs/BLOCKS.md)
 use Rattle.std.specs.Prelude.{ℕ, ◌+◌, ◌==◌, ◌&&◌, max, Bool, true, false, not, if◌then◌else◌, List, [], ◌∷◌, ◌++◌, length, map, find, Option, Some, None}
 use Rattle.std.specs.Option.{option_map_or}
 use Rattle.bytecode_model.specs.declared.program.Target.{Target}
@@ -52,12 +52,12 @@ lets_pass (Some clause) = not (is_empty clause.branches)
 
 -- ---- mode release: each check takes the lock and leaves it
 
--- In `behind` stand the instructions behind a check and its lock.
+-- In `following` stand the instructions after a check and its lock.
 abbrev pub checked : List Bool → ℕ → ℕ → Clause → List Item → List Item
-checked bools base at clause behind = check bools base at clause ++ if_reached (lets_pass (Some clause)) behind
+checked bools base at clause following = check bools base at clause ++ if_reached (lets_pass (Some clause)) following
 
 abbrev pub released : List Bool → ℕ → ℕ → Clause → List Item → List Item
-released bools base at clause behind = lock clause.phase ++ checked bools base (at + 2) clause (unlock clause.phase true ++ behind)
+released bools base at clause following = lock clause.phase ++ checked bools base (at + 2) clause (unlock clause.phase true ++ following)
 
 -- ---- before the call
 
@@ -76,18 +76,18 @@ is_locked Release = false
 abbrev pub call : Mode → Item
 call mode = item Call (roles.Call (is_locked mode))
 
--- ---- behind the call, where it returns
+-- ---- after the call, where it returns
 
 abbrev pub kept : Option Kind → ℕ
 kept None = 0
 kept (Some kind) = 1
 
-abbrev pub behind : Mode → List Bool → ℕ → ℕ → Option Clause → List Item
-behind Release bools base at None = []
-behind Release bools base at (Some clause) =
+abbrev pub following : Mode → List Bool → ℕ → ℕ → Option Clause → List Item
+following Release bools base at None = []
+following Release bools base at (Some clause) =
     keep false base clause.result ++ released bools base (at + kept clause.result) clause (give base clause.result)
-behind Hold bools base at None = unlock After false
-behind Hold bools base at (Some clause) =
+following Hold bools base at None = unlock After false
+following Hold bools base at (Some clause) =
     keep true base clause.result ++ checked bools base (at + kept clause.result) clause (unlock After true ++ give base clause.result)
 
 -- ---- where the call throws
@@ -108,7 +108,7 @@ catches Hold clause = true
 catches Release None = false
 catches Release (Some clause) = true
 
--- The handler stands behind a jump over it.
+-- The handler stands after a jump over it.
 abbrev pub leave : ℕ → Item
 leave end = item (Jump GOTO end) roles.Leave
 
@@ -116,7 +116,7 @@ leave end = item (Jump GOTO end) roles.Leave
 
 -- what stands from the call on, which is at `at`
 abbrev pub called : Mode → List Bool → ℕ → ℕ → Clauses → List Item
-called mode bools base at clauses = call mode ∷ behind mode bools base (at + 1) clauses.after
+called mode bools base at clauses = call mode ∷ following mode bools base (at + 1) clauses.after
 
 -- a block that catches, whose handler begins at `at`
 abbrev pub with_handler : Mode → List Bool → ℕ → ℕ → Clauses → List Item

@@ -1,5 +1,5 @@
 -- The block of a call that the policy denies: it keeps the arguments, takes the lock of conspec/State and stops the program.
--- What stands behind that is never reached, and gives the call what it had. (docs/BLOCKS.md)
+-- What stands after that is never reached, and gives the call what it had. (docs/BLOCKS.md)
 use Rattle.std.specs.Prelude.{◌≡◌, ℕ, ◌+◌, ◌==◌, pos, List, [], ◌∷◌, ◌++◌, find, Option, None, option_map}
 use Rattle.cert_format.specs.declared.certificate.Mode.TheVariants.{Release}
 use Rattle.conspec_tree.specs.declared.types.Kind.{Kind}

@@ -149,27 +149,27 @@ unlocked_in clauses Before = loading clauses 0 false
 unlocked_in clauses After = if keeps_result clauses then roles.Give else roles.Leave
 unlocked_in clauses Exceptional = roles.Rethrow
 
--- how a check behind the call begins
-abbrev pub check_behind : Mode → Phase → Clause → Role
-check_behind Release phase clause = roles.Lock phase false
-check_behind Hold phase clause = tries phase 0 clause.branches
+-- how a check after the call begins
+abbrev pub check_after : Mode → Phase → Clause → Role
+check_after Release phase clause = roles.Lock phase false
+check_after Hold phase clause = tries phase 0 clause.branches
 
 -- what comes where the call has returned
-abbrev pub behind_return : Mode → Option Clause → Role
-behind_return Release None = roles.Leave
-behind_return Hold None = roles.Unlock After false false
-behind_return mode (Some clause) = if is_some clause.result then roles.Keep (is_locked mode) else check_behind mode After clause
+abbrev pub after_return : Mode → Option Clause → Role
+after_return Release None = roles.Leave
+after_return Hold None = roles.Unlock After false false
+after_return mode (Some clause) = if is_some clause.result then roles.Keep (is_locked mode) else check_after mode After clause
 
 -- what comes once the result is kept
 abbrev pub kept_by : Mode → Option Clause → Role
 kept_by mode None = roles.Unreached
-kept_by mode (Some clause) = check_behind mode After clause
+kept_by mode (Some clause) = check_after mode After clause
 
 -- what comes where it has thrown
 abbrev pub thrown : Mode → Option Clause → Role
 thrown Release None = roles.Unreached
 thrown Hold None = roles.Unlock Exceptional false false
-thrown mode (Some clause) = check_behind mode Exceptional clause
+thrown mode (Some clause) = check_after mode Exceptional clause
 
 -- what comes first
 abbrev pub entered : Mode → Option Clause → Role
@@ -179,7 +179,7 @@ entered mode (Some clause) = saving (length clause.args)
 
 -- ---- the graph
 
--- what is so behind an instruction that goes on
+-- what is so after an instruction that goes on
 abbrev pub next : Mode → Clauses → Role → Role
 next mode clauses (roles.Save zero) = roles.Unreached
 next mode clauses (roles.Save (suc left)) = saving left
@@ -192,7 +192,7 @@ next mode clauses (roles.Stop phase done) = roles.Stop phase (done + 1)
 next mode clauses (roles.Unlock phase checked false) = roles.Unlock phase checked true
 next mode clauses (roles.Unlock phase checked true) = unlocked_in clauses phase
 next mode clauses (roles.Load n locked) = loading clauses (n + 1) locked
-next mode clauses (roles.Call locked) = behind_return mode clauses.after
+next mode clauses (roles.Call locked) = after_return mode clauses.after
 next mode clauses (roles.Keep locked) = kept_by mode clauses.after
 next mode clauses roles.Give = roles.Leave
 next mode clauses roles.Leave = roles.Unreached
@@ -277,11 +277,11 @@ insn_of bools base clauses end to roles.Unreached = None
 
 -- ---- the block is that graph
 
--- what is so at a place of the block; behind its end the block is left
+-- what is so at a place of the block; after its end the block is left
 abbrev pub role_at : List Item → ℕ → Role
 role_at items at = option_map_or (λ (i : Item). i.role) (slice_get items at) roles.Leave
 
--- whether control goes on behind an instruction, or may
+-- whether control goes on after an instruction, or may
 abbrev pub may_pass : BlockInsn → Bool
 may_pass (Jump op place) = not (op == GOTO)
 may_pass (Plain op) = not (op == ATHROW)
@@ -302,7 +302,7 @@ jump_of (Want op want) = None
 jump_of Call = None
 
 -- An item of a block that ends at `end` has the instruction of its role, and control goes from it as the graph tells: `there` tells
--- what is so at each place of the block, and `after` is so behind the item.
+-- what is so at each place of the block, and `after` is so after the item.
 pub record IsLed (mode : Mode) (bools : List Bool) (base : ℕ) (clauses : Clauses) (end : ℕ)
     (there : ℕ → Role) (i : Item) (after : Role) : Type 0 where
   pub is : (to : ℕ) × (insn_of bools base clauses end to i.role ≡ Some i.insn)

@@ -7,7 +7,7 @@ use Rattle.offset_patch.specs.declared.block.BlockInsn.{BlockInsn}
 use Rattle.offset_patch.specs.declared.block.BlockInsn.TheVariants.{Plain, Byte, Short, Local, Want, Jump, Call}
 use Rattle.block_template.specs.Blocks.{block}
 
--- A jump that stands at this place goes to a place behind it.
+-- A jump that stands at this place goes to a place after it.
 abbrev pub GoesForward : ℕ → BlockInsn → Type 0
 GoesForward at (Jump op place) = at < place
 GoesForward at (Plain op) = ⊤

@@ -1,4 +1,4 @@
--- The types before each instruction of a block, told of the types before its call and behind it. (docs/BLOCKS.md)
+-- The types before each instruction of a block, told of the types before its call and after it. (docs/BLOCKS.md)
 use Rattle.std.specs.Prelude.{
   ℕ,
   zero,
@@ -41,7 +41,7 @@ use Rattle.block_template.specs.declared.steps.Step.{Step}
 use Rattle.block_template.specs.Flow.{asking, keeps_result, updating}
 use Rattle.block_template.specs.Steps.{stack_before}
 
--- The types before a call, and behind it with what it gives on top; and where the client's locals end.
+-- The types before a call, and after it with what it gives on top; and where the client's locals end.
 pub record Around : Type 0 where
   pub before : FrameType
   pub after : FrameType
@@ -64,7 +64,7 @@ kept_arguments clauses = length (argument_kinds clauses)
 abbrev pub kept_types : Clauses → Around → List VType
 kept_types clauses around = topmost (kept_arguments clauses) around.before.stack
 
--- Each argument that is kept has a local behind the client's; so many have none yet.
+-- Each argument that is kept has a local after the client's; so many have none yet.
 abbrev pub saved_locals : Clauses → Around → ℕ → List VType
 saved_locals clauses around left =
     padded around.base around.before.locals ++ (replicate left types.Top ++ drop left (kept_types clauses around))
@@ -73,7 +73,7 @@ saved_locals clauses around left =
 abbrev pub kept_result : Clauses → Around → List VType
 kept_result clauses around = if keeps_result clauses then topmost 1 around.after.stack else []
 
--- the operands behind the call, where the result is kept without it
+-- the operands after the call, where the result is kept without it
 abbrev pub left_operands : Clauses → Around → List VType
 left_operands clauses around = if keeps_result clauses then below 1 around.after.stack else around.after.stack
 

@@ -74,7 +74,7 @@ use Rattle.block_template.specs.Flow.{
   may_pass,
   next,
   result_in,
-  behind_return,
+  after_return,
   role_at,
   thrown,
 }
@@ -95,7 +95,7 @@ operand_of kinds.Char = operands.Int
 abbrev pub kept_kind : Kind → Want
 kept_kind kind = of_kind (operand_of kind)
 
--- The client's locals end at the base. What is kept is on top, and of its kind: the arguments before the call, and the result behind it.
+-- The client's locals end at the base. What is kept is on top, and of its kind: the arguments before the call, and the result after it.
 pub record FitsAround (clauses : Clauses) (around : Around) : Type 0 where
   pub before : length around.before.locals ≤ around.base
   pub after : length around.after.locals ≤ around.base
@@ -133,7 +133,7 @@ pub record Stands (insn : BlockInsn) (place : InsnPlace) : Type 0 where
 
 -- ---- the law
 
--- With these types the instruction meets the rules of its place, and what comes behind it takes what it leaves, as does what it jumps to.
+-- With these types the instruction meets the rules of its place, and what comes after it takes what it leaves, as does what it jumps to.
 pub record IsTyped (mode : Mode) (clauses : Clauses) (around : Around) (role : Role) (insn : BlockInsn) (place : InsnPlace) : Type 0 where
   pub types : FrameType
   pub told : frame_at clauses around role ≡ Some types
@@ -155,7 +155,7 @@ BlocksAreTyped =
 
 -- ---- what the client catches
 
--- the client's locals, at a role: those before the call, or behind it
+-- the client's locals, at a role: those before the call, or after it
 abbrev pub phase_locals : Around → Phase → List VType
 phase_locals around Before = around.before.locals
 phase_locals around After = around.after.locals
@@ -186,7 +186,7 @@ CatchesAreTyped =
 
 -- ---- the call
 
--- The call itself, of which the types behind are those that it leaves.
+-- The call itself, of which the types after are those that it leaves.
 pub record IsCallOf (around : Around) (place : InsnPlace) : Type 0 where
   pub how : How
   pub call : shape_of place.insn ≡ shapes.Heap (heap.Call how)
@@ -202,7 +202,7 @@ pub record CallIsTyped (mode : Mode) (clauses : Clauses) (around : Around) (lock
   pub operand : TakesOperands place around.before ≡ true → TakesOperands place types ≡ true
   pub local : Local place types ≡ true
   pub made : Made place around.before ≡ true → Made place types ≡ true
-  pub returns : IfSome (frame_at clauses around (behind_return mode clauses.after)) (λ to. goes_well place types to ≡ true)
+  pub returns : IfSome (frame_at clauses around (after_return mode clauses.after)) (λ to. goes_well place types to ≡ true)
   pub throws : (handler : Handler) → handler.class ≡ None
       → IfSome (frame_at clauses around (thrown mode clauses.exceptional)) (λ to. catches_well place types handler to ≡ true)
 

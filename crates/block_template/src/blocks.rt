@@ -1,11 +1,11 @@
-//! The block of a call: what is done before it, behind it where it returns, and where it throws.
+//! The block of a call: what is done before it, after it where it returns, and where it throws.
 
 ghost use Rattle.std.specs.Prelude.{◌≡◌, ◌+◌, ◌++◌, ◌∷◌, ◌<◌, ◌^◌, ◌↔◌, false, IfOk, IfSome, IsNone, OnOk, Some, length, map};
 ghost use Rattle.std.specs.Option.{option_copied};
 ghost use Rattle.conspec_automaton.specs.Next.{has_clauses};
 ghost use Rattle.conspec_automaton.specs.Sound.{IsPolicy};
 ghost use Rattle.block_template.specs.Blocks.{
-  behind,
+  following,
   block,
   bools_of,
   call,
@@ -43,7 +43,7 @@ use mon_base::{List, NoMemory};
 use offset_patch::{Block, BlockInsn};
 use std::alloc::Global;
 
-// ---- a check, and what stands behind it
+// ---- a check, and what stands after it
 
 fn put_checked(
     alloc: Global,
@@ -52,17 +52,17 @@ fn put_checked(
     base: u16,
     at: u32,
     clause: &Clause,
-    behind: &[Item],
+    following: &[Item],
 ) -> Result<(), NoMemory>
     requires few { at < 2 ^ 24 }
     requires short { IsShort base clause.now }
-    ensures { OnOk result (items.new ≡ items.old ++ checked (bools_in vars.now) base at clause.now behind.now) }
+    ensures { OnOk result (items.new ≡ items.old ++ checked (bools_in vars.now) base at clause.now following.now) }
 {
     put_check(alloc, items, vars, base, at, clause)?;
-    put_if_reached(items, lets_pass(Some(clause)), behind)
+    put_if_reached(items, lets_pass(Some(clause)), following)
 }
 
-/// With the lock, which is taken before the check and left behind it.
+/// With the lock, which is taken before the check and left after it.
 fn put_released(
     alloc: Global,
     items: &mut List<Item>,
@@ -70,15 +70,15 @@ fn put_released(
     base: u16,
     at: u32,
     clause: &Clause,
-    behind: &[Item],
+    following: &[Item],
 ) -> Result<(), NoMemory>
     requires few { at + 2 < 2 ^ 24 }
     requires short { IsShort base clause.now }
-    ensures { OnOk result (items.new ≡ items.old ++ released (bools_in vars.now) base at clause.now behind.now) }
+    ensures { OnOk result (items.new ≡ items.old ++ released (bools_in vars.now) base at clause.now following.now) }
 {
     let mut left = List::new(alloc);
     put_unlock(&mut left, clause.phase, true)?;
-    put_if_reached(&mut left, true, behind)?;
+    put_if_reached(&mut left, true, following)?;
     put_lock(items, clause.phase)?;
     put_checked(alloc, items, vars, base, at + 2, clause, left.as_slice())
 }
@@ -125,7 +125,7 @@ fn put_front(
     put_asked(alloc, items, mode, vars, base, clause, last.as_slice())
 }
 
-/// The arguments are kept, and the check is made; behind it they are loaded.
+/// The arguments are kept, and the check is made; after it they are loaded.
 fn put_asked(
     alloc: Global,
     items: &mut List<Item>,
@@ -162,9 +162,9 @@ fn is_locked(mode: Mode) -> bool
     }
 }
 
-// ---- behind the call, where it returns
+// ---- after the call, where it returns
 
-fn put_behind(
+fn put_after(
     alloc: Global,
     items: &mut List<Item>,
     mode: Mode,
@@ -175,7 +175,7 @@ fn put_behind(
 ) -> Result<(), NoMemory>
     requires few { at + 3 < 2 ^ 24 }
     requires short { IfSome (option_copied clause) (IsShort base) }
-    ensures { OnOk result (items.new ≡ items.old ++ behind mode (bools_in vars.now) base at (option_copied clause.entry)) }
+    ensures { OnOk result (items.new ≡ items.old ++ following mode (bools_in vars.now) base at (option_copied clause.entry)) }
 {
     match clause {
         Some(clause) => put_returned(alloc, items, mode, vars, base, at, clause),
@@ -199,7 +199,7 @@ fn put_returned(
 ) -> Result<(), NoMemory>
     requires few { at + 3 < 2 ^ 24 }
     requires short { IsShort base clause.now }
-    ensures { OnOk result (items.new ≡ items.old ++ behind mode (bools_in vars.now) base at (Some clause.now)) }
+    ensures { OnOk result (items.new ≡ items.old ++ following mode (bools_in vars.now) base at (Some clause.now)) }
 {
     let begin = at + kept(clause.result);
     put_keep(items, is_locked(mode), base, clause.result)?;
@@ -308,17 +308,17 @@ fn called(
 ) -> Result<List<Item>, NoMemory>
     requires few { at + 4 < 2 ^ 24 }
     requires short { IfSome (option_copied clause) (IsShort base) }
-    ensures { IfOk result (λ made. made ≡ call mode ∷ behind mode (bools_in vars.now) base (at + 1) (option_copied clause.entry)) }
+    ensures { IfOk result (λ made. made ≡ call mode ∷ following mode (bools_in vars.now) base (at + 1) (option_copied clause.entry)) }
 {
     let mut items = List::new(alloc);
     let locked = is_locked(mode);
     put(&mut items, BlockInsn::Call, Role::Call { locked })?;
-    put_behind(alloc, &mut items, mode, vars, base, at + 1, clause)?;
+    put_after(alloc, &mut items, mode, vars, base, at + 1, clause)?;
     Ok(items)
 }
 
 /// What stands from the call on, which is at `at`.
-#[tactic(auto, using(crate::proofs::Sizes::behind_short))]
+#[tactic(auto, using(crate::proofs::Sizes::after_short))]
 fn from_call(
     alloc: Global,
     mode: Mode,

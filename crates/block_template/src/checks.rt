@@ -55,7 +55,7 @@ pub fn put_check(
     put_stop(items, clause.phase)
 }
 
-/// Appends a branch, behind which the next one begins at `next`. Where it is taken the check is left for `done`.
+/// Appends a branch, after which the next one begins at `next`. Where it is taken the check is left for `done`.
 #[tactic(auto, using(crate::proofs::Sizes::asks_count, crate::proofs::Sizes::updates_count))]
 fn put_branch(
     alloc: Global,

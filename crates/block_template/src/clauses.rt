@@ -81,7 +81,7 @@ fn is_phase(phase: Phase, other: Phase) -> bool
     }
 }
 
-/// Whether control goes on behind a check; one without branches stops the program.
+/// Whether control goes on after a check; one without branches stops the program.
 pub fn lets_pass(clause: Option<&Clause>) -> bool
     ensures { result ≡ lets_pass (option_copied clause.entry) }
 {

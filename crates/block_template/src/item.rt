@@ -61,7 +61,7 @@ pub enum Role {
     },
     /// The kept result is given back.
     Give,
-    /// The block is left behind its handler.
+    /// The block is left after its handler.
     Leave,
     /// What the call threw is thrown on.
     Rethrow,

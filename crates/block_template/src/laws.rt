@@ -24,12 +24,12 @@ pub fn plans_are_good()
 {}
 
 /// Control goes in each block as the graph of roles tells: of each item that is reached, the instruction is its role's, what
-/// stands behind it and where it jumps have the roles that the graph tells, and so have the block's front and its handler.
+/// stands after it and where it jumps have the roles that the graph tells, and so have the block's front and its handler.
 pub fn blocks_flow()
     ensures { BlocksFlow }
 {}
 
-/// Each jump of a block goes to a place behind it.
+/// Each jump of a block goes to a place after it.
 pub fn blocks_go_forward()
     ensures { BlocksGoForward }
 {}
@@ -39,13 +39,13 @@ pub fn blocks_are_reached()
     ensures { BlocksAreReached }
 {}
 
-/// Each instruction of a block meets the rules of typing, with the types that its role tells of those before the call and behind
-/// it, in a method with room for them; what comes behind it takes what it leaves, and so does what it jumps to.
+/// Each instruction of a block meets the rules of typing, with the types that its role tells of those before the call and after
+/// it, in a method with room for them; what comes after it takes what it leaves, and so does what it jumps to.
 pub fn blocks_are_typed()
     ensures { BlocksAreTyped }
 {}
 
-/// What takes the client's locals as they are caught before the call, or behind it, takes those of each instruction of a block.
+/// What takes the client's locals as they are caught before the call, or after it, takes those of each instruction of a block.
 pub fn catches_are_typed()
     ensures { CatchesAreTyped }
 {}
@@ -55,7 +55,7 @@ pub fn calls_are_typed()
     ensures { CallsAreTyped }
 {}
 
-/// Each instruction of a block that is reached, but the call, meets the rules with the types of its role; what stands behind it, or
+/// Each instruction of a block that is reached, but the call, meets the rules with the types of its role; what stands after it, or
 /// where it jumps, has types that take what it leaves.
 pub fn items_are_typed()
     ensures { ItemsAreTyped }

@@ -38,7 +38,7 @@ pub all_append : {X : Type 0} (P : X → Type 0) (xs ys : List X) → AllByRecur
 all_append P [] ys a b = b
 all_append P (x ∷ xs) ys a b = (a.0, all_append P xs ys a.1 b)
 
--- one more, of which it holds, behind those of which it holds
+-- one more, of which it holds, after those of which it holds
 pub all_push : {X : Type 0} (P : X → Type 0) (xs new : List X) (x : X) → new ≡ xs ++ x ∷ [] → AllByRecursion P xs → P x → AllByRecursion P new
 all_push P xs new x is all one = subst (AllByRecursion P) (sym is) (all_append P xs (x ∷ []) all (one, tt))
 

@@ -16,7 +16,7 @@ among_first table place None xs x there later among = later among
 among_first table place (Some y) xs x there later among =
     elim (first_or y xs x among.0 among.1 among.2) [
       | inl is ↦ (place, slice_get_within table place y there, get_or_from_slice_get table place y x there ∙ is)
-      | inr behind ↦ later behind
+      | inr following ↦ later following
     ]
 
 -- What stands at places of a table is of the table.

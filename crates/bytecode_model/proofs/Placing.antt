@@ -63,7 +63,7 @@ find_at test (x ∷ xs) = by (test x) (find_at test xs ∙ sym (at_front x xs (p
   by true e = refl
   by false e = e
 
--- one item behind the others
+-- one item after the others
 pub place_pushed : {X : Type 0} (test : X → Bool) (xs : List X) (i n : ℕ) (x : X) → n ≡ i + length xs
     → position_from test i (xs ++ x ∷ []) ≡ option_or (position_from test i xs) (cond (test x) (Some n) None)
 place_pushed test [] i n x e =

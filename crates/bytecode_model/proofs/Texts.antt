@@ -5,7 +5,7 @@ use Rattle.std.specs.List.{AllByRecursion, flat_map, fold, position_from}
 use Rattle.std.specs.Option.{option_map_or}
 use Rattle.mon_base.proofs.Lists.{length-filter_map, position_below}
 use Rattle.class_codec.specs.declared.tree.ClassFile.{ClassFile}
-use Rattle.class_codec.specs.Fits.{CanSpell}
+use Rattle.class_codec.specs.Fits.{IsEncodable}
 use Rattle.bytecode_model.specs.Operands.{literals_of, place_of, strings_in, text_of_string}
 use Rattle.bytecode_model.specs.SearchOrder.{Name, is_one_of, with_name}
 
@@ -21,7 +21,7 @@ length-with_names : (names others : List Name) → length (fold with_name names 
 length-with_names names [] = omega arith
 length-with_names names (name ∷ others) = omega (arith, length-with_name names name, length-with_names (with_name names name) others)
 
-length-strings : (files : List ClassFile) → AllByRecursion CanSpell files → length (flat_map strings_in files) ≤ 65535 * length files
+length-strings : (files : List ClassFile) → AllByRecursion IsEncodable files → length (flat_map strings_in files) ≤ 65535 * length files
 length-strings [] fit = omega arith
 length-strings (file ∷ files) fit =
     omega (
@@ -33,7 +33,7 @@ length-strings (file ∷ files) fit =
     )
 
 -- A number of 32 bits counts them.
-pub literals_few : (files : List ClassFile) → AllByRecursion CanSpell files → length files ≤ 1001 → length (literals_of files) < 2 ^ 32
+pub literals_few : (files : List ClassFile) → AllByRecursion IsEncodable files → length files ≤ 1001 → length (literals_of files) < 2 ^ 32
 literals_few files fit few = omega (arith, length-with_names [] (flat_map strings_in files), length-strings files fit, few)
 
 -- ---- where one stands

@@ -62,12 +62,12 @@ named_passes test (x ∷ classes) name c all e =
 
 module _ (ys : List ListedClass) (name : List ℕ) where
   -- what the front of a list has not
-  pub named_behind : (xs : List ListedClass) → class_named xs name ≡ None → class_named (xs ++ ys) name ≡ class_named ys name
-  named_behind [] e = refl
-  named_behind (x ∷ xs) e =
+  pub named_after : (xs : List ListedClass) → class_named xs name ≡ None → class_named (xs ++ ys) name ≡ class_named ys name
+  named_after [] e = refl
+  named_after (x ∷ xs) e =
       elim (cases_Bool (bytes_eq x.name name)) [
         | inl is ↦ let h : ◌≡◌ {A = Option ListedClass} (Some x) None = rw is at e in absurd cc
-        | inr fails ↦ let h : class_named xs name ≡ None = rw fails at e in rw fails (named_behind xs h)
+        | inr fails ↦ let h : class_named xs name ≡ None = rw fails at e in rw fails (named_after xs h)
       ]
 
 -- ---- the way up

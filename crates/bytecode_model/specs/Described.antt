@@ -8,7 +8,7 @@ use Rattle.cert_format.specs.declared.typing.VType.TheVariants as types
 abbrev pub Descriptor : Type 0
 Descriptor = List ℕ
 
--- how long a class's name at the front is, with the `;` behind it
+-- how long a class's name at the front is, with the `;` after it
 abbrev pub name_length : List ℕ → ℕ
 name_length [] = 0
 name_length (b ∷ text) = if b == 59 then 1 else name_length text + 1
@@ -21,15 +21,15 @@ type_length (b ∷ text) = if b == 91 then type_length text + 1 else if b == 76 
 abbrev pub first_type : List ℕ → Descriptor
 first_type text = take (type_length text) text
 
-abbrev pub behind_type : List ℕ → List ℕ
-behind_type text = drop (type_length text) text
+abbrev pub after_type : List ℕ → List ℕ
+after_type text = drop (type_length text) text
 
--- the type at the front and what stands behind it, unless the arguments end there
+-- the type at the front and what stands after it, unless the arguments end there
 abbrev pub next_type : List ℕ → Option (Descriptor × List ℕ)
 next_type [] = None
-next_type (b ∷ text) = if b == 41 then None else Some (first_type (b ∷ text), behind_type (b ∷ text))
+next_type (b ∷ text) = if b == 41 then None else Some (first_type (b ∷ text), after_type (b ∷ text))
 
--- at most n types, up to the bracket behind them
+-- at most n types, up to the bracket after them
 unfoldable pub types_at : ℕ → List ℕ → List Descriptor
 types_at zero text = []
 types_at (suc n) text = option_map_or (λ (r : Descriptor × List ℕ). r.0 ∷ types_at n r.1) (next_type text) []
@@ -38,7 +38,7 @@ types_at (suc n) text = option_map_or (λ (r : Descriptor × List ℕ). r.0 ∷ 
 abbrev pub arguments : List ℕ → List Descriptor
 arguments desc = types_at 255 (drop 1 desc)
 
--- what stands behind the arguments
+-- what stands after the arguments
 abbrev pub result_text : List ℕ → Descriptor
 result_text [] = []
 result_text (b ∷ text) = if b == 41 then text else result_text text

@@ -1,7 +1,7 @@
 pub mod Heads
 pub mod Classes
 pub mod Arrays
-pub mod Lending
+pub mod Borrowing
 pub mod Assigning
 pub mod Described
 pub mod SearchOrder
@@ -25,5 +25,5 @@ pub mod Layout
 pub mod Typed
 pub mod Named
 pub mod Targets
-pub mod Standing
+pub mod LinkedClasses
 pub mod Uses

@@ -22,18 +22,18 @@ interfaces_above classes name = option_map_or (λ (c : ListedClass). c.interface
 abbrev pub with_name : List Name → Name → List Name
 with_name names name = if is_one_of names name then names else names ++ name ∷ []
 
--- behind those that wait, the interfaces of a new name
+-- after those that wait, the interfaces of a new name
 abbrev pub with_above : List ListedClass → List Name → Name → List Name → List Name
 with_above classes found name waiting = if is_one_of found name then waiting else waiting ++ interfaces_above classes name
 
--- The names that are reached, each once: those that wait are taken in order, and a new one's interfaces wait behind
+-- The names that are reached, each once: those that wait are taken in order, and a new one's interfaces wait after
 -- the others. At most n are taken.
 abbrev pub reached : ℕ → List ListedClass → List Name → List Name → List Name
 reached zero classes found waiting = found
 reached (suc n) classes found [] = found
 reached (suc n) classes found (name ∷ waiting) = reached n classes (with_name found name) (with_above classes found name waiting)
 
--- how many names can come to wait behind these
+-- how many names can come to wait after these
 abbrev pub most : List ListedClass → List Name → ℕ
 most classes waiting = length waiting + length (interfaces_of classes)
 

@@ -1,7 +1,7 @@
 -- What holds of each linked program. (docs/LINKING.md)
 use Rattle.std.specs.Prelude.{◌≡◌, ℕ, ◌^◌, ◌<◌, ◌≤◌, length, option_and_then, slice_get, IsSomeAnd}
 use Rattle.std.specs.List.{AllByRecursion}
-use Rattle.class_codec.specs.Fits.{CanSpell}
+use Rattle.class_codec.specs.Fits.{IsEncodable}
 use Rattle.insn_codec.specs.Fits.{IsInsn, AimsWithin, Ends}
 use Rattle.api_listing.specs.Listing.{IsFew}
 use Rattle.bytecode_model.specs.declared.program.Handler.{Handler}
@@ -27,7 +27,7 @@ pub record IsSoundMethod (method : Method) : Type 0 where
   pub handlers : AllByRecursion (IsWithin (length method.insns)) method.handlers
 
 pub record IsSoundClass (class : LinkedClass) : Type 0 where
-  pub fits : CanSpell class.file
+  pub fits : IsEncodable class.file
   pub name : class.name ≡ class_at class.file.pool class.file.this_class
   pub parent : class.parent ≡ class_at class.file.pool class.file.super_class
   pub few : length class.methods < 2 ^ 16

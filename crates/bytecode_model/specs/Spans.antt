@@ -20,7 +20,7 @@ pub record IsTable (spans : List (List ℕ)) (table : List Handler) : Type 0 whe
   pub few : length table < 2 ^ 32
   pub listed : AreListed spans table
 
--- The place of a handler is listed behind the others near each instruction that it covers.
+-- The place of a handler is listed after the others near each instruction that it covers.
 abbrev pub IsAdded : Handler → ℕ → List (List ℕ) → List (List ℕ) → Type 0
 IsAdded handler place old new =
     (at : ℕ) → (places_near new at ≡ places_near old at ++ place ∷ []) ⊎ ((covers at handler ≡ false) × (places_near new at ≡ places_near old at))

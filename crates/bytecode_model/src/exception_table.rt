@@ -112,7 +112,7 @@ impl<'a> NearHandlers<'a> {
     }
 }
 
-/// The handler at the first of the places that the table has, and the places behind it.
+/// The handler at the first of the places that the table has, and the places after it.
 fn first_at<'a>(table: &'a [Handler], places: &'a [u32]) -> (Option<&'a Handler>, &'a [u32])
     ensures { MatchOption (option_copied result.0) (handlers_at table.now places.now ≡ [])
         (λ handler. handlers_at table.now places.now ≡ handler ∷ handlers_at table.now result.1.now) }

@@ -6,6 +6,7 @@
 #![tactic(auto)]
 
 mod arrays;
+mod borrowing;
 mod by_name;
 mod copying;
 mod covering;
@@ -14,7 +15,6 @@ mod files;
 mod flags;
 mod heads;
 mod laws;
-mod lending;
 mod literals;
 mod member_code;
 mod members;
@@ -26,6 +26,7 @@ mod program;
 mod text;
 
 pub use arrays::{is_array, push_described};
+pub use borrowing::{TypeRef, borrow, own};
 pub use by_name::{ByName, note, noted};
 pub use copying::{copy_classes, copy_insn, copy_keys};
 pub use exception_table::{Handlers, NearHandlers};
@@ -33,11 +34,10 @@ pub use files::unlink;
 pub use flags::{is_abstract, is_interface, is_native, is_public, is_static, is_synchronized};
 pub use heads::head_of;
 pub use laws::uses_are_shaped;
-pub use lending::{TypeRef, lend, own};
 pub use literals::Literals;
 pub use member_code::{code_of, has_its_code};
 pub use members::{Found, MemberKind};
-pub use nested::{behind_first, list_at};
+pub use nested::{after_first, list_at};
 pub use operand::{Use, index_of, use_of};
 pub use origin::Origin;
 pub use places::{class_places, placed_class};

@@ -2,7 +2,7 @@
 
 ghost use Rattle.std.specs.Prelude.{◌≡◌, ◌≤◌, IfOk, OnOk, length, option_copied};
 ghost use Rattle.std.specs.List.{AllByRecursion, fold, flat_map, filter_map};
-ghost use Rattle.class_codec.specs.Fits.{CanSpell};
+ghost use Rattle.class_codec.specs.Fits.{IsEncodable};
 ghost use Rattle.bytecode_model.specs.Places.{NamesPlaced};
 ghost use Rattle.bytecode_model.specs.Operands.{literals_of, strings_in, place_of, text_of_string};
 ghost use Rattle.bytecode_model.specs.SearchOrder.{with_name};
@@ -37,7 +37,7 @@ impl Literals {
     #[tactic(auto, using(crate::proofs::Texts::literals_few))]
     pub fn new(alloc: Global, files: &[ClassFile]) -> Result<Literals, NoMemory>
         requires count { length files.now ≤ 1001 }
-        requires fits { AllByRecursion CanSpell files.now }
+        requires fits { AllByRecursion IsEncodable files.now }
         ensures { IfOk result (λ literals. literals ≡ literals_of files.now) }
     {
         let mut texts = List::new(alloc);

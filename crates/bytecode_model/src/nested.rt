@@ -15,8 +15,8 @@ pub fn list_at<T>(lists: &[List<T>], index: usize) -> &[T]
     list.as_slice()
 }
 
-/// The lists behind the first.
-pub fn behind_first<T>(lists: &[List<T>]) -> &[List<T>]
+/// The lists after the first.
+pub fn after_first<T>(lists: &[List<T>]) -> &[List<T>]
     ensures { result.now ≡ drop 1 lists.now }
 {
     match lists {

@@ -14,7 +14,7 @@ pub enum Side {
     Inlined,
 }
 
-/// An entry of an exception table, by indices of instructions: the first that is covered, the first behind those
+/// An entry of an exception table, by indices of instructions: the first that is covered, the first after those
 /// that are, and the handler. `class` is what is caught, or `None` for anything.
 #[derive(Drop)]
 pub struct Handler {

@@ -47,7 +47,7 @@ nowhere_in : {A : Type 0} (f : ℕ → Option A) (at n : ℕ) → ((i : ℕ) →
 nowhere_in f at zero none = refl
 nowhere_in f at (suc n) none = rw (none at) (nowhere_in f (at + 1) n none)
 
--- one place, and those behind it
+-- one place, and those after it
 pub step_from : {A : Type 0} (f : ℕ → Option A) (at left : ℕ) → 0 < left → first_from f at left ≡ or_else (placed at (f at)) (first_from f (at + 1) (left - 1))
 step_from f at zero some = absurd (omega (arith, some))
 step_from f at (suc n) some = let rest : suc n - 1 ≡ n = omega arith in rw rest refl
@@ -58,12 +58,12 @@ step_from f at (suc n) some = let rest : suc n - 1 ≡ n = omega arith in rw res
 abbrev told_in : {A : Type 0} → List Method → List (List A) → ℕ → List A
 told_in methods told method = list_at told (length (coded (take method methods)))
 
-behind_is : {A : Type 0} (told : List (List A)) (k : ℕ) → list_at told (suc k) ≡ list_at (drop 1 told) k
-behind_is [] k = refl
-behind_is (f ∷ told) k = refl
+after_is : {A : Type 0} (told : List (List A)) (k : ℕ) → list_at told (suc k) ≡ list_at (drop 1 told) k
+after_is [] k = refl
+after_is (f ∷ told) k = refl
 
-told_behind : {A : Type 0} (m : Method) (ms : List Method) (told : List (List A)) (n : ℕ) → has_code m ≡ true → told_in (m ∷ ms) told (suc n) ≡ told_in ms (drop 1 told) n
-told_behind m ms told n e = rw e (behind_is told (length (coded (take n ms))))
+told_after : {A : Type 0} (m : Method) (ms : List Method) (told : List (List A)) (n : ℕ) → has_code m ≡ true → told_in (m ∷ ms) told (suc n) ≡ told_in ms (drop 1 told) n
+told_after m ms told n e = rw e (after_is told (length (coded (take n ms))))
 
 told_same : {A : Type 0} (m : Method) (ms : List Method) (told : List (List A)) (n : ℕ) → has_code m ≡ false → told_in (m ∷ ms) told (suc n) ≡ told_in ms told n
 told_same m ms told n e = rw e refl
@@ -93,7 +93,7 @@ module _ (rules : Rules) where
       (placed_none at (in_method rules (list_at frames 0) (list_at notes 0) m) both.0)
   free_first at m ms frames notes true has later none (suc number) n e coded =
       let both = or_else_none (placed at (in_method rules (list_at frames 0) (list_at notes 0) m)) (in_methods rules (at + 1) ms (drop 1 frames) (drop 1 notes)) none in
-      rw (told_behind m ms frames number has, told_behind m ms notes number has) (later (drop 1 frames) (drop 1 notes) both.1 number n e coded)
+      rw (told_after m ms frames number has, told_after m ms notes number has) (later (drop 1 frames) (drop 1 notes) both.1 number n e coded)
   free_first at m ms frames notes false has later none zero n e coded =
       let same : m ≡ n = cc in
       let codeless : has_code n ≡ false = subst (λ (x : Method). has_code x ≡ false) same has in
@@ -113,8 +113,8 @@ module _ (rules : Rules) where
   none_first at m ms frames notes true has later free =
       let first : in_method rules (list_at frames 0) (list_at notes 0) m ≡ None = free 0 m refl has in
       rw first (later (drop 1 frames) (drop 1 notes) (λ number n e coded.
-      subst (λ (t : List Note). in_method rules (told_in ms (drop 1 frames) number) t n ≡ None) (told_behind m ms notes number has)
-      (subst (λ (f : List (Option FrameType)). in_method rules f (told_in (m ∷ ms) notes (suc number)) n ≡ None) (told_behind m ms frames number has) (free (suc number) n e coded))))
+      subst (λ (t : List Note). in_method rules (told_in ms (drop 1 frames) number) t n ≡ None) (told_after m ms notes number has)
+      (subst (λ (f : List (Option FrameType)). in_method rules f (told_in (m ∷ ms) notes (suc number)) n ≡ None) (told_after m ms frames number has) (free (suc number) n e coded))))
   none_first at m ms frames notes false has later free =
       later frames notes (λ number n e coded.
       subst (λ (t : List Note). in_method rules (told_in ms frames number) t n ≡ None) (told_same m ms notes number has)
@@ -136,7 +136,7 @@ module _ (rules : Rules) where
       (placed_none at (in_methods rules 0 d.methods (list_at frames 0) (list_at notes 0)) both.0)
   free_classes at (d ∷ cs) frames notes none (suc class) c e =
       let both = or_else_none (placed at (in_methods rules 0 d.methods (list_at frames 0) (list_at notes 0))) (in_classes rules (at + 1) cs (drop 1 frames) (drop 1 notes)) none in
-      rw (behind_is frames class, behind_is notes class) (free_classes (at + 1) cs (drop 1 frames) (drop 1 notes) both.1 class c e)
+      rw (after_is frames class, after_is notes class) (free_classes (at + 1) cs (drop 1 frames) (drop 1 notes) both.1 class c e)
 
   none_classes : (at : ℕ) (cs : List LinkedClass) (frames : List (List (List (Option FrameType)))) (notes : List (List (List Note)))
       → ((class : ℕ) (c : LinkedClass) → slice_get cs class ≡ Some c → in_methods rules 0 c.methods (list_at frames class) (list_at notes class) ≡ None)
@@ -145,8 +145,8 @@ module _ (rules : Rules) where
   none_classes at (d ∷ cs) frames notes free =
       let first : in_methods rules 0 d.methods (list_at frames 0) (list_at notes 0) ≡ None = free 0 d refl in
       rw first (none_classes (at + 1) cs (drop 1 frames) (drop 1 notes) (λ class c e.
-      subst (λ (t : List (List Note)). in_methods rules 0 c.methods (list_at (drop 1 frames) class) t ≡ None) (behind_is notes class)
-      (subst (λ (f : List (List (Option FrameType))). in_methods rules 0 c.methods f (list_at notes (suc class)) ≡ None) (behind_is frames class) (free (suc class) c e))))
+      subst (λ (t : List (List Note)). in_methods rules 0 c.methods (list_at (drop 1 frames) class) t ≡ None) (after_is notes class)
+      (subst (λ (f : List (List (Option FrameType))). in_methods rules 0 c.methods f (list_at notes (suc class)) ≡ None) (after_is frames class) (free (suc class) c e))))
 
   -- ---- instructions
 

@@ -10,7 +10,7 @@ use Rattle.bytecode_model.specs.declared.program.Method.{Method}
 use Rattle.bytecode_model.specs.declared.program.Program.{Program}
 use Rattle.bytecode_model.specs.declared.program.Target.{Target}
 use Rattle.bytecode_model.specs.Sound.{IsSound, IsSoundClass, IsSoundMethod, IsWithin}
-use Rattle.bytecode_model.specs.Standing.{AreLiterals}
+use Rattle.bytecode_model.specs.LinkedClasses.{AreLiterals}
 use Rattle.bytecode_model.specs.Targets.{AreNamed}
 use Rattle.bytecode_model.specs.Typed.{reached}
 use Rattle.cert_format.specs.declared.certificate.Certificate.{Certificate}
@@ -22,7 +22,7 @@ use Rattle.conspec_automaton.specs.Racing.{IsRaceFree}
 use Rattle.conspec_automaton.specs.Sound.{IsPolicy, NamesMethods}
 use Rattle.guest_model.specs.Numbers.{KeepsWords}
 use Rattle.guest_model.specs.Places.{method_at, insn_in}
-use Rattle.guest_model.specs.Standing.{HasInsns, IsClosed}
+use Rattle.guest_model.specs.ClosedPlaces.{HasInsns, IsClosed}
 use Rattle.block_logic.specs.Accepted.{IsAccepted}
 use Rattle.block_logic.specs.Annotations.{annotations_of, held_in}
 use Rattle.block_logic.specs.Formed.{RunsAreFormed}

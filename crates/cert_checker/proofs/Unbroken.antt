@@ -8,12 +8,12 @@ use Rattle.cert_format.specs.declared.note.Note.{Note}
 use Rattle.insn_codec.specs.Control.{jump_targets}
 use Rattle.insn_codec.specs.Opcodes.{goes_on}
 use Rattle.insn_codec.specs.Shapes.{shape_of}
-use Rattle.insn_codec.specs.Spelling.{opcode_of}
+use Rattle.insn_codec.specs.Encoding.{opcode_of}
 use Rattle.block_logic.specs.Notes.{Here, all_pass, first_broken, handlers_of, handlers_pass, is_free, is_held, is_stop, jump_of, meets}
 use Rattle.block_logic.specs.Notes.{next_pass, note_passes, past_of, rules_at, stops_well, thrown_of}
 use Rattle.block_logic.specs.Operands.{enters, leaves, writes_static}
 use Rattle.block_logic.specs.Rows.{Asked, Row, Rules}
-use Rattle.block_logic.specs.Standing.{is_open}
+use Rattle.block_logic.specs.Weakening.{is_open}
 use Rattle.cert_checker.specs.Testing.{goes_well}
 
 both : (a b : Bool) → (a && b) ≡ true → (a ≡ true) × (b ≡ true)

@@ -3,13 +3,13 @@ use Rattle.std.specs.Prelude.{◌+◌, ◌==◌, Bool, not, ◌&&◌, ◌||◌, 
 use Rattle.std.specs.List.{list_all}
 use Rattle.insn_codec.specs.Control.{jump_targets}
 use Rattle.insn_codec.specs.Opcodes.{goes_on}
-use Rattle.insn_codec.specs.Spelling.{opcode_of}
+use Rattle.insn_codec.specs.Encoding.{opcode_of}
 use Rattle.cert_format.specs.declared.note.Note.{Note}
 use Rattle.cert_checker.specs.declared.passing.Test.{Test}
 use Rattle.cert_checker.specs.declared.passing.Test.TheVariants.{Meets, StopsWell, Takes}
 use Rattle.block_logic.specs.Notes.{Here, all_pass, is_asked_taking, meets, note_passes, stops_well}
 use Rattle.block_logic.specs.Rows.{Asked, Row, Rules}
-use Rattle.block_logic.specs.Standing.{is_open}
+use Rattle.block_logic.specs.Weakening.{is_open}
 use Rattle.bytecode_model.specs.declared.program.Method.{Method}
 
 abbrev pub passes : Rules → Test → Asked → Note → Bool

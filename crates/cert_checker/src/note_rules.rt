@@ -3,7 +3,7 @@
 ghost use Rattle.std.specs.Prelude.{◌≡◌, ◌&&◌, ◌||◌, false, not, drop, if◌then◌else◌, is_some, option_copied, option_map, Some};
 ghost use Rattle.insn_codec.specs.Shapes.{shape_of};
 ghost use Rattle.cert_checker.specs.declared.passing.Test.TheVariants.{StopsWell};
-ghost use Rattle.block_logic.specs.Lent.{asked_lent, row_lent};
+ghost use Rattle.block_logic.specs.Borrowed.{asked_borrowed, row_borrowed};
 ghost use Rattle.block_logic.specs.Notes.{all_pass, calls_well, catches_all, catches_well, first_broken};
 ghost use Rattle.block_logic.specs.Notes.{is_duty_of, is_free, is_granted, is_held, is_owed_for_throw};
 ghost use Rattle.block_logic.specs.Notes.{is_stop, leaves_alone, names_method, note_fault, row_fault, rules_at, thrown_by};
@@ -71,7 +71,7 @@ fn table_fault(
     row: Option<&RowRef<'_>>,
 ) -> Option<u8>
     ensures { result
-        ≡ first_broken (drop 3 (rules_at rules.now told.now method.now note.now here.now (option_map row_lent (option_copied row.entry)))) }
+        ≡ first_broken (drop 3 (rules_at rules.now told.now method.now note.now here.now (option_map row_borrowed (option_copied row.entry)))) }
 {
     // Where what comes next is as the table has it, no rule from the fourth on is broken.
     if goes_as_asked(rules, told, method, note, here, row) {
@@ -89,9 +89,9 @@ fn rule_broken(
     note: &Note,
     row: Option<&RowRef<'_>>,
 ) -> u8
-    requires { goes_well rules.now told.now method.now note.now here.now (option_map row_lent (option_copied row)) ≡ false }
+    requires { goes_well rules.now told.now method.now note.now here.now (option_map row_borrowed (option_copied row)) ≡ false }
     ensures { Some result
-        ≡ first_broken (drop 3 (rules_at rules.now told.now method.now note.now here.now (option_map row_lent (option_copied row.entry)))) }
+        ≡ first_broken (drop 3 (rules_at rules.now told.now method.now note.now here.now (option_map row_borrowed (option_copied row.entry)))) }
 {
     let shape = here.shape;
     let has_row = row.is_some();
@@ -194,7 +194,7 @@ fn calls_well(rules: &Rules<'_>, note: &Note, here: &Here<'_>) -> bool
 
 /// What is asked where a granted call throws.
 fn thrown_by<'a>(rules: &Rules<'_>, note: &Note) -> AskedRef<'a>
-    ensures { asked_lent result ≡ thrown_by rules.now note.now }
+    ensures { asked_borrowed result ≡ thrown_by rules.now note.now }
 {
     match note {
         Note::Granted { site, .. } => due_asked(thrown(rules, *site)),
@@ -202,7 +202,7 @@ fn thrown_by<'a>(rules: &Rules<'_>, note: &Note) -> AskedRef<'a>
     }
 }
 
-/// Whether the handler takes any class, and behind it an update is due for the exception.
+/// Whether the handler takes any class, and after it an update is due for the exception.
 fn catches_all(rules: &Rules<'_>, told: &[Note], note: &Note, handler: &Handler) -> bool
     ensures { result ≡ catches_all rules.now told.now note.now handler.now }
 {
@@ -288,7 +288,7 @@ fn stops_as_asked(
     row: Option<&RowRef<'_>>,
 ) -> bool
     ensures { result ≡ (if is_stop note.now then is_some row.entry
-        else all_pass (passes rules.now StopsWell) told.now (option_map row_lent (option_copied row.entry)) method.now here.now) }
+        else all_pass (passes rules.now StopsWell) told.now (option_map row_borrowed (option_copied row.entry)) method.now here.now) }
 {
     if is_stop(note) {
         row.is_some()
@@ -306,7 +306,7 @@ fn goes_as_asked(
     here: &Here<'_>,
     row: Option<&RowRef<'_>>,
 ) -> bool
-    ensures { result ≡ goes_well rules.now told.now method.now note.now here.now (option_map row_lent (option_copied row.entry)) }
+    ensures { result ≡ goes_well rules.now told.now method.now note.now here.now (option_map row_borrowed (option_copied row.entry)) }
 {
     row.is_some()
         && all_pass(rules, Test::Meets, told, row, method, here)

@@ -10,7 +10,7 @@ ghost use Rattle.cert_checker.specs.Acceptance.{in_classes, in_method, in_method
 use crate::note_rules::note_fault;
 use crate::state::state_at;
 use block_logic::{HeldCalls, Rules};
-use bytecode_model::{LinkedClass, Method, Program, behind_first, list_at};
+use bytecode_model::{LinkedClass, Method, Program, after_first, list_at};
 use cert_format::{Certificate, FrameType, Note};
 use code_typing::count_coded;
 use conspec_automaton::Policy;
@@ -58,7 +58,7 @@ pub fn check_note(
     )
 }
 
-/// What the rules are told. Where the program has no class of the policy's variables, the number behind its classes
+/// What the rules are told. Where the program has no class of the policy's variables, the number after its classes
 /// names none.
 fn rules_of<'a>(program: &Program, policy: &'a Policy, certificate: &Certificate) -> Rules<'a>
     requires { IsSound program.now }
@@ -94,8 +94,8 @@ fn in_classes(
             return Some((at, found));
         }
         classes = later;
-        frames = behind_first(frames);
-        notes = behind_first(notes);
+        frames = after_first(frames);
+        notes = after_first(notes);
         at += 1;
     }
     None
@@ -120,8 +120,8 @@ fn in_methods(
             if let Some(found) = in_method(rules, list_at(frames, 0), list_at(notes, 0), method) {
                 return Some((at, found));
             }
-            frames = behind_first(frames);
-            notes = behind_first(notes);
+            frames = after_first(frames);
+            notes = after_first(notes);
         }
         methods = later;
         at += 1;

@@ -3,8 +3,8 @@
 ghost use Rattle.std.specs.Prelude.{◌≡◌, option_copied, option_map, Some};
 ghost use Rattle.std.specs.List.{list_all};
 ghost use Rattle.insn_codec.specs.Control.{jump_targets};
-ghost use Rattle.block_logic.specs.declared.lent.RowRef.TheVariants.{Tests};
-ghost use Rattle.block_logic.specs.Lent.{asked_lent, row_lent};
+ghost use Rattle.block_logic.specs.declared.borrowed.RowRef.TheVariants.{Tests};
+ghost use Rattle.block_logic.specs.Borrowed.{asked_borrowed, row_borrowed};
 ghost use Rattle.block_logic.specs.Notes.{all_pass, first_handler, handlers_of, handlers_pass, is_stop};
 ghost use Rattle.block_logic.specs.Notes.{is_taking, meets, next_pass, note_passes, thrown_of};
 ghost use Rattle.cert_checker.specs.Testing.{go_on_pass, passes};
@@ -30,7 +30,7 @@ pub enum Test {
 
 /// Whether a note is as it is asked to be.
 pub fn meets(rules: &Rules<'_>, asked: &AskedRef<'_>, note: &Note) -> bool
-    ensures { result ≡ meets rules.now (asked_lent asked.now) note.now }
+    ensures { result ≡ meets rules.now (asked_borrowed asked.now) note.now }
 {
     match asked {
         AskedRef::Open => is_open(rules, note),
@@ -42,7 +42,7 @@ pub fn meets(rules: &Rules<'_>, asked: &AskedRef<'_>, note: &Note) -> bool
 
 /// Whether a note passes a test of what is asked of it.
 fn passes(rules: &Rules<'_>, test: Test, asked: &AskedRef<'_>, note: &Note) -> bool
-    ensures { result ≡ passes rules.now test (asked_lent asked.now) note.now }
+    ensures { result ≡ passes rules.now test (asked_borrowed asked.now) note.now }
 {
     match test {
         Test::Meets => meets(rules, asked, note),
@@ -72,7 +72,7 @@ fn note_passes(
     asked: &AskedRef<'_>,
     at: usize,
 ) -> bool
-    ensures { result ≡ note_passes (passes rules.now test) told.now (asked_lent asked.now) at }
+    ensures { result ≡ note_passes (passes rules.now test) told.now (asked_borrowed asked.now) at }
 {
     match told.get(at) {
         Some(note) => passes(rules, test, asked, note),
@@ -90,7 +90,7 @@ pub fn next_pass(
     row: Option<&RowRef<'_>>,
     here: &Here<'_>,
 ) -> bool
-    ensures { result ≡ next_pass (passes rules.now test) told.now (option_map row_lent (option_copied row.entry)) here.now }
+    ensures { result ≡ next_pass (passes rules.now test) told.now (option_map row_borrowed (option_copied row.entry)) here.now }
 {
     match row {
         Some(RowRef::Leads(asked)) => go_on_pass(rules, test, told, asked, asked, here),
@@ -110,7 +110,7 @@ pub fn next_pass(
     }
 }
 
-/// Whether they pass behind a test of the next atom, which holds where it jumps, or else where it does not.
+/// Whether they pass after a test of the next atom, which holds where it jumps, or else where it does not.
 fn tests_pass(
     rules: &Rules<'_>,
     test: Test,
@@ -119,7 +119,7 @@ fn tests_pass(
     jumps: bool,
     here: &Here<'_>,
 ) -> bool
-    ensures { result ≡ next_pass (passes rules.now test) told.now (Some (row_lent (Tests check.entry jumps))) here.now }
+    ensures { result ≡ next_pass (passes rules.now test) told.now (Some (row_borrowed (Tests check.entry jumps))) here.now }
 {
     let holds = AskedRef::Given(holding_on(check));
     let fails = AskedRef::Given(failing(check));
@@ -139,7 +139,7 @@ fn go_on_pass<'a>(
     jump: &AskedRef<'a>,
     here: &Here<'_>,
 ) -> bool
-    ensures { result ≡ go_on_pass (passes rules.now test) told.now (asked_lent past.now) (asked_lent jump.now) here.now }
+    ensures { result ≡ go_on_pass (passes rules.now test) told.now (asked_borrowed past.now) (asked_borrowed jump.now) here.now }
 {
     let next = here.at as usize + 1;
     (!goes_on(here.insn.opcode()) || note_passes(rules, test, told, past, next))
@@ -154,7 +154,7 @@ fn jumps_pass(
     asked: &AskedRef<'_>,
     insn: &Insn,
 ) -> bool
-    ensures { result ≡ list_all (note_passes (passes rules.now test) told.now (asked_lent asked.now)) (jump_targets insn.now) }
+    ensures { result ≡ list_all (note_passes (passes rules.now test) told.now (asked_borrowed asked.now)) (jump_targets insn.now) }
 {
     match insn {
         Insn::Branch { to, .. } => note_passes(rules, test, told, asked, *to as usize),
@@ -178,7 +178,7 @@ fn notes_pass(
     asked: &AskedRef<'_>,
     places: &[u32],
 ) -> bool
-    ensures { result ≡ list_all (note_passes (passes rules.now test) told.now (asked_lent asked.now)) places.now }
+    ensures { result ≡ list_all (note_passes (passes rules.now test) told.now (asked_borrowed asked.now)) places.now }
 {
     places
         .iter()
@@ -189,7 +189,7 @@ fn notes_pass(
 
 /// What is asked of the handlers that may take what is thrown.
 fn asked_of_handlers<'a>(row: Option<&RowRef<'a>>) -> AskedRef<'a>
-    ensures { asked_lent result ≡ thrown_of (option_map row_lent (option_copied row.entry)) }
+    ensures { asked_borrowed result ≡ thrown_of (option_map row_borrowed (option_copied row.entry)) }
 {
     match row {
         Some(RowRef::Leads(_)) => AskedRef::Open,
@@ -208,7 +208,7 @@ fn handlers_pass(
     method: &Method,
     here: &Here<'_>,
 ) -> bool
-    ensures { result ≡ handlers_pass (passes rules.now test) told.now (option_map row_lent (option_copied row.entry)) method.now here.now }
+    ensures { result ≡ handlers_pass (passes rules.now test) told.now (option_map row_borrowed (option_copied row.entry)) method.now here.now }
 {
     let asked = asked_of_handlers(row);
     covering_pass(rules, test, told, &asked, here.at, &method.handlers)
@@ -223,7 +223,7 @@ fn covering_pass(
     at: u32,
     handlers: &Handlers,
 ) -> bool
-    ensures { result ≡ list_all (note_passes (passes rules.now test) told.now (asked_lent asked.now)) (handlers_of at handlers.now) }
+    ensures { result ≡ list_all (note_passes (passes rules.now test) told.now (asked_borrowed asked.now)) (handlers_of at handlers.now) }
 {
     let mut near = handlers.near(at);
     while let Some(handler) = near.next() {
@@ -261,7 +261,7 @@ pub fn all_pass(
     method: &Method,
     here: &Here<'_>,
 ) -> bool
-    ensures { result ≡ all_pass (passes rules.now test) told.now (option_map row_lent (option_copied row.entry)) method.now here.now }
+    ensures { result ≡ all_pass (passes rules.now test) told.now (option_map row_borrowed (option_copied row.entry)) method.now here.now }
 {
     next_pass(rules, test, told, row, here) && handlers_pass(rules, test, told, row, method, here)
 }

@@ -1,11 +1,11 @@
--- Certificates are read exactly as they are spelled.
+-- Certificates are read exactly as they are encoded.
 use Rattle.std.proofs.Common.{◌≡◌, ℕ, zero, suc, ◌+◌, ◌<◌, Bool, true, false, not, eqb, List, [], ◌∷◌, ◌++◌, length, get_or, Option, Result, Ok, Err, refl, sym, ap, subst, ◌∙◌, append_assoc, IfOk, arith}
 use Rattle.std.specs.Prelude.{◌==◌}
 use Rattle.std.specs.List.{flat_map, AllByRecursion}
 use Rattle.std.proofs.lemmas.Bool.{eqb-true, eq-eqb, ltb-true, ltb-false}
 use Rattle.std.proofs.lemmas.List.{append-nil, length-append}
 use Rattle.mon_base.specs.Reading.{Place, IsBytes, ◌>>=◌, need}
-use Rattle.mon_base.proofs.Reading.{bind_ok, need_ok, need_holds, ok_is, after, Took, Took-then, IsTail, IsReader, then, then_same, said, last, bytes_is, spelled, whole_takes, whole_again}
+use Rattle.mon_base.proofs.Reading.{bind_ok, need_ok, need_holds, ok_is, after, Took, Took-then, IsTail, IsReader, then, then_same, said, last, bytes_is, encoded, whole_takes, whole_again}
 use Rattle.mon_base.proofs.Readers.{checked}
 use Rattle.cert_format.specs.declared.fault.CertForm.{CertForm}
 use Rattle.cert_format.specs.declared.typing.FrameType.{FrameType}
@@ -16,9 +16,9 @@ use Rattle.cert_format.specs.declared.certificate.Certificate.{Certificate}
 use Rattle.cert_format.specs.Names.{Name, name_index, StandOnce, class_names, typing_names, names_of}
 use Rattle.cert_format.specs.Index.{stands}
 use Rattle.mon_base.specs.Widths.{u1, u4}
-use Rattle.cert_format.specs.Spelling.{spell_name, spell_names, spell_mode, spell_head, spell_classes, spell_certificate}
+use Rattle.cert_format.specs.Encoding.{encode_name, encode_names, encode_mode, encode_head, encode_classes, encode_certificate}
 use Rattle.mon_base.specs.Widths.{IsU2, IsU4}
-use Rattle.cert_format.specs.Fits.{FitNames, FitClasses, CanSpell, SpellsCertificate}
+use Rattle.cert_format.specs.Fits.{FitNames, FitClasses, IsEncodable, EncodesCertificate}
 use Rattle.mon_base.specs.Answer.{Answers}
 use Rattle.cert_format.specs.declared.fault.CertForm.TheVariants.{Form, Memory}
 use Rattle.cert_format.specs.Reading.{u1_at, u4_at, taken_at, mode_of, head_at, told_name, more_names_at, names_at, classes_at, body_at, certificate_at, certificate_of}
@@ -50,15 +50,15 @@ mode_codes = record {
   small modes.Hold = omega arith
   small modes.Release = omega arith
 
-mode_spelled : (x : Mode) → u1 (mode_code x) ≡ spell_mode x
+mode_encoded : (x : Mode) → u1 (mode_code x) ≡ encode_mode x
 unfolding mode_code
-mode_spelled modes.Hold = refl
-mode_spelled modes.Release = refl
+mode_encoded modes.Hold = refl
+mode_encoded modes.Release = refl
 
-mode_is : IsReader (λ p. u1_at p >>= λ n. mode_of p.at n.0 >>= λ x. Ok (x, n.1)) spell_mode (λ x. Unit {0})
-mode_is = spelled (coded mode_of mode_code mode_codes) (λ x k. mode_spelled x)
+mode_is : IsReader (λ p. u1_at p >>= λ n. mode_of p.at n.0 >>= λ x. Ok (x, n.1)) encode_mode (λ x. Unit {0})
+mode_is = encoded (coded mode_of mode_code mode_codes) (λ x k. mode_encoded x)
 
-head_is : IsReader head_at spell_head (λ m. Unit {0})
+head_is : IsReader head_at encode_head (λ m. Unit {0})
 unfolding head_at
 head_is = then_same (λ p x. Form p.at) u4_is 0x43535043 (omega arith) (then_same (λ p x. Form p.at) u2_is 1 (omega arith) mode_is)
 
@@ -75,7 +75,7 @@ taken_is n = bytes_is n (λ p. Form p.at)
 abbrev FitsName : Name → Type 0
 FitsName name = IsU2 (length name)
 
-name_is : (before : List Name) → IsReader (told_name before) spell_name (λ name. FitsName name × (stands before name ≡ false))
+name_is : (before : List Name) → IsReader (told_name before) encode_name (λ name. FitsName name × (stands before name ≡ false))
 unfolding told_name
 name_is before = said (then {Fits = λ name. Unit {0} × (stands before name ≡ false)} {known = λ _. Unit {0}} _ u2_is length (λ name k. tt)
     (λ n k. checked (λ name. stands before name ≡ false) (λ p name. need (not (stands before name)) (Form p.at)) (last (taken_is n))
@@ -88,7 +88,7 @@ name_is before = said (then {Fits = λ name. Unit {0} × (stands before name ≡
 record More (before : List Name) (n : ℕ) (place : Place) (all : List Name) (next : Place) : Type 0 where
   names : List Name
   parts : all ≡ before ++ names
-  took : Took place (flat_map spell_name names) next
+  took : Took place (flat_map encode_name names) next
   fits : AllByRecursion FitsName names
   once : StandOnce all
   count : length names ≡ n
@@ -114,7 +114,7 @@ more_takes (suc n) before place all next fits once e =
     record {
       names = x ∷ later.names;
       parts = later.parts ∙ append_assoc before (x ∷ []) later.names;
-      took = Took-then place (spell_name x) b.0.1 (flat_map spell_name later.names) next t.0 later.took;
+      took = Took-then place (encode_name x) b.0.1 (flat_map encode_name later.names) next t.0 later.took;
       fits = (t.1.0, later.fits);
       once = later.once;
       count = ap suc later.count;
@@ -137,22 +137,22 @@ is_new before x others once = by (stands before x) refl where
       absurd (omega (arith, here, same, lt))
 
 more_again : (names before : List Name) (place : Place) (rest : List ℕ) → AllByRecursion FitsName names → StandOnce (before ++ names)
-    → place.rest ≡ flat_map spell_name names ++ rest
-    → more_names_at (length names) before place ≡ Ok (before ++ names, after place (flat_map spell_name names) rest)
+    → place.rest ≡ flat_map encode_name names ++ rest
+    → more_names_at (length names) before place ≡ Ok (before ++ names, after place (flat_map encode_name names) rest)
 unfolding more_names_at
 more_again [] before place rest fits once e =
     let n : place.at + 0 ≡ place.at = omega arith in
     rw (n, append-nil before, ← e) refl
 more_again (x ∷ names) before place rest fits once e =
-    let s = spell_name x in
-    let t = flat_map spell_name names in
+    let s = encode_name x in
+    let t = flat_map encode_name names in
     let mid = after place s (t ++ rest) in
     let first = (name_is before).again place x (t ++ rest) (fits.0, is_new before x names once) tt (e ∙ append_assoc s t rest) in
     let second = more_again names (before ++ x ∷ []) mid rest fits.1 (subst StandOnce (sym (append_assoc before (x ∷ []) names)) once) refl in
     let far : place.at + length s + length t ≡ place.at + length (s ++ t) = omega (arith, length-append s t) in
     rw (first, second, append_assoc before (x ∷ []) names, far) refl
 
-names_is : IsReader names_at spell_names (λ names. FitNames names × StandOnce names)
+names_is : IsReader names_at encode_names (λ names. FitNames names × StandOnce names)
 unfolding names_at
 names_is = record {
   takes = λ place names next fits e.
@@ -160,13 +160,13 @@ names_is = record {
       let t = u4_is.takes place c.0.0 c.0.1 fits c.1 in
       let m = more_takes c.0.0 [] c.0.1 names next t.0.fits once-none c.2 in
       let len : length names ≡ c.0.0 = ap length m.parts ∙ m.count in (
-        subst (λ (k : ℕ). Took place (u4 k ++ flat_map spell_name names) next) (sym len) (Took-then place (u4 c.0.0) c.0.1 (flat_map spell_name names) next t.0 (subst (λ (ns : List Name). Took c.0.1 (flat_map spell_name ns) next) (sym m.parts) m.took)),
+        subst (λ (k : ℕ). Took place (u4 k ++ flat_map encode_name names) next) (sym len) (Took-then place (u4 c.0.0) c.0.1 (flat_map encode_name names) next t.0 (subst (λ (ns : List Name). Took c.0.1 (flat_map encode_name ns) next) (sym m.parts) m.took)),
         ((subst IsU4 (sym len) t.1, subst (AllByRecursion FitsName) (sym m.parts) m.fits), m.once),
         tt,
       );
   again = λ place names rest fits h e.
       let x = u4 (length names) in
-      let y = flat_map spell_name names in
+      let y = flat_map encode_name names in
       let first = u4_is.again place (length names) (y ++ rest) fits.0.0 tt (e ∙ append_assoc x y rest) in
       let second = more_again names [] (after place x (y ++ rest)) rest fits.0.1 fits.1 refl in
       let far : place.at + length x + length y ≡ place.at + length (x ++ y) = omega (arith, length-append x y) in
@@ -179,15 +179,15 @@ abbrev made : Mode → List (List (List (Option FrameType))) → List (List (Lis
 made mode frames all_notes = record { mode = mode; typing = record { frames = frames }; notes = all_notes }
 
 -- what stands after the names, with the table of names
-abbrev spell_body : List Name → Certificate → List ℕ
-spell_body names c = spell_classes names (c.typing.frames, c.notes)
+abbrev encode_body : List Name → Certificate → List ℕ
+encode_body names c = encode_classes names (c.typing.frames, c.notes)
 
 record FitsBody (vars : ℕ) (mode : Mode) (names : List Name) (c : Certificate) : Type 0 where
   classes : FitClasses vars (c.typing.frames, c.notes)
   mode_is : c.mode ≡ mode
   table : names_of c.typing ≡ names
 
-body_is : (vars : ℕ) (mode : Mode) (names : List Name) → StandOnce names → IsU4 (length names) → IsReader (body_at vars mode names) (spell_body names) (FitsBody vars mode names)
+body_is : (vars : ℕ) (mode : Mode) (names : List Name) → StandOnce names → IsU4 (length names) → IsReader (body_at vars mode names) (encode_body names) (FitsBody vars mode names)
 unfolding body_at
 body_is vars mode names once small = record {
   takes = λ place c next fits e.
@@ -197,7 +197,7 @@ body_is vars mode names once small = record {
       let all : k.0.0.1 ≡ length names = eqb-true _ _ g.0 in
       let order : InOrder names 0 (flat_map class_names k.0.0.0.0) (length names) = subst (λ (n : ℕ). InOrder names 0 (flat_map class_names k.0.0.0.0) n) all t.1.1 in
       let whole : Certificate × Place = (made mode k.0.0.0.0 k.0.0.0.1, k.0.1) in
-      subst (λ (y : Certificate × Place). Took place (spell_body names y.0) y.1 × FitsBody vars mode names y.0 × Unit {0}) (ok_is CertForm whole (c, next) g.1)
+      subst (λ (y : Certificate × Place). Took place (encode_body names y.0) y.1 × FitsBody vars mode names y.0 × Unit {0}) (ok_is CertForm whole (c, next) g.1)
       (t.0, record { classes = t.1.0; mode_is = refl; table = table_of names (flat_map class_names k.0.0.0.0) order }, tt);
   again = λ place c rest fits h e.
       let order = makes_order names (typing_names c.typing) 0 (omega arith) fits.table in
@@ -205,10 +205,10 @@ body_is vars mode names once small = record {
       rw (one, eq-eqb (length names) (length names) refl, ← fits.mode_is) refl;
 }
 
-abbrev spell_both : List Name → Certificate → List ℕ
-spell_both names c = spell_head c.mode ++ (spell_names names ++ spell_body names c)
+abbrev encode_both : List Name → Certificate → List ℕ
+encode_both names c = encode_head c.mode ++ (encode_names names ++ encode_body names c)
 
-certificate_is : (vars : ℕ) → IsReader (certificate_at vars) spell_certificate (CanSpell vars)
+certificate_is : (vars : ℕ) → IsReader (certificate_at vars) encode_certificate (IsEncodable vars)
 unfolding certificate_at
 certificate_is vars = record {
   takes = λ place c next fits e.
@@ -217,16 +217,16 @@ certificate_is vars = record {
       let t = head_is.takes place m.0.0 m.0.1 fits m.1 in
       let u = names_is.takes m.0.1 n.0.0 n.0.1 t.0.fits n.1 in
       let v = (body_is vars m.0.0 n.0.0 u.1.1 u.1.0.0).takes n.0.1 c next u.0.fits n.2 in
-      let text : spell_head m.0.0 ++ (spell_names n.0.0 ++ spell_body n.0.0 c) ≡ spell_certificate c = ap (λ (x : Mode). spell_head x ++ (spell_names n.0.0 ++ spell_body n.0.0 c)) (sym v.1.mode_is) ∙ ap (λ (ns : List Name). spell_both ns c) (sym v.1.table) in (
-        subst (λ (w : List ℕ). Took place w next) text (Took-then place (spell_head m.0.0) m.0.1 (spell_names n.0.0 ++ spell_body n.0.0 c) next t.0 (Took-then m.0.1 (spell_names n.0.0) n.0.1 (spell_body n.0.0 c) next u.0 v.0)),
+      let text : encode_head m.0.0 ++ (encode_names n.0.0 ++ encode_body n.0.0 c) ≡ encode_certificate c = ap (λ (x : Mode). encode_head x ++ (encode_names n.0.0 ++ encode_body n.0.0 c)) (sym v.1.mode_is) ∙ ap (λ (ns : List Name). encode_both ns c) (sym v.1.table) in (
+        subst (λ (w : List ℕ). Took place w next) text (Took-then place (encode_head m.0.0) m.0.1 (encode_names n.0.0 ++ encode_body n.0.0 c) next t.0 (Took-then m.0.1 (encode_names n.0.0) n.0.1 (encode_body n.0.0 c) next u.0 v.0)),
         record { names = subst FitNames (sym v.1.table) u.1.0; classes = v.1.classes },
         tt,
       );
   again = λ place c rest fits h e.
       let names = names_of c.typing in
-      let x = spell_head c.mode in
-      let y = spell_names names in
-      let z = spell_body names c in
+      let x = encode_head c.mode in
+      let y = encode_names names in
+      let z = encode_body names c in
       let once : StandOnce names = once-all (typing_names c.typing) [] once-none in
       let start : place.rest ≡ x ++ (y ++ (z ++ rest)) = e ∙ append_assoc x (y ++ z) rest ∙ ap (λ (w : List ℕ). x ++ w) (append_assoc y z rest) in
       let first = head_is.again place c.mode (y ++ (z ++ rest)) tt tt start in
@@ -239,22 +239,22 @@ certificate_is vars = record {
 -- ---- what the calls promise
 
 pub is_found : (vars : ℕ) (bytes : List ℕ) (r : Result Certificate CertForm) → IsBytes bytes → Answers Memory r (certificate_of vars bytes)
-    → IfOk r (λ c. SpellsCertificate bytes vars c)
+    → IfOk r (λ c. EncodesCertificate bytes vars c)
 unfolding certificate_of
 is_found vars bytes (Ok c) fits given =
     let t = whole_takes (certificate_is vars) (λ p. Form p.at) bytes c fits given in
     record { is = t.0; fits = t.1 }
 is_found vars bytes (Err e) fits given = tt
 
-spelled_is_read : (vars : ℕ) (bytes : List ℕ) (c : Certificate) → SpellsCertificate bytes vars c → certificate_of vars bytes ≡ Ok c
+encoded_is_read : (vars : ℕ) (bytes : List ℕ) (c : Certificate) → EncodesCertificate bytes vars c → certificate_of vars bytes ≡ Ok c
 unfolding certificate_of
-spelled_is_read vars bytes c h =
+encoded_is_read vars bytes c h =
     let t = whole_again (certificate_is vars) (λ p. Form p.at) c h.fits in
     rw h.is t
 
-pub is_only : (vars : ℕ) (bytes : List ℕ) (r : Result Certificate CertForm) (c : Certificate) → Answers Memory r (certificate_of vars bytes) → SpellsCertificate bytes vars c
+pub is_only : (vars : ℕ) (bytes : List ℕ) (r : Result Certificate CertForm) (c : Certificate) → Answers Memory r (certificate_of vars bytes) → EncodesCertificate bytes vars c
     → Answers Memory r (Ok c)
-is_only vars bytes r c given h = subst (λ (read : Result Certificate CertForm). Answers Memory r read) (spelled_is_read vars bytes c h) given
+is_only vars bytes r c given h = subst (λ (read : Result Certificate CertForm). Answers Memory r read) (encoded_is_read vars bytes c h) given
 
-pub same_certificate : (bytes : List ℕ) (vars : ℕ) (c d : Certificate) → SpellsCertificate bytes vars c → SpellsCertificate bytes vars d → c ≡ d
-same_certificate bytes vars c d h k = ok_is CertForm c d (sym (spelled_is_read vars bytes c h) ∙ spelled_is_read vars bytes d k)
+pub same_certificate : (bytes : List ℕ) (vars : ℕ) (c d : Certificate) → EncodesCertificate bytes vars c → EncodesCertificate bytes vars d → c ≡ d
+same_certificate bytes vars c d h k = ok_is CertForm c d (sym (encoded_is_read vars bytes c h) ∙ encoded_is_read vars bytes d k)

@@ -14,7 +14,7 @@ use Rattle.cert_format.specs.Names.{Name, name_index, with_name}
 use Rattle.cert_format.specs.declared.index.Known.{Known}
 use Rattle.cert_format.specs.Index.{found, stands, HasNames, HasPlaces, IsKnown, ArePlaced}
 use Rattle.mon_base.specs.Widths.{u4}
-use Rattle.cert_format.specs.Spelling.{spell_name, spell_names}
+use Rattle.cert_format.specs.Encoding.{encode_name, encode_names}
 
 -- where the name stands it is found no later
 pub place-le : (names : List Name) (i : ℕ) → i < length names → name_index names (get_or names i []) ≤ i
@@ -111,15 +111,15 @@ with-old names name e = rw e refl
 pub with-new : (names : List Name) (name : Name) → stands names name ≡ false → with_name names name ≡ names ++ name ∷ []
 with-new names name e = rw e refl
 
--- ---- names behind references
+-- ---- names after references
 
 pub length-now : (names : List (Bor Name)) → length (map (λ name. name.now) names) ≡ length names
 length-now [] = refl
 length-now (x ∷ names) = ap suc (length-now names)
 
-pub spelled-now : (spell : Name → List ℕ) (names : List (Bor Name)) → flat_map spell (map (λ name. name.now) names) ≡ flat_map (λ name. spell name.now) names
-spelled-now spell [] = refl
-spelled-now spell (x ∷ names) = ap (λ (t : List ℕ). spell x.now ++ t) (spelled-now spell names)
+pub encoded-now : (encode : Name → List ℕ) (names : List (Bor Name)) → flat_map encode (map (λ name. name.now) names) ≡ flat_map (λ name. encode name.now) names
+encoded-now encode [] = refl
+encoded-now encode (x ∷ names) = ap (λ (t : List ℕ). encode x.now ++ t) (encoded-now encode names)
 
 -- what the map of places answers
 pub is_new : (names : List Name) (name : Name) → found names name ≡ None → name_index names name ≡ length names
@@ -153,10 +153,10 @@ now-more (y ∷ names) x = ap (λ (t : List Name). y.now ∷ t) (now-more names 
 -- ---- tables that are written
 
 pub table_is : (out old : List ℕ) (names : List (Bor Name)) (i : ℕ) → length names ≤ i
-    → out ≡ old ++ (u4 (length names) ++ flat_map (λ name. spell_name name.now) (take i names))
-    → out ≡ old ++ spell_names (map (λ name. name.now) names)
+    → out ≡ old ++ (u4 (length names) ++ flat_map (λ name. encode_name name.now) (take i names))
+    → out ≡ old ++ encode_names (map (λ name. name.now) names)
 table_is out old names i le so_far =
-    rw (length-now names, spelled-now spell_name names) (so_far ∙ ap (λ (ns : List (Bor Name)). old ++ (u4 (length names) ++ flat_map (λ name. spell_name name.now) ns)) (take_all i names le))
+    rw (length-now names, encoded-now encode_name names) (so_far ∙ ap (λ (ns : List (Bor Name)). old ++ (u4 (length names) ++ flat_map (λ name. encode_name name.now) ns)) (take_all i names le))
 
 -- ---- names that are found sooner
 

@@ -1,4 +1,4 @@
--- Which certificates can be spelled, and with how many variables. (docs/CERTIFICATES.md)
+-- Which certificates can be encoded, and with how many variables. (docs/CERTIFICATES.md)
 use Rattle.std.specs.Prelude.{◌≡◌, ℕ, ◌-◌, Bool, true, false, List, length, slice_get, Option, Some, None, FitsSigned, ⊤}
 use Rattle.std.specs.List.{AllByRecursion, zip}
 use Rattle.std.specs.Int.{w32}
@@ -13,7 +13,7 @@ use Rattle.cert_format.specs.declared.note.Note.{Note}
 use Rattle.cert_format.specs.declared.note.Note.TheVariants as notes
 use Rattle.cert_format.specs.declared.certificate.Certificate.{Certificate}
 use Rattle.cert_format.specs.Names.{Name, names_of}
-use Rattle.cert_format.specs.Spelling.{spell_certificate}
+use Rattle.cert_format.specs.Encoding.{encode_certificate}
 
 -- ---- frame types
 
@@ -84,11 +84,11 @@ abbrev pub FitNames : List Name → Type 0
 FitNames names = IsU4 (length names) × AllByRecursion (λ name. IsU2 (length name)) names
 
 -- Some bytes, of whatever length, are those of the certificate for a policy of so many variables.
-pub record CanSpell (vars : ℕ) (c : Certificate) : Type 0 where
+pub record IsEncodable (vars : ℕ) (c : Certificate) : Type 0 where
   pub names : FitNames (names_of c.typing)
   pub classes : FitClasses vars (c.typing.frames, c.notes)
 
 -- The bytes are those of the certificate.
-pub record SpellsCertificate (bytes : List ℕ) (vars : ℕ) (c : Certificate) : Type 0 where
-  pub is : bytes ≡ spell_certificate c
-  pub fits : CanSpell vars c
+pub record EncodesCertificate (bytes : List ℕ) (vars : ℕ) (c : Certificate) : Type 0 where
+  pub is : bytes ≡ encode_certificate c
+  pub fits : IsEncodable vars c

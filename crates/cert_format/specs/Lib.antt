@@ -1,5 +1,5 @@
 pub mod Names
-pub mod Spelling
+pub mod Encoding
 pub mod Fits
 pub mod Index
 pub mod Writing

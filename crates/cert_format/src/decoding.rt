@@ -3,7 +3,7 @@
 ghost use Rattle.std.specs.Prelude.{◌≡◌, [], Ok, Err, IfOk};
 ghost use Rattle.cert_format.specs.declared.certificate.Certificate.{Certificate};
 ghost use Rattle.cert_format.specs.Fits as fits;
-ghost use Rattle.cert_format.specs.Fits.{SpellsCertificate};
+ghost use Rattle.cert_format.specs.Fits.{EncodesCertificate};
 ghost use Rattle.mon_base.specs.Answer.{Reads, ReadsAs, Answers};
 ghost use Rattle.cert_format.specs.Reading.{Uses, reference_at, type_of_kind, told_type, types_at, locals_at};
 ghost use Rattle.cert_format.specs.Reading.{frame_at, not_reached_at, reached_at, instruction_at, several_at, as_lists};
@@ -340,10 +340,10 @@ fn all(alloc: Global, bytes: &[u8], vars: u32) -> Result<Certificate, CertForm>
 ///
 /// `Form` tells where the first item begins that fits none.
 pub fn decode(alloc: Global, bytes: &[u8], vars: u32) -> Result<Certificate, CertForm>
-    // What is read is spelled so.
-    ensures found { IfOk result (λ c. SpellsCertificate bytes.now vars c) }
-    // What is spelled so is read, unless memory runs out.
-    ensures only { (c : Certificate) → SpellsCertificate bytes.now vars c → Answers CertForm.Memory result (Ok c) }
+    // What is read is encoded so.
+    ensures found { IfOk result (λ c. EncodesCertificate bytes.now vars c) }
+    // What is encoded so is read, unless memory runs out.
+    ensures only { (c : Certificate) → EncodesCertificate bytes.now vars c → Answers CertForm.Memory result (Ok c) }
     // Which fault it is: the first that reading meets.
     ensures exact { Answers CertForm.Memory result (certificate_of vars bytes.now) }
 {

@@ -4,9 +4,9 @@ ghost use Rattle.std.specs.Prelude.{◌≡◌, ◌≤◌, ◌<◌, ◌++◌, ℕ
 ghost use Rattle.std.specs.List.{flat_map, zip};
 ghost use Rattle.cert_format.specs.declared.certificate.Certificate.{Certificate};
 ghost use Rattle.cert_format.specs.Names.{with_names, type_names, frame_names, method_names, class_names};
-ghost use Rattle.cert_format.specs.Spelling.{spell_type, spell_types, spell_frame, spell_instruction, spell_method};
-ghost use Rattle.cert_format.specs.Spelling.{spell_class, spell_head, spell_certificate};
-ghost use Rattle.cert_format.specs.Fits.{CanSpell, SpellsCertificate};
+ghost use Rattle.cert_format.specs.Encoding.{encode_type, encode_types, encode_frame, encode_instruction, encode_method};
+ghost use Rattle.cert_format.specs.Encoding.{encode_class, encode_head, encode_certificate};
+ghost use Rattle.cert_format.specs.Fits.{IsEncodable, EncodesCertificate};
 ghost use Rattle.cert_format.specs.Writing.{IsTooLong};
 
 use crate::certificate::{Certificate, Mode};
@@ -87,7 +87,7 @@ impl Named for List<List<Option<FrameType>>> {
 
 /// Appends a type.
 fn put_type(out: &mut Bytes, index: &Index, held: &VType) -> Result<(), NoMemory>
-    ensures { OnOk result (out.new ≡ out.old ++ spell_type index.now held.now) }
+    ensures { OnOk result (out.new ≡ out.old ++ encode_type index.now held.now) }
 {
     match held {
         VType::Top => out.push(0),
@@ -107,7 +107,7 @@ fn put_type(out: &mut Bytes, index: &Index, held: &VType) -> Result<(), NoMemory
 
 /// Appends two bytes of count, and the types.
 fn put_types(out: &mut Bytes, index: &Index, types: &[VType]) -> Result<(), NoMemory>
-    ensures { OnOk result (out.new ≡ out.old ++ spell_types index.now types.now) }
+    ensures { OnOk result (out.new ≡ out.old ++ encode_types index.now types.now) }
 {
     put_u2(out, types.len())?;
     for held in types {
@@ -118,7 +118,7 @@ fn put_types(out: &mut Bytes, index: &Index, types: &[VType]) -> Result<(), NoMe
 
 /// Appends whether an instruction is reached, and its frame if so.
 fn put_frame(out: &mut Bytes, index: &Index, frame: &Option<FrameType>) -> Result<(), NoMemory>
-    ensures { OnOk result (out.new ≡ out.old ++ spell_frame index.now frame.now) }
+    ensures { OnOk result (out.new ≡ out.old ++ encode_frame index.now frame.now) }
 {
     match frame {
         None => out.push(0),
@@ -137,11 +137,11 @@ trait Paired {
     type Notes;
 
     /// Their bytes, with the table of names.
-    ghost spelled: { Items (Items ℕ) → Self × Self.Notes → Items ℕ };
+    ghost encoded: { Items (Items ℕ) → Self × Self.Notes → Items ℕ };
 
     /// Appends them.
     fn put(&self, notes: &Self::Notes, index: &Index, out: &mut Bytes) -> Result<(), NoMemory>
-        ensures { OnOk result (out.new ≡ out.old ++ spelled index.now (self.now, notes.now)) };
+        ensures { OnOk result (out.new ≡ out.old ++ encoded index.now (self.now, notes.now)) };
 }
 
 /// Appends each with its notes.
@@ -151,7 +151,7 @@ fn put_all<T: Paired>(
     frames: &[T],
     notes: &[T::Notes],
 ) -> Result<(), NoMemory>
-    ensures { OnOk result (out.new ≡ out.old ++ flat_map (T.spelled index.now) (zip frames.now notes.now)) }
+    ensures { OnOk result (out.new ≡ out.old ++ flat_map (T.encoded index.now) (zip frames.now notes.now)) }
 {
     for i in 0..frames.len().min(notes.len()) {
         frames[i].put(&notes[i], index, out)?;
@@ -162,7 +162,7 @@ fn put_all<T: Paired>(
 impl Paired for Option<FrameType> {
     type Notes = Note;
 
-    ghost spelled = { spell_instruction };
+    ghost encoded = { encode_instruction };
 
     fn put(&self, note: &Note, index: &Index, out: &mut Bytes) -> Result<(), NoMemory> {
         put_frame(out, index, self)?;
@@ -173,7 +173,7 @@ impl Paired for Option<FrameType> {
 impl Paired for List<Option<FrameType>> {
     type Notes = List<Note>;
 
-    ghost spelled = { spell_method };
+    ghost encoded = { encode_method };
 
     fn put(&self, notes: &List<Note>, index: &Index, out: &mut Bytes) -> Result<(), NoMemory> {
         put_u4(out, self.len())?;
@@ -184,7 +184,7 @@ impl Paired for List<Option<FrameType>> {
 impl Paired for List<List<Option<FrameType>>> {
     type Notes = List<List<Note>>;
 
-    ghost spelled = { spell_class };
+    ghost encoded = { encode_class };
 
     fn put(
         &self,
@@ -199,7 +199,7 @@ impl Paired for List<List<Option<FrameType>>> {
 
 /// Appends what each certificate begins with, and the mode.
 fn put_head(out: &mut Bytes, mode: Mode) -> Result<(), NoMemory>
-    ensures { OnOk result (out.new ≡ out.old ++ spell_head mode) }
+    ensures { OnOk result (out.new ≡ out.old ++ encode_head mode) }
 {
     put_u4(out, 0x4353_5043)?;
     put_u2(out, 1)?;
@@ -212,7 +212,7 @@ fn put_head(out: &mut Bytes, mode: Mode) -> Result<(), NoMemory>
 /// Appends the certificate, with its table of names.
 fn put_certificate(out: &mut Bytes, index: &Index, cert: &Certificate) -> Result<(), NoMemory>
     requires { index.now ≡ with_names [] (flat_map class_names cert.now.typing.frames) }
-    ensures { OnOk result (out.new ≡ out.old ++ spell_certificate cert.now) }
+    ensures { OnOk result (out.new ≡ out.old ++ encode_certificate cert.now) }
 {
     let frames = cert.typing.frames.as_slice();
     put_head(out, cert.mode)?;
@@ -223,7 +223,7 @@ fn put_certificate(out: &mut Bytes, index: &Index, cert: &Certificate) -> Result
 
 /// Appends the certificate.
 fn put_with_names(alloc: Global, out: &mut Bytes, cert: &Certificate) -> Result<(), NoMemory>
-    ensures { OnOk result (out.new ≡ out.old ++ spell_certificate cert.now) }
+    ensures { OnOk result (out.new ≡ out.old ++ encode_certificate cert.now) }
 {
     let mut index = Index::new(alloc)?;
     add_all(cert.typing.frames.as_slice(), &mut index)?;
@@ -232,7 +232,7 @@ fn put_with_names(alloc: Global, out: &mut Bytes, cert: &Certificate) -> Result<
 
 /// The bytes of the certificate, of whatever length.
 fn written(alloc: Global, cert: &Certificate) -> Result<Bytes, NoMemory>
-    ensures { IfOk result (λ bytes. bytes ≡ spell_certificate cert.now) }
+    ensures { IfOk result (λ bytes. bytes ≡ encode_certificate cert.now) }
 {
     let mut out = Bytes::new(alloc);
     put_with_names(alloc, &mut out, cert)?;
@@ -242,14 +242,14 @@ fn written(alloc: Global, cert: &Certificate) -> Result<Bytes, NoMemory>
 /// The bytes of the certificate.
 ///
 /// Where a count or a number of names is larger than its bytes can tell, its lowest bytes are written, and where there
-/// are more frames than notes or fewer, what has no partner is left out. Such a certificate has no spelling.
+/// are more frames than notes or fewer, what has no partner is left out. Such a certificate has no encoding.
 pub fn encode(alloc: Global, cert: &Certificate) -> Result<Bytes, CertLong>
     // The bytes are the certificate's, and there are no more of them than it may have.
-    ensures is { IfOk result (λ bytes. (bytes ≡ spell_certificate cert.now) × (length bytes ≤ 67108864)) }
-    // They spell the certificate, if it can be spelled.
-    ensures spells { (vars : ℕ) → CanSpell vars cert.now → IfOk result (λ bytes. SpellsCertificate bytes vars cert.now) }
+    ensures is { IfOk result (λ bytes. (bytes ≡ encode_certificate cert.now) × (length bytes ≤ 67108864)) }
+    // They encode the certificate, if it can be encoded.
+    ensures encodes { (vars : ℕ) → IsEncodable vars cert.now → IfOk result (λ bytes. EncodesCertificate bytes vars cert.now) }
     // It is refused for its length exactly where it has more bytes, unless memory runs out, and this is their number.
-    ensures too_long { IfErr result (λ fault. IsTooLong fault (length (spell_certificate cert.now))) }
+    ensures too_long { IfErr result (λ fault. IsTooLong fault (length (encode_certificate cert.now))) }
 {
     let bytes = written(alloc, cert)?;
     if bytes.len() > MAX_LEN {
@@ -261,7 +261,7 @@ pub fn encode(alloc: Global, cert: &Certificate) -> Result<Bytes, CertLong>
 }
 
 /// A text is of one certificate, and a certificate has one text. (Nothing to run: the clauses are laws.)
-pub fn one_spelling()
-    ensures certificate { (b : Items ℕ) (v : ℕ) (c d : Certificate) → SpellsCertificate b v c → SpellsCertificate b v d → c ≡ d }
-    ensures bytes { (a b : Items ℕ) (v : ℕ) (c : Certificate) → SpellsCertificate a v c → SpellsCertificate b v c → a ≡ b }
+pub fn one_encoding()
+    ensures certificate { (b : Items ℕ) (v : ℕ) (c d : Certificate) → EncodesCertificate b v c → EncodesCertificate b v d → c ≡ d }
+    ensures bytes { (a b : Items ℕ) (v : ℕ) (c : Certificate) → EncodesCertificate a v c → EncodesCertificate b v c → a ≡ b }
 {}

@@ -3,7 +3,7 @@
 ghost use Rattle.std.specs.Prelude.{◌≡◌, List as Items, [], ◌∷◌, ◌++◌, map, Some, None, IfOk, IfSome, OnOk};
 ghost use Rattle.cert_format.specs.Names.{Name, name_index, with_name};
 ghost use Rattle.cert_format.specs.Index.{found, ArePlaced};
-ghost use Rattle.cert_format.specs.Spelling.{spell_names};
+ghost use Rattle.cert_format.specs.Encoding.{encode_names};
 
 use crate::writing::{put_u2, put_u4};
 use mon_base::{Bytes, List, NoMemory};
@@ -149,7 +149,7 @@ impl<'a> Index<'a> {
 
     /// Appends the names: four bytes of count, and each with its length before it.
     pub fn put_names(&self, out: &mut Bytes) -> Result<(), NoMemory>
-        ensures { OnOk result (out.new ≡ out.old ++ spell_names self.now) }
+        ensures { OnOk result (out.new ≡ out.old ++ encode_names self.now) }
     {
         put_table(self.names.as_slice(), out)
     }
@@ -157,7 +157,7 @@ impl<'a> Index<'a> {
 
 /// Appends the names: four bytes of count, and each with its length before it.
 fn put_table(names: &[&[u8]], out: &mut Bytes) -> Result<(), NoMemory>
-    ensures { OnOk result (out.new ≡ out.old ++ spell_names (map (λ name. name.now) names.now)) }
+    ensures { OnOk result (out.new ≡ out.old ++ encode_names (map (λ name. name.now) names.now)) }
 {
     put_u4(out, names.len())?;
     for name in names {

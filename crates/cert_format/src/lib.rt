@@ -1,4 +1,4 @@
-//! Certificates: what a checker is told of each instruction of a woven program, and their one spelling in bytes.
+//! Certificates: what a checker is told of each instruction of a woven program, and their one encoding in bytes.
 //!
 //! A certificate has the frame type before each instruction that is reached, and its note: what the thread that
 //! stands there has done of a block. There is one certificate for a text and one text for a certificate.
@@ -23,7 +23,7 @@ mod writing;
 
 pub use certificate::{Certificate, Mode};
 pub use decoding::decode;
-pub use encoding::{MAX_LEN, encode, one_spelling};
+pub use encoding::{MAX_LEN, encode, one_encoding};
 pub use fault::{CertForm, CertLong};
 pub use name::Name;
 pub use note::{Note, Phase8, Site, Term};

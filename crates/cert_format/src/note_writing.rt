@@ -3,7 +3,7 @@
 ghost use Rattle.std.specs.Prelude.{◌≡◌, ◌++◌, OnOk};
 ghost use Rattle.std.specs.List.{flat_map};
 ghost use Rattle.mon_base.specs.Widths.{u1};
-ghost use Rattle.cert_format.specs.Spelling.{spell_term, spell_terms, spell_phase, spell_site, spell_note};
+ghost use Rattle.cert_format.specs.Encoding.{encode_term, encode_terms, encode_phase, encode_site, encode_note};
 
 use crate::note::{Note, Phase8, Site, Term};
 use crate::writing::{flag, put_i4, put_u1, put_u2};
@@ -11,7 +11,7 @@ use mon_base::{Bytes, NoMemory};
 
 /// Appends a term.
 fn put_term(out: &mut Bytes, term: &Term) -> Result<(), NoMemory>
-    ensures { OnOk result (out.new ≡ out.old ++ spell_term term.now) }
+    ensures { OnOk result (out.new ≡ out.old ++ encode_term term.now) }
 {
     match term {
         Term::Const(n) => {
@@ -31,7 +31,7 @@ fn put_term(out: &mut Bytes, term: &Term) -> Result<(), NoMemory>
 
 /// Appends the terms, without a count.
 fn put_map(out: &mut Bytes, terms: &[Term]) -> Result<(), NoMemory>
-    ensures { OnOk result (out.new ≡ out.old ++ flat_map spell_term terms.now) }
+    ensures { OnOk result (out.new ≡ out.old ++ flat_map encode_term terms.now) }
 {
     for term in terms {
         put_term(out, term)?;
@@ -41,7 +41,7 @@ fn put_map(out: &mut Bytes, terms: &[Term]) -> Result<(), NoMemory>
 
 /// Appends one byte of count, and the terms.
 fn put_terms(out: &mut Bytes, terms: &[Term]) -> Result<(), NoMemory>
-    ensures { OnOk result (out.new ≡ out.old ++ spell_terms terms.now) }
+    ensures { OnOk result (out.new ≡ out.old ++ encode_terms terms.now) }
 {
     put_u1(out, terms.len())?;
     put_map(out, terms)
@@ -49,7 +49,7 @@ fn put_terms(out: &mut Bytes, terms: &[Term]) -> Result<(), NoMemory>
 
 /// Appends a phase.
 fn put_phase(out: &mut Bytes, phase: Phase8) -> Result<(), NoMemory>
-    ensures { OnOk result (out.new ≡ out.old ++ spell_phase phase) }
+    ensures { OnOk result (out.new ≡ out.old ++ encode_phase phase) }
 {
     let number = match phase {
         Phase8::Before => 0,
@@ -61,7 +61,7 @@ fn put_phase(out: &mut Bytes, phase: Phase8) -> Result<(), NoMemory>
 
 /// Appends the kind of a note and its site.
 fn put_site(out: &mut Bytes, kind: u8, site: &Site) -> Result<(), NoMemory>
-    ensures { OnOk result (out.new ≡ out.old ++ u1 kind ++ spell_site site.now) }
+    ensures { OnOk result (out.new ≡ out.old ++ u1 kind ++ encode_site site.now) }
 {
     out.push(kind)?;
     put_u2(out, site.method as usize)?;
@@ -71,7 +71,7 @@ fn put_site(out: &mut Bytes, kind: u8, site: &Site) -> Result<(), NoMemory>
 
 /// Appends a note.
 pub fn put_note(out: &mut Bytes, note: &Note) -> Result<(), NoMemory>
-    ensures { OnOk result (out.new ≡ out.old ++ spell_note note.now) }
+    ensures { OnOk result (out.new ≡ out.old ++ encode_note note.now) }
 {
     match note {
         Note::Free => out.push(0),

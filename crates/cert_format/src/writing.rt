@@ -2,7 +2,7 @@
 
 ghost use Rattle.std.specs.Prelude.{◌≡◌, ◌++◌, OnOk};
 ghost use Rattle.mon_base.specs.Widths.{u1, u2, u4};
-ghost use Rattle.cert_format.specs.Spelling.{i4, flag};
+ghost use Rattle.cert_format.specs.Encoding.{i4, flag};
 
 use byteorder::{BigEndian, ByteOrder};
 use mon_base::{Bytes, NoMemory};

@@ -45,7 +45,7 @@ use Rattle.cert_maker.proofs.Body.{Body, weaves}
 use Rattle.cert_maker.proofs.ClausesAlike.{result_alike}
 use Rattle.class_weaving.proofs.Lists.{each_back, slice_there}
 use Rattle.cert_maker.proofs.WholeMethods.{passes}
-use Rattle.cert_maker.proofs.Shape.{class_framed, class_noted, class_sizes, classes_shaped, code_stays, coded_stay, frames_long, notes_there}
+use Rattle.cert_maker.proofs.Shape.{class_typed, class_noted, class_sizes, classes_shaped, code_stays, coded_stay, frames_long, notes_there}
 use Rattle.cert_maker.proofs.Standing.{IsReady, told}
 use Rattle.cert_maker.proofs.StateClass.{other_name, state_found, state_right}
 
@@ -115,7 +115,7 @@ module _ (old new : Program) (policy : Policy) (mode : Mode) (typing : Typing) (
   abbrev rules : Rules
   rules = record { held = held_in mode; policy = policy; state = state }
 
-  -- conspec/State stands behind the classes.
+  -- conspec/State stands after the classes.
   state_is : state_at new.classes ≡ Some state
   state_is =
       let at : 0 + state ≡ state = omega arith in
@@ -199,15 +199,15 @@ module _ (old new : Program) (policy : Policy) (mode : Mode) (typing : Typing) (
             let call = (right_at i (target.ApiMethod callee) e).1.listed callee refl in
             result_alike old.listing policy listed callee call.method call.there p c found has_clause;
         long = frames_long (frames_told typing own) other.methods index woven
-            (class_framed typing.frames new.classes own other shaped other_there) woven_there has;
+            (class_typed typing.frames new.classes own other shaped other_there) woven_there has;
         next = λ at insn there e to c. of_reached to (goes_on new typing typed own index at woven insn at_is there (to_reached at e) to c);
         caught = λ at insn handler there e c from to.
             of_reached handler.at (caught new typing typed own index at woven insn handler at_is there (to_reached at e) c from to);
         stopped = λ i callee k item e has_clause there role.
             let at : ℕ = slice_index (fronts_of (sites_of plan method.max_locals method)) i + k in
             elim (cases_Bool (is_some (frame_of frames at))) [
-              | inl framed ↦
-                  absurd (false≢true (sym (stopped own index i callee k class method item class_there method_there e has_clause there role) ∙ to_reached at framed))
+              | inl typed_here ↦
+                  absurd (false≢true (sym (stopped own index i callee k class method item class_there method_there e has_clause there role) ∙ to_reached at typed_here))
               | inr none ↦ none
             ];
       }

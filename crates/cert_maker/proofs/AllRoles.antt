@@ -30,7 +30,7 @@ use Rattle.offset_patch.specs.Splicing.{is_call}
 use Rattle.block_template.specs.declared.item.Role.{Role}
 use Rattle.block_template.specs.declared.item.Role.TheVariants as roles
 use Rattle.block_template.specs.Blocks.{bools_of, catches, is_locked}
-use Rattle.block_template.specs.Flow.{behind_return, thrown, tries, argument_at, branch_at as branch_in, check_behind, clause_in, insn_of, kept_by, result_in}
+use Rattle.block_template.specs.Flow.{after_return, thrown, tries, argument_at, branch_at as branch_in, check_after, clause_in, insn_of, kept_by, result_in}
 use Rattle.block_template.specs.Pushing.{load as load_insn, store as store_insn}
 use Rattle.block_template.specs.Steps.{ask_steps, step_insn, update_steps}
 use Rattle.block_logic.specs.Annotations.{held_in, holds_round}
@@ -39,7 +39,7 @@ use Rattle.block_logic.specs.Notes.{is_granted}
 use Rattle.block_logic.specs.Operands.{calls}
 use Rattle.block_logic.specs.Rows as rows
 use Rattle.block_logic.specs.Rows.{Asked, Given, Open}
-use Rattle.block_logic.specs.Standing.{asks_kept, done}
+use Rattle.block_logic.specs.Weakening.{asks_kept, done}
 use Rattle.cert_maker.proofs.Checks.{Arrives, Blocked, branch_is, clause_of_site, clauses, note, rules, same_inside, site, tries_arrives}
 use Rattle.cert_maker.proofs.RoleRows.{give, leave, load, lock_class, lock_taken, of_does, rethrow, save, stop, unlock_class, unlock_left}
 use Rattle.cert_maker.proofs.CheckRows.{ask, taken_row, update}
@@ -51,7 +51,7 @@ use Rattle.cert_maker.proofs.Shapes.{held, pushed, stored}
 use Rattle.block_template.proofs.Suits.{Suits}
 
 module _ (b : Blocked) where
-  -- what comes behind the call, or where it throws, once its result is kept
+  -- what comes after the call, or where it throws, once its result is kept
   kept_told : (c : Clause) → (clauses b).after ≡ Some c → (k : Bool) → is_some c.result ≡ k → asks_kept b.policy (site b After) ≡ k
   kept_told c e k is = result_told b c e ∙ is
 
@@ -75,7 +75,7 @@ module _ (b : Blocked) where
   due : (mode : Mode) (p : Phase) (clause : Clause) → clause_in (clauses b) p ≡ Some clause
       → note b (roles.Lock p false) ≡ notes.Owed (site b p) 0 (asks_kept b.policy (site b p)) false
       → (kept : Bool) → asks_kept b.policy (site b p) ≡ kept
-      → Arrives b (Given (notes.Owed (site b p) (stage_of (is_locked mode)) kept false)) (check_behind mode p clause)
+      → Arrives b (Given (notes.Owed (site b p) (stage_of (is_locked mode)) kept false)) (check_after mode p clause)
   due Release p clause e told kept is = due_free p kept told is
   due Hold p clause e told kept is = due_held p clause e kept is
 
@@ -89,34 +89,34 @@ module _ (b : Blocked) where
 
   keeps_or_checks : (mode : Mode) (c : Clause) → (clauses b).after ≡ Some c → (k : Bool) → is_some c.result ≡ k
       → Arrives b (Given (notes.Owed (site b After) (stage_of (is_locked mode)) false false))
-      (cond k (roles.Keep (is_locked mode)) (check_behind mode After c))
+      (cond k (roles.Keep (is_locked mode)) (check_after mode After c))
   keeps_or_checks mode c e true is = same_inside b (notes.Owed (site b After) (stage_of (is_locked mode)) false false) (roles.Keep (is_locked mode)) refl
   keeps_or_checks mode c e false is = due mode After c e refl false (kept_told c e false is)
 
   abbrev held_round : Mode → Bool
   held_round mode = holds_round (held_in mode) (site b Before).method
 
-  abbrev behind : Mode → Option Clause → Asked
-  behind mode o =
+  abbrev following : Mode → Option Clause → Asked
+  following mode o =
       cond (held_round mode) (Given (notes.Owed (site b After) 1 false false))
       (cond (is_some o) (Given (notes.Owed (site b After) 0 false false)) Open)
 
-  returns_by : (mode : Mode) (o : Option Clause) → (clauses b).after ≡ o → Arrives b (behind mode o) (behind_return mode o)
+  returns_by : (mode : Mode) (o : Option Clause) → (clauses b).after ≡ o → Arrives b (following mode o) (after_return mode o)
   returns_by Release None e = refl
   returns_by Hold None e = same_inside b (notes.Owed (site b After) 1 false false) (roles.Unlock After false false) refl
   returns_by Release (Some c) e = keeps_or_checks Release c e (is_some c.result) refl
   returns_by Hold (Some c) e = keeps_or_checks Hold c e (is_some c.result) refl
 
-  pub returns : Arrives b (rows.returned (rules b) (site b Before)) (behind_return b.mode (clauses b).after)
+  pub returns : Arrives b (rows.returned (rules b) (site b Before)) (after_return b.mode (clauses b).after)
   returns =
-      subst (λ (o : Option Clause). Arrives b (behind b.mode o) (behind_return b.mode (clauses b).after)) (sym after_is)
+      subst (λ (o : Option Clause). Arrives b (following b.mode o) (after_return b.mode (clauses b).after)) (sym after_is)
       (returns_by b.mode (clauses b).after refl)
 
   -- ---- where it throws
 
   abbrev where_thrown : Mode → Option Clause → Asked
   where_thrown mode o =
-      cond (held_round mode || is_some o) (Given (notes.Owed (site b Exceptional) (rows.stage_behind (held_round mode)) false false)) Open
+      cond (held_round mode || is_some o) (Given (notes.Owed (site b Exceptional) (rows.stage_after (held_round mode)) false false)) Open
 
   throws_by : (mode : Mode) (o : Option Clause) → (clauses b).exceptional ≡ o → catches mode o ≡ true
       → Arrives b (where_thrown mode o) (thrown mode o)
@@ -182,7 +182,7 @@ module _ (b : Blocked) (pool : List Const) (fronts : List ℕ) (begin : ℕ) (ow
       → Arrives b (Given (notes.Owed (site b After) (stage_of b locked) true false)) (kept_by b.mode o)
   keep_next locked is None e some = absurd (false≢true some)
   keep_next locked is (Some c) e some =
-      subst (λ (l : Bool). Arrives b (Given (notes.Owed (site b After) (stage_of b l) true false)) (check_behind b.mode After c)) (sym is)
+      subst (λ (l : Bool). Arrives b (Given (notes.Owed (site b After) (stage_of b l) true false)) (check_after b.mode After c)) (sym is)
       (due b b.mode After c e refl true (kept_told b c e true some))
 
   keeps_told : (o : Option Clause) → (clauses b).after ≡ o → is_some (option_and_then (λ (c : Clause). c.result) o) ≡ true

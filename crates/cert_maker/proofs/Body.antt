@@ -18,7 +18,7 @@ use Rattle.offset_patch.specs.Splicing.{fronts_of}
 use Rattle.block_template.specs.Blocks.{plan_of}
 use Rattle.class_weaving.specs.Outcome.{IsWovenMethod}
 use Rattle.class_weaving.specs.Woven.{sites_of}
-use Rattle.cert_maker.specs.Noting.{method_notes, part_notes, parts_notes, where_framed}
+use Rattle.cert_maker.specs.Noting.{method_notes, part_notes, parts_notes, where_typed}
 use Rattle.block_template.proofs.Plans.{there}
 use Rattle.class_weaving.proofs.Bodies.{Weaves, made_long}
 use Rattle.class_weaving.proofs.Parts as parts
@@ -76,18 +76,18 @@ module _ (b : Body) where
 
   -- ---- what is told
 
-  framed : (told : List Note) (frames : List (Option FrameType)) (at : ℕ) (note : Note) → slice_get told at ≡ Some note
-      → is_some (frame_of frames at) ≡ true → slice_get (where_framed told frames) at ≡ Some note
-  framed [] frames at note e f = absurd cc
-  framed (x ∷ told) [] at note e f = absurd cc
-  framed (x ∷ told) (None ∷ frames) zero note e f = absurd cc
-  framed (x ∷ told) (Some frame ∷ frames) zero note e f = e
-  framed (x ∷ told) (frame ∷ frames) (suc at) note e f = framed told frames at note e f
+  typed_here : (told : List Note) (frames : List (Option FrameType)) (at : ℕ) (note : Note) → slice_get told at ≡ Some note
+      → is_some (frame_of frames at) ≡ true → slice_get (where_typed told frames) at ≡ Some note
+  typed_here [] frames at note e f = absurd cc
+  typed_here (x ∷ told) [] at note e f = absurd cc
+  typed_here (x ∷ told) (None ∷ frames) zero note e f = absurd cc
+  typed_here (x ∷ told) (Some frame ∷ frames) zero note e f = e
+  typed_here (x ∷ told) (frame ∷ frames) (suc at) note e f = typed_here told frames at note e f
 
-  pub framed_many : (told : List Note) (frames : List (Option FrameType)) → length told ≡ length frames → length (where_framed told frames) ≡ length told
-  framed_many [] frames e = refl
-  framed_many (x ∷ told) [] e = absurd (omega (arith, e))
-  framed_many (x ∷ told) (frame ∷ frames) e = ap suc (framed_many told frames (omega (arith, e)))
+  pub typed_many : (told : List Note) (frames : List (Option FrameType)) → length told ≡ length frames → length (where_typed told frames) ≡ length told
+  typed_many [] frames e = refl
+  typed_many (x ∷ told) [] e = absurd (omega (arith, e))
+  typed_many (x ∷ told) (frame ∷ frames) e = ap suc (typed_many told frames (omega (arith, e)))
 
   abbrev part_told : Target → List Note
   part_told ref = part_notes b.policy b.mode base ref
@@ -102,7 +102,7 @@ module _ (b : Body) where
       → slice_get (part_told ref) k ≡ Some note → is_some (frame_of frames (front i + k)) ≡ true
       → slice_get (method_notes b.policy b.mode b.method frames) (front i + k) ≡ Some note
   note_there frames i k ref note e f reached =
-      framed (parts_notes b.policy b.mode base refs) frames (front i + k) note
+      typed_here (parts_notes b.policy b.mode base refs) frames (front i + k) note
       (ap (λ (ns : List Note). slice_get ns (front i + k)) (plans.parts_are b.policy b.mode base refs)
       ∙ parts.told_at plan base part_told (plans.notes_long b.policy b.mode base) refs i k ref e
       (omega (arith, slice_get_within (part_told ref) k note f, plans.notes_long b.policy b.mode base ref)) ∙ f)

@@ -44,7 +44,7 @@ use Rattle.block_template.proofs.CheckFlows.{base_stays, push_stays}
 use Rattle.block_logic.specs.Operands.{calls}
 use Rattle.block_logic.specs.Rows as rows
 use Rattle.block_logic.specs.Rows.{Asked, Given, Row, gives, is_addend, term_pushed}
-use Rattle.block_logic.specs.Standing.{is_after, is_before, done}
+use Rattle.block_logic.specs.Weakening.{is_after, is_before, done}
 use Rattle.block_logic.specs.Terms.{after_updates, variable_after, as_taken, base_term}
 use Rattle.block_logic.specs.Terms.{written as written_term}
 use Rattle.cert_maker.specs.Noting.{phase_of, terms_before}
@@ -92,7 +92,7 @@ module _ (b : Blocked) (pool : List Const) (fronts : List ℕ) (begin : ℕ) (ow
     record IsPushed (asks : Base) : Type 0 where
       term : term_pushed (rules b) (site b p) is.clause (as_taken b.policy) (shape_of (at_place (push_base bools base asks)))
           (names (push_base bools base asks)) ≡ Some (base_term asks)
-      quiet : calls (shape_of (at_place (push_base bools base asks))) ≡ false
+      calls_nothing : calls (shape_of (at_place (push_base bools base asks))) ≡ false
 
     of_local : (slot : ℕ) (term : Term)
         → term_pushed (rules b) (site b p) is.clause (as_taken b.policy) (shapes.Load operands.Int slot) target.None ≡ Some term
@@ -115,14 +115,14 @@ module _ (b : Blocked) (pool : List Const) (fronts : List ℕ) (begin : ℕ) (ow
             record {
               term = variable_pushed (rules b) (site b p) is.clause (as_taken b.policy) var (terms.Var var)
                   (variable_there [] 0 (length b.policy.vars) var there ∙ ap (λ (i : ℕ). Some (terms.Var i)) at);
-              quiet = refl;
+              calls_nothing = refl;
             }
         by Before (bases.Arg i) there e =
             let kind = number_of (slice_get is.clause.args i) there in
             let before : is_before (site b p).phase ≡ true = ap (λ (q : Phase). is_before (phase_of q)) (sym e) in
             let pushed = of_local (base + i) (terms.Arg i)
             (argument_pushed (rules b) (site b p) is.clause (as_taken b.policy) i kind.0 before kind.1 kind.2) in
-            record { term = pushed.0; quiet = pushed.1 }
+            record { term = pushed.0; calls_nothing = pushed.1 }
         by After (bases.Arg i) there e = absurd there
         by Exceptional (bases.Arg i) there e = absurd there
         by Before bases.Result there e = absurd there
@@ -132,7 +132,7 @@ module _ (b : Blocked) (pool : List Const) (fronts : List ℕ) (begin : ℕ) (ow
             let after : is_after (site b p).phase ≡ true = ap (λ (q : Phase). is_after (phase_of q)) (sym e) in
             let pushed = of_local base terms.Result
             (result_pushed (rules b) (site b p) is.clause (as_taken b.policy) kind.0 before after kind.1 kind.2) in
-            record { term = pushed.0; quiet = pushed.1 }
+            record { term = pushed.0; calls_nothing = pushed.1 }
         by Exceptional bases.Result there e = absurd there
 
     -- A constant is pushed.
@@ -157,7 +157,7 @@ module _ (b : Blocked) (pool : List Const) (fronts : List ℕ) (begin : ℕ) (ow
           base_pushed atom.base
           (all_get (λ (a : Atom). IsBase (length b.policy.vars) (asked p is.clause.args is.clause.result) a.base) branch.atoms m atom is.is.atoms there)
 
-      -- what comes next, in the comparison and behind it
+      -- what comes next, in the comparison and after it
       goes_on : (done : ℕ) → next b.mode (clauses b) (roles.Ask p n m done) ≡ ask_goes p n m done branch (Some atom)
       goes_on done =
           ap (compared p n m done) (ap (λ (bs : List Branch). slice_get bs n) (sym (branches_are b p)) ∙ is.at)
@@ -172,7 +172,7 @@ module _ (b : Blocked) (pool : List Const) (fronts : List ℕ) (begin : ℕ) (ow
       ask_first : Is (roles.Ask p n m 0) (push_base bools base atom.base)
       ask_first =
           held_noted b pool fronts begin own ref (roles.Ask p n m 0) (push_base bools base atom.base)
-          (notes.Held (site b p) n m [] (as_taken b.policy)) (ask_is b p n branch is m 0 atom there) refl asks_base.quiet _
+          (notes.Held (site b p) n m [] (as_taken b.policy)) (ask_is b p n branch is m 0 atom there) refl asks_base.calls_nothing _
           (held_pushes (rules b) (site b p) is.clause is.found n m (as_taken b.policy) [] (shape_of (at_place (push_base bools base atom.base)))
           (names (push_base bools base atom.base)) (base_term atom.base) asks_base.term)
           (λ q. more 0 refl (Given (notes.Held (site b p) n m (base_term atom.base ∷ []) (as_taken b.policy)))
@@ -237,7 +237,7 @@ module _ (b : Blocked) (pool : List Const) (fronts : List ℕ) (begin : ℕ) (ow
       fits : IsUpdateIn b.policy.vars b.policy.maxint update
       fits = all_get (IsUpdateIn b.policy.vars b.policy.maxint) branch.updates u update is.is.updates there
 
-      -- what comes next, in the update and behind it
+      -- what comes next, in the update and after it
       goes : (done : ℕ) → next b.mode (clauses b) (roles.Update p n u done) ≡ update_goes p n u done branch (Some update)
       goes done =
           ap (updated p n u done) (ap (λ (bs : List Branch). slice_get bs n) (sym (branches_are b p)) ∙ is.at)

@@ -32,7 +32,7 @@ use Rattle.block_logic.specs.Annotations.{held_in}
 use Rattle.block_logic.specs.Clauses.{clause_of, result_kind}
 use Rattle.block_logic.specs.Rows.{Asked, Open, Given, Rules}
 use Rattle.block_logic.specs.Notes.{meets}
-use Rattle.block_logic.specs.Standing.{branches_of, done, fails, is_done, may_stand, same_note, stands_for_held}
+use Rattle.block_logic.specs.Weakening.{branches_of, done, fails, is_done, may_stand, same_note, stands_for_held}
 use Rattle.block_logic.specs.Terms.{after_updates, as_taken}
 use Rattle.cert_maker.specs.declared.called.Called.{Called}
 use Rattle.block_template.specs.Steps.{ask_steps, update_steps}

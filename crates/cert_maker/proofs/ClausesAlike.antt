@@ -18,7 +18,7 @@ use Rattle.block_template.specs.Flow.{branches_in, clause_in}
 use Rattle.block_template.specs.Flow.{branches_of as branches_told}
 use Rattle.block_logic.specs.Clauses.{clause_at, clause_of, is_of_phase, result_kind}
 use Rattle.block_logic.specs.Obeying.{FitsListing}
-use Rattle.block_logic.specs.Standing.{branches_of}
+use Rattle.block_logic.specs.Weakening.{branches_of}
 use Rattle.cert_maker.specs.declared.called.Called.{Called}
 use Rattle.cert_maker.specs.Noting.{phase_of, site_of}
 

@@ -24,4 +24,4 @@ pub mod StateClass
 pub mod Shape
 pub mod Accepted
 pub mod Small
-pub mod Framed
+pub mod TypedNotes

@@ -11,7 +11,7 @@ use Rattle.insn_codec.specs.Control.{jump_targets, successors}
 use Rattle.insn_codec.specs.Fits.{AimsWithin}
 use Rattle.insn_codec.specs.Opcodes.{goes_on}
 use Rattle.insn_codec.specs.Shapes.{shape_of}
-use Rattle.insn_codec.specs.Spelling.{opcode_of}
+use Rattle.insn_codec.specs.Encoding.{opcode_of}
 use Rattle.bytecode_model.specs.declared.program.Target.{Target}
 use Rattle.bytecode_model.specs.declared.program.Target.TheVariants as target
 use Rattle.bytecode_model.proofs.Lists.{all_get, some_is}
@@ -39,7 +39,7 @@ use Rattle.block_logic.specs.Notes.{Here, catches_all, first_handler, handlers_o
 use Rattle.block_logic.specs.Operands.{calls, has_clause, loads_constant, pushes_state, variable_named}
 use Rattle.block_logic.specs.Rows as rows
 use Rattle.block_logic.specs.Rows.{Asked, Open, Row, Rules}
-use Rattle.block_logic.specs.Standing.{is_open}
+use Rattle.block_logic.specs.Weakening.{is_open}
 use Rattle.class_weaving.specs.Outcome.{own_handlers, part_named}
 use Rattle.block_template.proofs.Plans.{block_of, none_there, part_item, part_length, site_is}
 use Rattle.class_weaving.proofs.Aiming.{jumps_moved}
@@ -158,7 +158,7 @@ module _ (b : Body) (frames : List (Option FrameType)) (ready : IsReady b frames
       let alone = ready.untouched i ref names in
       let unasked : has_clause b.policy ref ≡ false = same_clause b.policy ref ∙ none in
       let o = note_there b frames i 0 ref notes.Free names (ap (λ (ns : List Note). slice_get ns 0) (note_alone b.policy b.mode (base b) ref none)) reached in
-      let behind : front b i + 0 + 1 ≡ front b (suc i) = omega (arith, next_front (weaves b) i ref names, single) in
+      let following : front b i + 0 + 1 ≡ front b (suc i) = omega (arith, next_front (weaves b) i ref names, single) in
       let aims : jump_targets x ≡ map (front b) (jump_targets insn) =
       jumps_moved (fronts b) (n b) (front b) (λ j lt. fronts_are (weaves b) j (omega (arith, lt))) insn (all_get (AimsWithin (n b)) b.method.insns i insn b.sound.targets there) in
       fault_at rules notes_told b.made (front b i + 0) x ref notes.Free insn_is ref_is o
@@ -171,7 +171,7 @@ module _ (b : Body) (frames : List (Option FrameType)) (ready : IsReady b frames
         pass =
             and_from _ _
             (next_passes (front b i + 0) x ref open_row insn_is reached
-            (λ goes r. subst (P Open) (sym behind) (front_passes b frames ready (suc i) (omega (arith, few)) (subst R behind r)))
+            (λ goes r. subst (P Open) (sym following) (front_passes b frames ready (suc i) (omega (arith, few)) (subst R following r)))
             (subst (AllByRecursion (λ to. R to → P Open to)) (sym aims)
             (all_fronts (jump_targets insn) (jumps_within insn (all_get (AimsWithin (n b)) b.method.insns i insn b.sound.targets there)))))
             (client_catches b frames ready (front b i + 0) x insn_is reached
@@ -208,16 +208,16 @@ module _ (b : Body) (frames : List (Option FrameType)) (ready : IsReady b frames
     pub part_count : length (part b ref) ≡ length all
     part_count = part_length b.policy b.mode (base b) callee has
 
-    -- Where control comes to a place of the block, or behind it, what is asked is met.
+    -- Where control comes to a place of the block, or after it, what is asked is met.
     pub place_passes : (wants : Asked) (place : ℕ) (role : Role) → role_at all place ≡ role → Arrives k wants role → place ≤ length all
         → R (begin + place) → P wants (begin + place)
     place_passes wants place role is arrives within reached = by (slice_get all place) refl
       where
-        behind : (xs : List Item) (j : ℕ) → slice_get xs j ≡ None → j ≤ length xs → j ≡ length xs
-        behind [] zero none le = refl
-        behind [] (suc j) none le = absurd (omega arith)
-        behind (x ∷ xs) zero none le = absurd cc
-        behind (x ∷ xs) (suc j) none le = ap suc (behind xs j none (omega arith))
+        following : (xs : List Item) (j : ℕ) → slice_get xs j ≡ None → j ≤ length xs → j ≡ length xs
+        following [] zero none le = refl
+        following [] (suc j) none le = absurd (omega arith)
+        following (x ∷ xs) zero none le = absurd cc
+        following (x ∷ xs) (suc j) none le = ap suc (following xs j none (omega arith))
 
         by : (o : Option Item) → slice_get all place ≡ o → P wants (begin + place)
         by (Some item) e =
@@ -228,7 +228,7 @@ module _ (b : Body) (frames : List (Option FrameType)) (ready : IsReady b frames
             let left : role ≡ roles.Leave = sym is ∙ ap (λ (o : Option Item). option_map_or (λ (x : Item). x.role) o roles.Leave) e in
             let wants_open : wants ≡ Open = subst (Arrives k wants) left arrives in
             let at : begin + place ≡ front b (suc i) =
-            omega (arith, behind all place e within, next_front (weaves b) i ref names, part_count) in
+            omega (arith, following all place e within, next_front (weaves b) i ref names, part_count) in
             let passes : P Open (begin + place) =
             subst (P Open) (sym at)
             (front_passes b frames ready (suc i) (omega (arith, less b frames ready i callee names has)) (subst R at reached)) in

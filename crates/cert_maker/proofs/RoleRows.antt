@@ -33,7 +33,7 @@ use Rattle.block_logic.specs.Clauses.{clause_of, needs}
 use Rattle.block_logic.specs.Operands.{calls, pushes_state}
 use Rattle.block_logic.specs.Rows as rows
 use Rattle.block_logic.specs.Rows.{Given, Open, Taking, may_leave, may_push, note_taken}
-use Rattle.block_logic.specs.Standing.{asks_kept, begun, done}
+use Rattle.block_logic.specs.Weakening.{asks_kept, begun, done}
 use Rattle.block_logic.specs.Terms.{as_taken}
 use Rattle.cert_maker.proofs.Checks.{Arrives, Blocked, clause_of_site, clauses, held_wide, note, rules, same_inside, site, tries_arrives}
 use Rattle.cert_maker.proofs.Roles.{IsNoted, argument_few, byte_is, call_note, count_is, exit_is, few_arguments, free_noted, granted_wide, held_noted, loading_arrives}
@@ -148,9 +148,9 @@ module _ (b : Blocked) (pool : List Const) (fronts : List ℕ) (begin : ℕ) (ow
   begins_of After other None e = tt
   begins_of Exceptional other None e = tt
 
-  lock_behind : (p : Phase) → (p ≡ Before → ⊥) → note b (roles.Lock p true) ≡ notes.Owed (site b p) 0 (asks_kept b.policy (site b p)) true
+  lock_after : (p : Phase) → (p ≡ Before → ⊥) → note b (roles.Lock p true) ≡ notes.Owed (site b p) 0 (asks_kept b.policy (site b p)) true
       → Is (roles.Lock p true) (Plain MONITORENTER)
-  lock_behind p other e =
+  lock_after p other e =
       held_noted b pool fronts begin own ref (roles.Lock p true) (Plain MONITORENTER)
       (notes.Owed (site b p) 0 (asks_kept b.policy (site b p)) true) e refl refl _
       (owed_enters (rules b) (site b p) (asks_kept b.policy (site b p)) target.None refl)
@@ -158,8 +158,8 @@ module _ (b : Blocked) (pool : List Const) (fronts : List ℕ) (begin : ℕ) (ow
 
   pub lock_taken : (p : Phase) → Is (roles.Lock p true) (Plain MONITORENTER)
   lock_taken Before = lock_before
-  lock_taken After = lock_behind After (λ e. absurd cc) refl
-  lock_taken Exceptional = lock_behind Exceptional (λ e. absurd cc) refl
+  lock_taken After = lock_after After (λ e. absurd cc) refl
+  lock_taken Exceptional = lock_after Exceptional (λ e. absurd cc) refl
 
   -- ---- the lock is left
 

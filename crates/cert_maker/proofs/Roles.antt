@@ -32,7 +32,7 @@ use Rattle.block_logic.specs.Notes.{calls_well, is_duty_of, is_free, meets}
 use Rattle.block_logic.specs.Operands.{calls, has_clause, is_way_out, pushes_state, variable_named}
 use Rattle.block_logic.specs.Rows as rows
 use Rattle.block_logic.specs.Rows.{Asked, Given, Open, Row}
-use Rattle.block_logic.specs.Standing.{asks_kept, done, is_done, may_begin, same_note, stands_for_held}
+use Rattle.block_logic.specs.Weakening.{asks_kept, done, is_done, may_begin, same_note, stands_for_held}
 use Rattle.block_logic.specs.Terms.{after_updates, as_taken, same_terms}
 use Rattle.cert_maker.specs.Noting.{byte}
 use Rattle.cert_maker.proofs.Checks.{Arrives, Blocked, IsBranch, Wide, clause_found, clauses, note, rules, site}
@@ -186,13 +186,13 @@ module _ (b : Blocked) where
         → (may_pass x ≡ true → Arrives b row.past (next b.mode (clauses b) role))
         → (is_some (jump_of x) ≡ true → Arrives b row.jump (jumps b.mode (clauses b) role))
         → row.thrown ≡ Open → IsNoted role x
-    held_noted role x n told held quiet row is passes lands thrown = record {
+    held_noted role x n told held calls_nothing row is passes lands thrown = record {
       row = row;
       is = ap (λ (m : Note). rows.row (rules b) m (shape_of (placed_here x)) (named_here x)) told ∙ is;
       variable = λ free. absurd (false≢true (sym held ∙ sym (ap is_free told) ∙ free));
       pushes = λ free. absurd (false≢true (sym held ∙ sym (ap is_free told) ∙ free));
-      called = λ at. rw quiet refl;
-      catches = and_none _ _ quiet;
+      called = λ at. rw calls_nothing refl;
+      catches = and_none _ _ calls_nothing;
       passes = passes;
       lands = lands;
       thrown = thrown;
@@ -206,15 +206,15 @@ module _ (b : Blocked) where
         → pushes_state (shape_of (placed_here x)) (named_here x) ≡ false → named_here x ≡ target.None
         → Arrives b Open (next b.mode (clauses b) role) → Arrives b Open (jumps b.mode (clauses b) role) → IsNoted role x
     unfolding free_row
-    free_noted role x told quiet other none passes lands =
+    free_noted role x told calls_nothing other none passes lands =
         let alone : is_some (variable_named b.state (named_here x)) ≡ false = ap (λ (t : Target). is_some (variable_named b.state t)) none in
         record {
           row = free_row;
           is = ap (λ (m : Note). rows.row (rules b) m (shape_of (placed_here x)) (named_here x)) told ∙ rw (other, alone) refl;
           variable = λ free. alone;
           pushes = λ free class. absurd (false≢true (sym other ∙ class));
-          called = λ at. rw quiet refl;
-          catches = and_none _ _ quiet;
+          called = λ at. rw calls_nothing refl;
+          catches = and_none _ _ calls_nothing;
           passes = λ p. passes;
           lands = λ j. lands;
           thrown = refl;

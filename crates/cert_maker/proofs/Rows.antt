@@ -29,7 +29,7 @@ use Rattle.block_logic.specs.Clauses.{clause_of, needs, result_kind}
 use Rattle.block_logic.specs.Operands.{leaves, loaded, pushes_state, stored}
 use Rattle.block_logic.specs.Rows as rows
 use Rattle.block_logic.specs.Rows.{Given, Nothing, Open, Row, Rules, asks_atom, gives, is_addend, leads, may_keep, may_leave, may_push, returned, term_pushed, thrown}
-use Rattle.block_logic.specs.Standing.{asks_kept, begun, is_after, is_before}
+use Rattle.block_logic.specs.Weakening.{asks_kept, begun, is_after, is_before}
 use Rattle.block_logic.specs.Terms.{base_term}
 use Rattle.cert_maker.proofs.Same.{same_bool, same_number, term_itself}
 use Rattle.cert_maker.proofs.Shapes.{negation}

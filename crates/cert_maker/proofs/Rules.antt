@@ -7,7 +7,7 @@ use Rattle.std.proofs.lemmas.Bool.{and_from, and_parts}
 use Rattle.insn_codec.specs.declared.insn.Insn.{Insn}
 use Rattle.insn_codec.specs.Control.{jump_targets}
 use Rattle.insn_codec.specs.Opcodes.{goes_on}
-use Rattle.insn_codec.specs.Spelling.{opcode_of}
+use Rattle.insn_codec.specs.Encoding.{opcode_of}
 use Rattle.insn_codec.specs.Shapes.{shape_of}
 use Rattle.bytecode_model.specs.declared.program.Handler.{Handler}
 use Rattle.bytecode_model.specs.declared.program.Method.{Method}
@@ -37,7 +37,7 @@ use Rattle.block_logic.specs.Notes.{
 use Rattle.block_logic.specs.Operands.{enters, leaves, writes_static}
 use Rattle.block_logic.specs.Rows as rows
 use Rattle.block_logic.specs.Rows.{Asked, Row, Rules}
-use Rattle.block_logic.specs.Standing.{is_open}
+use Rattle.block_logic.specs.Weakening.{is_open}
 
 -- ---- lists
 

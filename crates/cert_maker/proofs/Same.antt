@@ -12,7 +12,7 @@ use Rattle.cert_format.specs.declared.note.Phase8.TheVariants as sites
 use Rattle.cert_format.specs.declared.note.Site.{Site}
 use Rattle.cert_format.specs.declared.note.Term.{Term}
 use Rattle.cert_format.specs.declared.note.Term.TheVariants as terms
-use Rattle.block_logic.specs.Standing.{same_note, same_phase, same_site}
+use Rattle.block_logic.specs.Weakening.{same_note, same_phase, same_site}
 use Rattle.block_logic.specs.Terms.{same_term, same_terms}
 
 pub same_number : (n : ℕ) → (n == n) ≡ true

@@ -19,7 +19,7 @@ use Rattle.class_weaving.specs.Outcome.{Each, IsState, IsWovenClass, IsWovenMeth
 use Rattle.cert_maker.specs.Noting.{class_notes, method_notes, notes_of, parts_notes}
 use Rattle.block_template.proofs.Plans.{some}
 use Rattle.class_weaving.proofs.Bodies.{made_long, same_length}
-use Rattle.cert_maker.proofs.Body.{Body, framed_many, told_many, weaves}
+use Rattle.cert_maker.proofs.Body.{Body, typed_many, told_many, weaves}
 use Rattle.class_weaving.proofs.Parts.{total}
 
 abbrev Frames : Type 0
@@ -48,7 +48,7 @@ module _ (b : Body) where
   -- It has as many notes as instructions.
   notes_many : (frames : Frames) → length frames ≡ size b.made → length (method_notes b.policy b.mode b.method frames) ≡ size b.made
   notes_many frames e =
-      framed_many b (parts_notes b.policy b.mode b.method.max_locals b.method.refs) frames (told_many b ∙ sym e) ∙ told_many b
+      typed_many b (parts_notes b.policy b.mode b.method.max_locals b.method.refs) frames (told_many b ∙ sym e) ∙ told_many b
 
 -- ---- the methods of a class
 
@@ -139,9 +139,9 @@ frames_long frames (x ∷ methods) (suc index) m e there has = by (has_code x) r
         let rest : map length frames ≡ map size (coded methods) = cc in
         rw some (later frames rest)
 
-behind_is : {A : Type 0} (told : List (List A)) (k : ℕ) → list_at told (suc k) ≡ list_at (drop 1 told) k
-behind_is [] k = refl
-behind_is (f ∷ told) k = refl
+after_is : {A : Type 0} (told : List (List A)) (k : ℕ) → list_at told (suc k) ≡ list_at (drop 1 told) k
+after_is [] k = refl
+after_is (f ∷ told) k = refl
 
 module _ (policy : Policy) (mode : Mode) where
   -- the notes of the method of an index
@@ -159,7 +159,7 @@ module _ (policy : Policy) (mode : Mode) where
           ≡ method_notes policy mode m (list_at later (length (coded (take index methods)))))
           → list_at (class_notes policy mode (x ∷ methods) frames) (length (coded (x ∷ take index methods)))
           ≡ method_notes policy mode m (list_at frames (length (coded (x ∷ take index methods))))
-      by true some later = rw (some, behind_is frames (length (coded (take index methods)))) (later (drop 1 frames))
+      by true some later = rw (some, after_is frames (length (coded (take index methods)))) (later (drop 1 frames))
       by false none later = rw none (later frames)
 
   -- the notes of the class of an index
@@ -170,7 +170,7 @@ module _ (policy : Policy) (mode : Mode) where
       let same : x ≡ class = cc in
       rw same refl
   class_noted (x ∷ classes) frames (suc own) class there =
-      class_noted classes (drop 1 frames) own class there ∙ ap (class_notes policy mode class.methods) (sym (behind_is frames own))
+      class_noted classes (drop 1 frames) own class there ∙ ap (class_notes policy mode class.methods) (sym (after_is frames own))
 
   pub classes_shaped : (vars : List Var) (count : ℕ) (olds news : List LinkedClass) (state : LinkedClass) → IsState vars state
       → Each (IsWovenClass (plan_of policy mode) count) olds news → AllByRecursion IsSoundClass olds
@@ -188,15 +188,15 @@ module _ (policy : Policy) (mode : Mode) where
       rw (first, last) refl
 
 -- the frames of the class of an index
-pub class_framed : (frames : List (List Frames)) (classes : List LinkedClass) (own : ℕ) (class : LinkedClass) → map (map length) frames ≡ map class_sizes classes
+pub class_typed : (frames : List (List Frames)) (classes : List LinkedClass) (own : ℕ) (class : LinkedClass) → map (map length) frames ≡ map class_sizes classes
     → slice_get classes own ≡ Some class → map length (list_at frames own) ≡ class_sizes class
-class_framed [] [] own class e there = absurd cc
-class_framed [] (x ∷ classes) own class e there = absurd cc
-class_framed (f ∷ frames) [] own class e there = absurd cc
-class_framed (f ∷ frames) (x ∷ classes) zero class e there =
+class_typed [] [] own class e there = absurd cc
+class_typed [] (x ∷ classes) own class e there = absurd cc
+class_typed (f ∷ frames) [] own class e there = absurd cc
+class_typed (f ∷ frames) (x ∷ classes) zero class e there =
     let same : x ≡ class = cc in
     let first : map length f ≡ class_sizes x = cc in
     first ∙ ap class_sizes same
-class_framed (f ∷ frames) (x ∷ classes) (suc own) class e there =
+class_typed (f ∷ frames) (x ∷ classes) (suc own) class e there =
     let rest : map (map length) frames ≡ map class_sizes classes = cc in
-    class_framed frames classes own class rest there
+    class_typed frames classes own class rest there

@@ -17,7 +17,7 @@ use Rattle.insn_codec.specs.declared.shape.Shape.TheVariants as shapes
 use Rattle.insn_codec.specs.Control.{jump_targets}
 use Rattle.insn_codec.specs.Opcodes.{goes_on, opcode_at}
 use Rattle.insn_codec.specs.Shapes.{shape_of}
-use Rattle.insn_codec.specs.Spelling.{opcode_of}
+use Rattle.insn_codec.specs.Encoding.{opcode_of}
 use Rattle.bytecode_model.specs.declared.program.Target.{Target}
 use Rattle.bytecode_model.specs.declared.program.Target.TheVariants as target
 use Rattle.conspec_tree.specs.declared.types.Kind.{Kind}
@@ -129,7 +129,7 @@ module _ (pool : List Const) (fronts : List ℕ) (begin : ℕ) (own : Insn) (sta
   compares relations.Gt place = refl
   compares relations.Ge place = refl
 
-  -- Where control goes on behind an instruction it may pass there.
+  -- Where control goes on after an instruction it may pass there.
   pub goes_past : (b : BlockInsn) → is_call b ≡ false → goes_on (opcode_of (placed b)) ≡ true → may_pass b ≡ true
   unfolding opcode_at
   goes_past (Plain op) c e = by (op == ATHROW) refl

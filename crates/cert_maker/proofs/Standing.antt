@@ -41,7 +41,7 @@ use Rattle.block_logic.specs.Clauses.{clause_at, needs, result_kind}
 use Rattle.block_logic.specs.Notes.{handlers_of, meets, note_passes}
 use Rattle.block_logic.specs.Operands.{is_state_name, variable_named}
 use Rattle.block_logic.specs.Rows.{Asked, Open, Rules}
-use Rattle.block_logic.specs.Standing.{is_open}
+use Rattle.block_logic.specs.Weakening.{is_open}
 use Rattle.class_weaving.specs.Outcome.{at_fronts, own_handlers}
 use Rattle.cert_maker.specs.declared.called.Called.{Called}
 use Rattle.cert_maker.specs.Noting.{method_notes, site_of}
@@ -152,8 +152,8 @@ module _ (b : Body) (frames : List (Option FrameType)) (ready : IsReady b frames
   abbrev pub Passes : Asked → ℕ → Type 0
   Passes wants at = note_passes (meets rules_in) told wants at ≡ true
 
-  framed : (at : ℕ) → Reached at → at < length frames
-  framed at reached = by (slice_get frames at) refl reached
+  typed_here : (at : ℕ) → Reached at → at < length frames
+  typed_here at reached = by (slice_get frames at) refl reached
     where
       by : (o : Option (Option FrameType)) → slice_get frames at ≡ o → is_some (option_map_or (λ (f : Option FrameType). f) o None) ≡ true
           → at < length frames
@@ -161,7 +161,7 @@ module _ (b : Body) (frames : List (Option FrameType)) (ready : IsReady b frames
       by (Some frame) e f = slice_get_within frames at frame e
 
   pub within : (at : ℕ) → Reached at → at < length b.made.insns
-  within at reached = omega (arith, framed at reached, ready.long)
+  within at reached = omega (arith, typed_here at reached, ready.long)
 
   -- ---- a call with a block
 

@@ -1,4 +1,4 @@
--- The class conspec/State that weaving writes is the class of the policy's variables, and stands behind the others.
+-- The class conspec/State that weaving writes is the class of the policy's variables, and stands after the others.
 use Rattle.std.proofs.Common.{◌≡◌, ◌≢◌, ℕ, suc, ◌+◌, ◌*◌, ◌<◌, ◌≤◌, Bool, true, false, cond, List, [], ◌∷◌, ◌++◌, length, Option, Some, None, refl, sym, ap, subst, ◌∙◌, inl, inr, arith, length-append, append_assoc}
 use Rattle.std.specs.Prelude.{◌==◌, bytes_eq, codes, slice_get, slice_index, ⊤}
 use Rattle.std.specs.Int.{bytes_high_first}
@@ -39,7 +39,7 @@ other_name name differs =
 
 -- ---- the values of the variables
 
--- The pool has the first value of each variable behind its name; the first of them has this index.
+-- The pool has the first value of each variable after its name; the first of them has this index.
 abbrev HasValues : List Const → ℕ → List Var → Type 0
 HasValues pool index [] = ⊤
 HasValues pool index (var ∷ vars) = (slice_get pool (variable_text index + 1) ≡ Some (constants.Integer var.first)) × HasValues pool (index + 1) vars

@@ -163,9 +163,9 @@ module _ (program : Program) (own : ℕ) (class : LinkedClass) (method : Method)
           let wrong : true ≡ false = sym has ∙ none in
           absurd cc
 
-  framed : (at : ℕ) (insn : Insn) (o : Option FrameType) → row_failing frames (place at insn) o ≡ None → row_failing told_frames (place at insn) (frame_told method o) ≡ None
-  framed at insn None e = e
-  framed at insn (Some f) e = by (has_room method (frame_trimmed f)) refl where
+  typed_here : (at : ℕ) (insn : Insn) (o : Option FrameType) → row_failing frames (place at insn) o ≡ None → row_failing told_frames (place at insn) (frame_told method o) ≡ None
+  typed_here at insn None e = e
+  typed_here at insn (Some f) e = by (has_room method (frame_trimmed f)) refl where
     p : Passes frames (place at insn) f
     p = passes frames (place at insn) f e
 
@@ -177,4 +177,4 @@ module _ (program : Program) (own : ℕ) (class : LinkedClass) (method : Method)
   told_met at = by (slice_get method.insns at) refl where
     by : (o : Option Insn) → slice_get method.insns at ≡ o → option_and_then (λ (i : Insn). row_failing told_frames (place at i) (frame_of told_frames at)) o ≡ None
     by None is = refl
-    by (Some insn) is = ap (row_failing told_frames (place at insn)) (told_at at) ∙ framed at insn (frame_of frames at) (row_of at insn is)
+    by (Some insn) is = ap (row_failing told_frames (place at insn)) (told_at at) ∙ typed_here at insn (frame_of frames at) (row_of at insn is)

@@ -17,7 +17,7 @@ use Rattle.bytecode_model.specs.Wants.{of_kind, takes}
 use Rattle.cert_maker.specs.Told.{frame_trimmed, trimmed}
 use Rattle.cert_maker.proofs.ToldTrimming.{at_trimmed, fit_trimmed, object_trimmed, trimmed_short}
 
--- ---- what is left behind
+-- ---- what is left after
 
 yields_same : (place : InsnPlace) (locals taken : List VType) (shape : Shape) → yields_of place (trimmed locals) taken shape ≡ yields_of place locals taken shape
 yields_same place locals taken (shapes.Load kind slot) = ap (λ (t : VType). t ∷ []) (at_trimmed locals slot)

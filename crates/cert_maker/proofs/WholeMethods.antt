@@ -25,13 +25,13 @@ use Rattle.offset_patch.specs.Splicing.{aimed, call_place}
 use Rattle.block_template.specs.declared.item.Item.{Item}
 use Rattle.block_template.specs.declared.item.Role.TheVariants as roles
 use Rattle.block_template.specs.Blocks.{bools_of, catches, handler_at, has_block, is_locked}
-use Rattle.block_template.specs.Flow.{may_pass, next, behind_return, role_at, thrown}
+use Rattle.block_template.specs.Flow.{may_pass, next, after_return, role_at, thrown}
 use Rattle.block_logic.specs.Annotations.{held_in, holds_round}
 use Rattle.block_logic.specs.Notes.{Here, catches_all, catches_well, is_granted, is_owed_for_throw, thrown_by, first_handler, handlers_of, is_duty_of, meets, note_fault, note_passes}
 use Rattle.block_logic.specs.Operands.{calls, has_clause}
 use Rattle.block_logic.specs.Rows as rows
 use Rattle.block_logic.specs.Rows.{Asked, Open, Row, Rules}
-use Rattle.block_logic.specs.Standing.{in_phase, is_open}
+use Rattle.block_logic.specs.Weakening.{in_phase, is_open}
 use Rattle.class_weaving.specs.Outcome.{at_fronts, own_handler}
 use Rattle.block_template.proofs.Plans.{block_of, none_there, part_length, site_is}
 use Rattle.class_weaving.proofs.Bodies.{handlers_are, insn_there, made_long, ref_there, same_length}
@@ -130,10 +130,10 @@ module _ (b : Body) (frames : List (Option FrameType)) (ready : IsReady b frames
 
     returns_to : R (begin + place + 1) → P row.past (begin + place + 1)
     returns_to r =
-        let to : role_at all (place + 1) ≡ behind_return b.mode (clauses k).after =
+        let to : role_at all (place + 1) ≡ after_return b.mode (clauses k).after =
         (led b frames ready i callee own there names has place item e reached).passes (ap may_pass call) ∙ ap (next b.mode (clauses k)) is_called.is in
         subst (P row.past) (sym next_place)
-        (place_passes b frames ready i callee own there names has row.past (place + 1) (behind_return b.mode (clauses k).after) to (returns k)
+        (place_passes b frames ready i callee own there names has row.past (place + 1) (after_return b.mode (clauses k).after) to (returns k)
         (omega (arith, place_few b frames ready i callee own there names has place item e reached)) (subst R next_place r))
 
     -- ---- where it throws
@@ -236,9 +236,9 @@ module _ (b : Body) (frames : List (Option FrameType)) (ready : IsReady b frames
         by : (c : Bool) → is_duty_of rules ref ≡ c → rows.is_duty rules callee ≡ rows.is_duty rules (site k Before).method → wants ≡ Open → is_duty_of rules ref ≡ false
         by false f same opens = f
         by true f same opens =
-            let what : wants ≡ rows.Given (notes.Owed (in_phase sites.Exceptional (site k Before)) (rows.stage_behind (holds_round (held_in b.mode) (site k Before).method)) false false) =
-            ap (λ (c : Bool). cond c (rows.Given (notes.Owed (in_phase sites.Exceptional (site k Before)) (rows.stage_behind (holds_round (held_in b.mode) (site k Before).method)) false false)) Open) (sym same ∙ f) in
-            let no : rows.Given (notes.Owed (in_phase sites.Exceptional (site k Before)) (rows.stage_behind (holds_round (held_in b.mode) (site k Before).method)) false false) ≡ Open = sym what ∙ opens in
+            let what : wants ≡ rows.Given (notes.Owed (in_phase sites.Exceptional (site k Before)) (rows.stage_after (holds_round (held_in b.mode) (site k Before).method)) false false) =
+            ap (λ (c : Bool). cond c (rows.Given (notes.Owed (in_phase sites.Exceptional (site k Before)) (rows.stage_after (holds_round (held_in b.mode) (site k Before).method)) false false)) Open) (sym same ∙ f) in
+            let no : rows.Given (notes.Owed (in_phase sites.Exceptional (site k Before)) (rows.stage_after (holds_round (held_in b.mode) (site k Before).method)) false false) ≡ Open = sym what ∙ opens in
             absurd cc
 
     catches_here : (c : Bool) → catches b.mode (clauses k).exceptional ≡ c → catches_well rules notes_told b.made (granted k) here ≡ true

@@ -34,7 +34,7 @@ IsStopped old policy mode new typing =
     → item.role ≡ roles.Unreached
     → reached new typing own index (slice_index (fronts_of (sites_of (plan_of policy mode) method.max_locals method)) i + k) ≡ false
 
--- Where the types of a woven program are right, and no block goes on behind its way out, the program is accepted with the
+-- Where the types of a woven program are right, and no block goes on after its way out, the program is accepted with the
 -- certificate that is made of them.
 abbrev pub WovenIsAccepted : Type 0
 WovenIsAccepted =

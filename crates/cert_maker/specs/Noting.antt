@@ -36,7 +36,7 @@ use Rattle.block_template.specs.Blocks.{bools_of, clauses_of, items}
 use Rattle.block_template.specs.Steps.{ask_steps, stack_before, update_steps}
 use Rattle.cert_maker.specs.declared.called.Called.{Called}
 use Rattle.block_logic.specs.Clauses.{needs}
-use Rattle.block_logic.specs.Standing.{asks_kept, branches_of}
+use Rattle.block_logic.specs.Weakening.{asks_kept, branches_of}
 use Rattle.block_logic.specs.Terms.{after_updates, as_taken, base_term}
 
 -- ---- sites
@@ -62,7 +62,7 @@ lock_note policy call Before true = notes.Taking (site_of call Before)
 lock_note policy call After pushed = notes.Owed (site_of call After) 0 (asks_kept policy (site_of call After)) pushed
 lock_note policy call Exceptional pushed = notes.Owed (site_of call Exceptional) 0 (asks_kept policy (site_of call Exceptional)) pushed
 
--- behind a check, and where none was made
+-- after a check, and where none was made
 abbrev pub left_note : Policy → Site → Bool → Bool → Note
 left_note policy site true pushed = notes.Owed site 2 (asks_kept policy site) pushed
 left_note policy site false pushed = notes.Owed site 1 false pushed
@@ -151,17 +151,17 @@ parts_notes policy mode base [] = []
 parts_notes policy mode base (ref ∷ refs) = part_notes policy mode base ref ++ parts_notes policy mode base refs
 
 -- An instruction without a frame is not reached.
-abbrev pub if_framed : Option FrameType → Note → Note
-if_framed None note = notes.Free
-if_framed (Some frame) note = note
+abbrev pub if_typed : Option FrameType → Note → Note
+if_typed None note = notes.Free
+if_typed (Some frame) note = note
 
-abbrev pub where_framed : List Note → List (Option FrameType) → List Note
-where_framed [] frames = []
-where_framed (note ∷ told) [] = []
-where_framed (note ∷ told) (frame ∷ frames) = if_framed frame note ∷ where_framed told frames
+abbrev pub where_typed : List Note → List (Option FrameType) → List Note
+where_typed [] frames = []
+where_typed (note ∷ told) [] = []
+where_typed (note ∷ told) (frame ∷ frames) = if_typed frame note ∷ where_typed told frames
 
 abbrev pub method_notes : Policy → Mode → Method → List (Option FrameType) → List Note
-method_notes policy mode method frames = where_framed (parts_notes policy mode method.max_locals method.refs) frames
+method_notes policy mode method frames = where_typed (parts_notes policy mode method.max_locals method.refs) frames
 
 -- ---- the program
 
@@ -172,7 +172,7 @@ class_notes policy mode (method ∷ methods) frames =
     if has_code method then method_notes policy mode method (list_at frames 0) ∷ class_notes policy mode methods (drop 1 frames)
     else class_notes policy mode methods frames
 
--- the classes, and behind them conspec/State, which has no method
+-- the classes, and after them conspec/State, which has no method
 abbrev pub notes_of : Policy → Mode → List LinkedClass → List (List (List (Option FrameType))) → List (List (List Note))
 notes_of policy mode [] frames = [] ∷ []
 notes_of policy mode (class ∷ classes) frames =

@@ -1,4 +1,4 @@
--- A typing as a certificate tells it: of each frame the locals without the Tops behind the last other type, and no frame for
+-- A typing as a certificate tells it: of each frame the locals without the Tops after the last other type, and no frame for
 -- which the method has no room. (docs/CERTIFICATES.md)
 use Rattle.std.specs.Prelude.{◌&&◌, nat_le, Bool, if◌then◌else◌, List, [], ◌∷◌, drop, length, map, Option, Some, None, option_and_then, ⊤}
 use Rattle.std.specs.List.{AllByRecursion}
@@ -21,7 +21,7 @@ abbrev pub before_others : VType → List VType → List VType
 before_others types.Top [] = []
 before_others t others = t ∷ others
 
--- the types without the Tops behind the last other type
+-- the types without the Tops after the last other type
 abbrev pub trimmed : List VType → List VType
 trimmed [] = []
 trimmed (t ∷ list) = before_others t (trimmed list)

@@ -25,7 +25,7 @@ pub fn lock_note(policy: &Policy, call: Called, phase: Phase, pushed: bool) -> N
     }
 }
 
-/// Where the lock is to be left, behind a check or where none was made.
+/// Where the lock is to be left, after a check or where none was made.
 pub fn unlock_note(policy: &Policy, call: Called, phase: Phase, checked: bool, pushed: bool) -> Note
     ensures { result ≡ unlock_note policy.now call phase checked pushed }
 {

@@ -6,7 +6,7 @@ ghost use Rattle.cert_maker.specs.Noting.{certificate_of, class_notes, notes_of}
 
 use crate::methods::method_notes;
 use block_template::PolicyItems;
-use bytecode_model::{LinkedClass, Method, behind_first, list_at};
+use bytecode_model::{LinkedClass, Method, after_first, list_at};
 use cert_format::{Certificate, FrameType, Mode, Note, Typing};
 use conspec_automaton::Policy;
 use mon_base::{List, NoMemory};
@@ -49,7 +49,7 @@ fn notes_of(
         let one = class_notes(alloc, items, methods, list_at(frames, 0))?;
         notes.push(one)?;
         classes = later;
-        frames = behind_first(frames);
+        frames = after_first(frames);
     }
     notes.push(List::new(alloc))?;
     Ok(notes)
@@ -72,7 +72,7 @@ fn class_notes(
         if !method.insns.is_empty() {
             let one = method_notes(alloc, items, method, list_at(frames, 0))?;
             notes.push(one)?;
-            frames = behind_first(frames);
+            frames = after_first(frames);
         }
         methods = later;
     }

@@ -6,7 +6,7 @@ ghost use Rattle.cert_format.specs.declared.note.Note.TheVariants.{Free};
 ghost use Rattle.conspec_automaton.specs.Sound.{IsPolicy};
 ghost use Rattle.block_template.specs.Blocks.{bools_of, clauses_of, items};
 ghost use Rattle.block_template.specs.declared.item.Item.{Item as SpecItem};
-ghost use Rattle.cert_maker.specs.Noting.{block_notes, if_framed, method_notes, note_of, part_notes, parts_notes, where_framed};
+ghost use Rattle.cert_maker.specs.Noting.{block_notes, if_typed, method_notes, note_of, part_notes, parts_notes, where_typed};
 
 use crate::called::Called;
 use crate::notes::note_of;
@@ -32,7 +32,7 @@ pub fn method_notes(
     let mut left = frames;
     while let [target, others @ ..] = refs {
         let count = put_part(alloc, &mut notes, items, method.max_locals, target, left)?;
-        left = behind(left, count);
+        left = following(left, count);
         refs = others;
     }
     Ok(notes)
@@ -49,7 +49,7 @@ fn put_part(
 ) -> Result<usize, NoMemory>
     requires policy { IsPolicy items.now.policy }
     ensures notes { OnOk result (notes.new
-        ≡ notes.old ++ where_framed (part_notes items.now.policy items.now.mode base target.now) frames.now) }
+        ≡ notes.old ++ where_typed (part_notes items.now.policy items.now.mode base target.now) frames.now) }
     ensures count { IfOk result (λ count. count ≡ length (part_notes items.now.policy items.now.mode base target.now)) }
 {
     match target {
@@ -73,7 +73,7 @@ fn put_call(
 ) -> Result<usize, NoMemory>
     requires policy { IsPolicy items.now.policy }
     ensures notes { OnOk result (notes.new ≡ notes.old
-        ++ where_framed (part_notes items.now.policy items.now.mode call.base (target.ApiMethod call.callee)) frames.now) }
+        ++ where_typed (part_notes items.now.policy items.now.mode call.base (target.ApiMethod call.callee)) frames.now) }
     ensures count { IfOk result (λ count. count
         ≡ length (part_notes items.now.policy items.now.mode call.base (target.ApiMethod call.callee))) }
 {
@@ -88,7 +88,7 @@ fn put_call(
 
 /// Appends the note of an instruction without a block.
 fn put_alone(notes: &mut List<Note>, frames: &[Option<FrameType>]) -> Result<usize, NoMemory>
-    ensures notes { OnOk result (notes.new ≡ notes.old ++ where_framed (Free ∷ []) frames.now) }
+    ensures notes { OnOk result (notes.new ≡ notes.old ++ where_typed (Free ∷ []) frames.now) }
     ensures count { IfOk result (λ count. count ≡ 1) }
 {
     if !frames.is_empty() {
@@ -108,7 +108,7 @@ fn put_items(
 ) -> Result<(), NoMemory>
     requires policy { IsPolicy policy.now }
     ensures { OnOk result (notes.new ≡ notes.old
-        ++ where_framed (map (λ (i : SpecItem). note_of policy.now call i.role) items.now) frames.now) }
+        ++ where_typed (map (λ (i : SpecItem). note_of policy.now call i.role) items.now) frames.now) }
 {
     let mut items = items;
     let mut frames = frames;
@@ -116,7 +116,7 @@ fn put_items(
         let [frame, later @ ..] = frames else {
             return Ok(());
         };
-        let one = framed_note(alloc, policy, call, item.role, frame)?;
+        let one = typed_note(alloc, policy, call, item.role, frame)?;
         notes.push(one)?;
         items = others;
         frames = later;
@@ -125,7 +125,7 @@ fn put_items(
 }
 
 /// The note of an instruction of this role; one without a frame is not reached.
-fn framed_note(
+fn typed_note(
     alloc: Global,
     policy: &Policy,
     call: Called,
@@ -133,7 +133,7 @@ fn framed_note(
     frame: &Option<FrameType>,
 ) -> Result<Note, NoMemory>
     requires policy { IsPolicy policy.now }
-    ensures { IfOk result (λ note. note ≡ if_framed frame.now (note_of policy.now call role)) }
+    ensures { IfOk result (λ note. note ≡ if_typed frame.now (note_of policy.now call role)) }
 {
     match frame {
         None => Ok(Note::Free),
@@ -141,8 +141,8 @@ fn framed_note(
     }
 }
 
-/// The frames behind so many.
-fn behind(frames: &[Option<FrameType>], count: usize) -> &[Option<FrameType>]
+/// The frames after so many.
+fn following(frames: &[Option<FrameType>], count: usize) -> &[Option<FrameType>]
     ensures { result.now ≡ drop count frames.now }
 {
     if count < frames.len() {

@@ -79,7 +79,7 @@ fn called_note(policy: &Policy, call: Called, locked: bool) -> Note
     granted(call, locked, loaded)
 }
 
-/// Behind the call, before its result is kept.
+/// After the call, before its result is kept.
 fn kept_note(call: Called, locked: bool) -> Note
     ensures { result ≡ Owed (site_of call After) (if locked then 1 else 0) false false }
 {

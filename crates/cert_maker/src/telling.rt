@@ -164,7 +164,7 @@ fn has_room(method: &Method, frame: &FrameType) -> bool
         && frame.stack.len() <= method.max_stack as usize
 }
 
-/// The types without the Tops behind the last other type.
+/// The types without the Tops after the last other type.
 fn trimmed(types: &[VType]) -> &[VType]
     ensures is { result.now ≡ trimmed types.now }
     ensures last { ends_with_top result.now ≡ false }

@@ -1,4 +1,4 @@
--- Class files are read exactly as they are spelled.
+-- Class files are read exactly as they are encoded.
 use Rattle.std.proofs.Common.{◌≡◌, ℕ, ◌<◌, ◌≤◌, true, false, List, [], ◌∷◌, ◌++◌, length, Result, Ok, Err, refl, sym, ap, subst, ◌∙◌, arith}
 use Rattle.std.specs.Prelude.{◌==◌, nat_le, IfOk}
 use Rattle.std.proofs.lemmas.Bool.{false≢true}
@@ -13,9 +13,9 @@ use Rattle.class_codec.specs.declared.pool.ConstKind.TheVariants as kinds
 use Rattle.class_codec.specs.declared.tree.Const.{Const}
 use Rattle.class_codec.specs.declared.tree.ClassFile.{ClassFile}
 use Rattle.class_codec.specs.Pool.{names}
-use Rattle.class_codec.specs.Spelling as spelling
+use Rattle.class_codec.specs.Encoding as encoding
 use Rattle.mon_base.specs.Widths.{IsU2, u2, u4}
-use Rattle.class_codec.specs.Fits.{IsIndex, FitCounted, FitsAttr, FitsMember, CanSpell, SpellsClass}
+use Rattle.class_codec.specs.Fits.{IsIndex, FitCounted, FitsAttr, FitsMember, IsEncodable, EncodesClass}
 use Rattle.class_codec.specs.Reading.{u2_at, head_at, body_at, file_at, class_of}
 use Rattle.class_codec.proofs.Numbers.{u2_is, u4_is, index_is, counted_is}
 use Rattle.class_codec.proofs.PoolLaws.{IsPool, pool_is, whole_pool, pool_whole}
@@ -45,7 +45,7 @@ record FitsBody (pool : List Const) (f : ClassFile) : Type 0 where
   attrs : FitCounted (FitsAttr pool false) f.attrs
 
 body_is : (minor : ℕ) (pool : List Const)
-    → IsTail (body_at minor pool) spelling.body (FitsBody pool) (λ f. (Unit {0} × (f.minor ≡ minor)) × (f.pool ≡ pool))
+    → IsTail (body_at minor pool) encoding.body (FitsBody pool) (λ f. (Unit {0} × (f.minor ≡ minor)) × (f.pool ≡ pool))
 unfolding body_at
 body_is minor pool = said (then {known = λ f. (Unit {0} × (f.minor ≡ minor)) × (f.pool ≡ pool)} _ u2_is (λ f. f.flags) (λ f k. tt)
     (λ flags k. then _ (index_is kinds.Class pool) (λ f. f.this_class) (λ f k. tt)
@@ -69,7 +69,7 @@ unfolding names
 some_place [] index e = absurd (false≢true e)
 some_place (c ∷ pool) index e = omega arith
 
-class_fits : (f : ClassFile) → IsU2 f.minor → IsPool f.pool → FitsBody f.pool f → CanSpell f
+class_fits : (f : ClassFile) → IsU2 f.minor → IsPool f.pool → FitsBody f.pool f → IsEncodable f
 class_fits f minor pool h = record {
   minor = minor;
   pool = whole_pool f.pool (some_place f.pool f.this_class h.this_class.named) pool;
@@ -82,7 +82,7 @@ class_fits f minor pool h = record {
   attrs = h.attrs;
 }
 
-fits_class : (f : ClassFile) → CanSpell f → FitsBody f.pool f
+fits_class : (f : ClassFile) → IsEncodable f → FitsBody f.pool f
 fits_class f h = record {
   flags = h.flags;
   this_class = h.this_class;
@@ -93,7 +93,7 @@ fits_class f h = record {
   attrs = h.attrs;
 }
 
-class_is : IsReader file_at spelling.spelling CanSpell
+class_is : IsReader file_at encoding.encoding IsEncodable
 unfolding file_at
 class_is = said (then {known = λ _. Unit {0}} _ head_is (λ f. f.minor) (λ f k. tt)
     (λ minor k. then _ pool_is (λ f. f.pool) (λ f k. tt)
@@ -103,14 +103,14 @@ class_is = said (then {known = λ _. Unit {0}} _ head_is (λ f. f.minor) (λ f k
     (λ f h k. (class_fits f h.0 h.1.0 h.1.1, tt))
     (λ f h k. ((h.minor, (pool_whole f.pool h.pool, fits_class f h)), tt))
 
-class_takes : (bytes : List ℕ) (f : ClassFile) → IsBytes bytes → class_of bytes ≡ Ok f → SpellsClass bytes f
+class_takes : (bytes : List ℕ) (f : ClassFile) → IsBytes bytes → class_of bytes ≡ Ok f → EncodesClass bytes f
 unfolding class_of
 class_takes bytes f fits e =
     let b = need_ok (nat_le (length bytes) 1048576) (TooLong (length bytes)) (λ _. whole file_at (λ p. Tail p.at) bytes) f e in
     let t = whole_takes class_is (λ p. Tail p.at) bytes f fits b.1 in
     record { is = t.0; fits = t.1 }
 
-class_again : (bytes : List ℕ) (f : ClassFile) → SpellsClass bytes f → length bytes ≤ 1048576 → class_of bytes ≡ Ok f
+class_again : (bytes : List ℕ) (f : ClassFile) → EncodesClass bytes f → length bytes ≤ 1048576 → class_of bytes ≡ Ok f
 unfolding class_of
 class_again bytes f h short =
     let t = whole_again class_is (λ p. Tail p.at) f h.fits in
@@ -118,19 +118,19 @@ class_again bytes f h short =
     rw (b, h.is) t
 
 pub is_found : (bytes : List ℕ) (r : Result ClassFile ClassFault) → IsBytes bytes → Answers Memory r (class_of bytes)
-    → IfOk r (λ f. SpellsClass bytes f)
+    → IfOk r (λ f. EncodesClass bytes f)
 is_found bytes (Ok f) fits given = class_takes bytes f fits given
 is_found bytes (Err e) fits given = tt
 
-pub is_only : (bytes : List ℕ) (r : Result ClassFile ClassFault) (f : ClassFile) → Answers Memory r (class_of bytes) → SpellsClass bytes f
+pub is_only : (bytes : List ℕ) (r : Result ClassFile ClassFault) (f : ClassFile) → Answers Memory r (class_of bytes) → EncodesClass bytes f
     → length bytes ≤ 1048576 → Answers Memory r (Ok f)
 is_only bytes r f given h short = subst (λ (read : Result ClassFile ClassFault). Answers Memory r read) (class_again bytes f h short) given
 
-pub same_tree : (bytes : List ℕ) (f g : ClassFile) → SpellsClass bytes f → SpellsClass bytes g → f ≡ g
-same_tree bytes f g spells_f spells_g =
-    let one = whole_again class_is (λ p. Tail p.at) f spells_f.fits in
-    let two = whole_again class_is (λ p. Tail p.at) g spells_g.fits in
-    let same : spelling.spelling f ≡ spelling.spelling g = sym spells_f.is ∙ spells_g.is in
+pub same_tree : (bytes : List ℕ) (f g : ClassFile) → EncodesClass bytes f → EncodesClass bytes g → f ≡ g
+same_tree bytes f g encodes_f encodes_g =
+    let one = whole_again class_is (λ p. Tail p.at) f encodes_f.fits in
+    let two = whole_again class_is (λ p. Tail p.at) g encodes_g.fits in
+    let same : encoding.encoding f ≡ encoding.encoding g = sym encodes_f.is ∙ encodes_g.is in
     ok_is ClassFault f g (sym one ∙ ap (λ (b : List ℕ). whole file_at (λ p. Tail p.at) b) same ∙ two)
 
 pub is_long : (bytes : List ℕ) (r : Result ClassFile ClassFault) → Answers Memory r (class_of bytes) → 1048576 < length bytes

@@ -9,7 +9,7 @@ use Rattle.mon_base.proofs.Lists.{front_is}
 use Rattle.class_codec.specs.declared.fault.ClassFault.{ClassFault}
 use Rattle.class_codec.specs.declared.fault.ClassFault.TheVariants.{Memory}
 use Rattle.class_codec.specs.declared.tree.Const.{Const}
-use Rattle.class_codec.specs.Spelling.{constant}
+use Rattle.class_codec.specs.Encoding.{constant}
 use Rattle.class_codec.specs.Fits.{takes_two}
 use Rattle.class_codec.specs.Reading.{Read, place_at, places_at, constant_checked, all_checked}
 

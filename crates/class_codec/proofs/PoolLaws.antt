@@ -1,4 +1,4 @@
--- The constant pool is read exactly as it is spelled.
+-- The constant pool is read exactly as it is encoded.
 use Rattle.std.proofs.Common.{◌≡◌, ℕ, zero, suc, ◌+◌, ◌<◌, ◌≤◌, Bool, true, false, cond, not, eqb, ltb, List, [], ◌∷◌, ◌++◌, length, Option, Some, None, Ok, refl, sym, ap, subst, ◌∙◌, append_assoc, arith, ℤ, FitsSigned}
 use Rattle.std.specs.Prelude.{◌&&◌, nat_le, nat_lt, position}
 use Rattle.std.specs.Int.{w32, w64, cast_signed, cast_unsigned}
@@ -8,7 +8,7 @@ use Rattle.std.proofs.lemmas.Bool.Decides.{nat_tests}
 use Rattle.std.proofs.lemmas.Int.{of_z-to_z, to_z-of_z}
 use Rattle.std.proofs.lemmas.List.{length-append}
 use Rattle.mon_base.specs.Reading.{Place, IsBytes, ◌>>=◌}
-use Rattle.mon_base.proofs.Reading.{bind_ok, ok_is, need_holds, holds_need, after, Took, Took-then, IsTail, IsReader, then_from, then, said, last, done, guard, choose, refuse, spelled_where}
+use Rattle.mon_base.proofs.Reading.{bind_ok, ok_is, need_holds, holds_need, after, Took, Took-then, IsTail, IsReader, then_from, then, said, last, done, guard, choose, refuse, encoded_where}
 use Rattle.mon_base.proofs.Readers.{checked, wrapped, pair_is, signed_fits, unsigned_fits}
 use Rattle.class_codec.specs.declared.fault.ClassFault.{ClassFault}
 use Rattle.class_codec.specs.declared.fault.ClassFault.TheVariants.{Index, Tag}
@@ -17,7 +17,7 @@ use Rattle.class_codec.specs.declared.pool.ConstKind.TheVariants as kinds
 use Rattle.class_codec.specs.declared.tree.Const.{Const}
 use Rattle.class_codec.specs.declared.tree.Const.TheVariants.{Utf8, Integer, Float, Long, Double, Class, Str, Field, Method, IMethod, NameAndType, Second}
 use Rattle.class_codec.specs.Pool.{names}
-use Rattle.class_codec.specs.Spelling as spelling
+use Rattle.class_codec.specs.Encoding as encoding
 use Rattle.mon_base.specs.Widths.{IsU2, IsU8, u1, u2, u4, u8}
 use Rattle.class_codec.specs.Fits.{IsTextByte, FitsConst, is_second, takes_two, HasSeconds, IsNamed, FitsPool}
 use Rattle.class_codec.specs.Reading.{Read, u2_at, u4_at, is_no_text_byte, text_checked, text_at, pair_at, wide_at, of_pair, payload_at, constant_at, place_at, places_at, index_checked, pair_checked, constant_checked, all_checked, pool_at}
@@ -197,8 +197,8 @@ no_room : (left : ℕ) → false ≡ true → 0 < left
 no_room left e = absurd cc
 
 -- one form of a constant of one place, which is what follows its tag
-one_place : {X : Type 0} {reader : Place → Read X} {spell_x : X → List ℕ} {Fits_x : X → Type 0} (wrap : X → Const) (n : ℕ) → IsReader reader spell_x Fits_x
-    → ((x : X) → (spell_x x ≡ payload (wrap x)) × (tag_of (wrap x) ≡ n) × (is_second (wrap x) ≡ false) × (takes_two (wrap x) ≡ false))
+one_place : {X : Type 0} {reader : Place → Read X} {encode_x : X → List ℕ} {Fits_x : X → Type 0} (wrap : X → Const) (n : ℕ) → IsReader reader encode_x Fits_x
+    → ((x : X) → (encode_x x ≡ payload (wrap x)) × (tag_of (wrap x) ≡ n) × (is_second (wrap x) ≡ false) × (takes_two (wrap x) ≡ false))
     → ((x : X) → Fits_x x → FitsConst (wrap x)) → ((x : X) → FitsConst (wrap x) → Fits_x x)
     → ((c : Const) → tag_of c ≡ n → (x : X) × (wrap x ≡ c))
     → (left tag : ℕ) → tag ≡ n → IsPayload left tag (λ p. reader p >>= λ x. Ok (wrap x.0, x.1))
@@ -332,7 +332,7 @@ tag_small (IMethod class name) = omega arith
 tag_small (NameAndType name desc) = omega arith
 tag_small Second = omega arith
 
-tagged_is : (c : Const) → is_second c ≡ false → u1 (tag_of c) ++ payload c ≡ spelling.constant c
+tagged_is : (c : Const) → is_second c ≡ false → u1 (tag_of c) ++ payload c ≡ encoding.constant c
 tagged_is (Utf8 bytes) e = refl
 tagged_is (Integer n) e = refl
 tagged_is (Float bits) e = refl
@@ -346,10 +346,10 @@ tagged_is (IMethod class name) e = refl
 tagged_is (NameAndType name desc) e = refl
 tagged_is Second e = absurd (false≢true (sym e))
 
-constant_is : (left : ℕ) → IsReader (constant_at left) spelling.constant (Stands left)
+constant_is : (left : ℕ) → IsReader (constant_at left) encoding.constant (Stands left)
 unfolding constant_at
-constant_is left = spelled_where {spell = λ c. u1 (tag_of c) ++ payload c} (said
-    (then_from {spell = payload} {Fits = Stands left} {known = λ _. Unit {0}} (λ place tag. payload_at place.at left tag.0 tag.1) u1_is tag_of (λ c k. tt)
+constant_is left = encoded_where {encode = λ c. u1 (tag_of c) ++ payload c} (said
+    (then_from {encode = payload} {Fits = Stands left} {known = λ _. Unit {0}} (λ place tag. payload_at place.at left tag.0 tag.1) u1_is tag_of (λ c k. tt)
     (λ place tag k. payload_is place.at left tag))
     (λ c f k. (f.1, tt))
     (λ c f k. ((tag_small c, f), tt)))
@@ -361,12 +361,12 @@ second_is : (c : Const) → is_second c ≡ true → c ≡ Second
 second_is Second e = refl
 second_is c e = absurd (false≢true e)
 
-second_at : (left : ℕ) → IsReader (place_at true left) spelling.constant (StandsAt true left)
+second_at : (left : ℕ) → IsReader (place_at true left) encoding.constant (StandsAt true left)
 unfolding place_at
-second_at left = said (spelled_where {spell = λ c. []} (done {known = λ c. c ≡ Second} Second refl (λ c k. k)) (λ c f k. sym (ap spelling.constant k)))
+second_at left = said (encoded_where {encode = λ c. []} (done {known = λ c. c ≡ Second} Second refl (λ c k. k)) (λ c f k. sym (ap encoding.constant k)))
     (λ c f k. (subst (StandsAt true left) (sym k) (record { fits = tt; first = refl; room = λ e. no_room left e }), tt)) (λ c f k. (tt, second_is c f.first))
 
-place_is : (second : Bool) (left : ℕ) → IsReader (place_at second left) spelling.constant (StandsAt second left)
+place_is : (second : Bool) (left : ℕ) → IsReader (place_at second left) encoding.constant (StandsAt second left)
 unfolding place_at
 place_is true left = second_at left
 place_is false left = constant_is left
@@ -389,40 +389,40 @@ has_due second (c ∷ cs) h =
 
 places_takes : (second : Bool) (n : ℕ) (place : Place) (xs : List Const) (next : Place) → IsBytes place.rest
     → places_at second n place ≡ Ok (xs, next)
-    → Took place (flat_map spelling.constant xs) next × (Due second xs × AllByRecursion FitsConst xs) × (length xs ≡ n)
+    → Took place (flat_map encoding.constant xs) next × (Due second xs × AllByRecursion FitsConst xs) × (length xs ≡ n)
 unfolding places_at
 places_takes second zero place xs next fits e =
-    subst (λ (y : List Const × Place). Took place (flat_map spelling.constant y.0) y.1 × (Due second y.0 × AllByRecursion FitsConst y.0) × (length y.0 ≡ 0)) (ok_is ClassFault ([], place) (xs, next) e) (record { parts = refl; moved = omega arith; fits = fits }, (tt, tt), refl)
+    subst (λ (y : List Const × Place). Took place (flat_map encoding.constant y.0) y.1 × (Due second y.0 × AllByRecursion FitsConst y.0) × (length y.0 ≡ 0)) (ok_is ClassFault ([], place) (xs, next) e) (record { parts = refl; moved = omega arith; fits = fits }, (tt, tt), refl)
 places_takes second (suc n) place xs next fits e =
     let a = bind_ok (place_at second n place) (λ first. places_at (takes_two first.0) n first.1 >>= λ others. Ok (first.0 ∷ others.0, others.1)) (xs, next) e in
     let b = bind_ok (places_at (takes_two a.0.0) n a.0.1) (λ others. Ok (a.0.0 ∷ others.0, others.1)) (xs, next) a.2 in
     let first = (place_is second n).takes place a.0.0 a.0.1 fits a.1 in
     let others = places_takes (takes_two a.0.0) n a.0.1 b.0.0 b.0.1 first.0.fits b.1 in
-    let both = Took-then place (spelling.constant a.0.0) a.0.1 (flat_map spelling.constant b.0.0) b.0.1 first.0 others.0 in
+    let both = Took-then place (encoding.constant a.0.0) a.0.1 (flat_map encoding.constant b.0.0) b.0.1 first.0 others.0 in
     let room : takes_two a.0.0 ≡ true → 0 < length b.0.0 = λ two. let h = first.1.room two in omega (arith, others.2, h) in
     let made : List Const × Place = (a.0.0 ∷ b.0.0, b.0.1) in
-    subst (λ (y : List Const × Place). Took place (flat_map spelling.constant y.0) y.1 × (Due second y.0 × AllByRecursion FitsConst y.0) × (length y.0 ≡ suc n)) (ok_is ClassFault made (xs, next) b.2) (both, ((first.1.first, room, others.1.0), (first.1.fits, others.1.1)), ap suc others.2)
+    subst (λ (y : List Const × Place). Took place (flat_map encoding.constant y.0) y.1 × (Due second y.0 × AllByRecursion FitsConst y.0) × (length y.0 ≡ suc n)) (ok_is ClassFault made (xs, next) b.2) (both, ((first.1.first, room, others.1.0), (first.1.fits, others.1.1)), ap suc others.2)
 
 places_again : (xs : List Const) (second : Bool) (place : Place) (rest : List ℕ) → Due second xs → AllByRecursion FitsConst xs
-    → place.rest ≡ flat_map spelling.constant xs ++ rest
-    → places_at second (length xs) place ≡ Ok (xs, after place (flat_map spelling.constant xs) rest)
+    → place.rest ≡ flat_map encoding.constant xs ++ rest
+    → places_at second (length xs) place ≡ Ok (xs, after place (flat_map encoding.constant xs) rest)
 unfolding places_at
 places_again [] second place rest due fits e =
     let n : place.at + 0 ≡ place.at = omega arith in
     rw (n, ← e) refl
 places_again (x ∷ xs) second place rest due fits e =
-    let mid = after place (spelling.constant x) (flat_map spelling.constant xs ++ rest) in
-    let one = (place_is second (length xs)).again place x (flat_map spelling.constant xs ++ rest) (record { fits = fits.0; first = due.0; room = due.1 }) tt (e ∙ append_assoc (spelling.constant x) (flat_map spelling.constant xs) rest) in
+    let mid = after place (encoding.constant x) (flat_map encoding.constant xs ++ rest) in
+    let one = (place_is second (length xs)).again place x (flat_map encoding.constant xs ++ rest) (record { fits = fits.0; first = due.0; room = due.1 }) tt (e ∙ append_assoc (encoding.constant x) (flat_map encoding.constant xs) rest) in
     let two = places_again xs (takes_two x) mid rest due.2 fits.1 refl in
-    let far : place.at + length (spelling.constant x) + length (flat_map spelling.constant xs) ≡ place.at + length (spelling.constant x ++ flat_map spelling.constant xs) = omega (arith, length-append (spelling.constant x) (flat_map spelling.constant xs)) in
+    let far : place.at + length (encoding.constant x) + length (flat_map encoding.constant xs) ≡ place.at + length (encoding.constant x ++ flat_map encoding.constant xs) = omega (arith, length-append (encoding.constant x) (flat_map encoding.constant xs)) in
     rw (one, two, far) refl
 
-places_is : (second : Bool) (n : ℕ) → IsTail (places_at second n) (λ xs. flat_map spelling.constant xs) (λ xs. Due second xs
+places_is : (second : Bool) (n : ℕ) → IsTail (places_at second n) (λ xs. flat_map encoding.constant xs) (λ xs. Due second xs
     × AllByRecursion FitsConst xs) (λ xs. length xs ≡ n)
 places_is second n = record {
   takes = λ place xs next fits e. places_takes second n place xs next fits e;
   again = λ place xs rest fits h e.
-      subst (λ (k : ℕ). places_at second k place ≡ Ok (xs, after place (flat_map spelling.constant xs) rest)) h (places_again xs second place rest fits.0 fits.1 e);
+      subst (λ (k : ℕ). places_at second k place ≡ Ok (xs, after place (flat_map encoding.constant xs) rest)) h (places_again xs second place rest fits.0 fits.1 e);
 }
 
 -- ---- indices
@@ -469,13 +469,13 @@ all_named : (pool cs : List Const) (at : ℕ) → all_checked pool cs at ≡ Ok 
 unfolding all_checked
 all_named pool [] at e = tt
 all_named pool (c ∷ cs) at e =
-    let b = bind_ok (constant_checked pool c at) (λ _. all_checked pool cs (at + length (spelling.constant c))) tt e in
-    (constant_named pool c at b.1, all_named pool cs (at + length (spelling.constant c)) b.2)
+    let b = bind_ok (constant_checked pool c at) (λ _. all_checked pool cs (at + length (encoding.constant c))) tt e in
+    (constant_named pool c at b.1, all_named pool cs (at + length (encoding.constant c)) b.2)
 
 named_all : (pool cs : List Const) (at : ℕ) → AllByRecursion (IsNamed pool) cs → all_checked pool cs at ≡ Ok tt
 unfolding all_checked
 named_all pool [] at h = refl
-named_all pool (c ∷ cs) at h = rw (named_constant pool c at h.0) (named_all pool cs (at + length (spelling.constant c)) h.1)
+named_all pool (c ∷ cs) at h = rw (named_constant pool c at h.0) (named_all pool cs (at + length (encoding.constant c)) h.1)
 
 -- ---- the pool
 
@@ -486,7 +486,7 @@ pub record IsPool (pool : List Const) : Type 0 where
   pub due : Due true pool
   pub named : AllByRecursion (IsNamed pool) pool
 
-pub pool_is : IsReader pool_at (spelling.with_count spelling.constant) IsPool
+pub pool_is : IsReader pool_at (encoding.with_count encoding.constant) IsPool
 unfolding pool_at
 pool_is = said (then {Fits = λ cs. (Due true cs × AllByRecursion FitsConst cs) × AllByRecursion (IsNamed cs) cs} {known = λ _. Unit {0}} _ u2_is length (λ a k. tt)
     (λ n k. checked (λ cs. AllByRecursion (IsNamed cs) cs) (λ p cs. all_checked cs cs p.at) (last (places_is true n))

@@ -15,7 +15,7 @@ use Rattle.class_codec.specs.declared.tree.Attr.TheVariants as attributes
 use Rattle.class_codec.specs.declared.tree.Member.{Member}
 use Rattle.class_codec.specs.declared.tree.ClassFile.{ClassFile}
 use Rattle.class_codec.specs.Pool.{names, utf8_at, is_code}
-use Rattle.class_codec.specs.Spelling.{contents, spelling}
+use Rattle.class_codec.specs.Encoding.{contents, encoding}
 
 -- two bytes count the items, and each fits
 pub record FitCounted {X : Type 0} (FitsItem : X → Type 0) (items : List X) : Type 0 where
@@ -120,7 +120,7 @@ pub record FitsMember (pool : List Const) (of_method : Bool) (m : Member) : Type
   pub desc : IsIndex kinds.Utf8 pool m.desc
   pub attrs : FitCounted (FitsAttr pool of_method) m.attrs
 
-pub record CanSpell (f : ClassFile) : Type 0 where
+pub record IsEncodable (f : ClassFile) : Type 0 where
   pub minor : IsU2 f.minor
   pub pool : FitsPool f.pool
   pub flags : IsU2 f.flags
@@ -132,6 +132,6 @@ pub record CanSpell (f : ClassFile) : Type 0 where
   pub attrs : FitCounted (FitsAttr f.pool false) f.attrs
 
 -- The bytes are those of the class file.
-pub record SpellsClass (bytes : List ℕ) (f : ClassFile) : Type 0 where
-  pub fits : CanSpell f
-  pub is : bytes ≡ spelling f
+pub record EncodesClass (bytes : List ℕ) (f : ClassFile) : Type 0 where
+  pub fits : IsEncodable f
+  pub is : bytes ≡ encoding f

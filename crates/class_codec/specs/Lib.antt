@@ -1,4 +1,4 @@
 pub mod Pool
-pub mod Spelling
+pub mod Encoding
 pub mod Fits
 pub mod Reading

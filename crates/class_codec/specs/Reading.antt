@@ -17,7 +17,7 @@ use Rattle.class_codec.specs.declared.tree.Attr.TheVariants as attributes
 use Rattle.class_codec.specs.declared.tree.Member.{Member}
 use Rattle.class_codec.specs.declared.tree.ClassFile.{ClassFile}
 use Rattle.class_codec.specs.Pool.{names}
-use Rattle.class_codec.specs.Spelling.{constant}
+use Rattle.class_codec.specs.Encoding.{constant}
 use Rattle.class_codec.specs.Fits.{takes_two, is_read_as_code}
 
 -- What the reader of X answers: the value and the place after it, or the fault.

@@ -2,7 +2,7 @@
 
 ghost use Rattle.std.specs.Prelude.{◌≡◌, ◌+◌, ◌-◌, ◌<◌, ◌≤◌, ◌^◌, true, length, position, IfSome, IfOk, OnOk};
 ghost use Rattle.std.specs.List.{flat_map};
-ghost use Rattle.class_codec.specs.Spelling.{constant};
+ghost use Rattle.class_codec.specs.Encoding.{constant};
 ghost use Rattle.class_codec.specs.Fits.{takes_two};
 ghost use Rattle.mon_base.specs.Answer.{Reads, ReadsAs, Answers};
 ghost use Rattle.class_codec.specs.Reading.{is_no_text_byte, text_checked, text_at, pair_at};

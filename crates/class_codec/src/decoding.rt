@@ -2,7 +2,7 @@
 
 ghost use Rattle.std.specs.Prelude.{◌≡◌, ◌<◌, ◌≤◌, length, Ok, Err, IfOk};
 ghost use Rattle.class_codec.specs.declared.fault.ClassFault.TheVariants.{TooLong};
-ghost use Rattle.class_codec.specs.Fits.{SpellsClass};
+ghost use Rattle.class_codec.specs.Fits.{EncodesClass};
 ghost use Rattle.mon_base.specs.Answer.{Reads, Answers};
 ghost use Rattle.class_codec.specs.Reading.{head_at, body_at, file_at, class_of};
 
@@ -98,10 +98,10 @@ fn all(alloc: Global, bytes: &[u8]) -> Result<ClassFile, ClassFault>
 
 /// The class file that the bytes are. The faults are those of [`ClassFault`], the first in the order of reading.
 pub fn decode(alloc: Global, bytes: &[u8]) -> Result<ClassFile, ClassFault>
-    // What is read is spelled so.
-    ensures found { IfOk result (λ file. SpellsClass bytes.now file) }
-    // What is spelled so is read, unless memory runs out.
-    ensures only { (file : ClassFile) → SpellsClass bytes.now file → length bytes.now ≤ 1048576
+    // What is read is encoded so.
+    ensures found { IfOk result (λ file. EncodesClass bytes.now file) }
+    // What is encoded so is read, unless memory runs out.
+    ensures only { (file : ClassFile) → EncodesClass bytes.now file → length bytes.now ≤ 1048576
         → Answers ClassFault.Memory result (Ok file) }
     // More bytes than a class file may have are refused before all else.
     ensures too_long { 1048576 < length bytes.now → Answers ClassFault.Memory result (Err (TooLong (length bytes.now))) }

@@ -3,9 +3,9 @@
 ghost use Rattle.std.specs.Prelude.{◌≡◌, ℕ, List, ◌++◌, ◌∷◌, [], length, OnOk, IfOk};
 ghost use Rattle.std.specs.List.{flat_map};
 ghost use Rattle.mon_base.specs.Widths.{u1, u2, u4, u8};
-ghost use Rattle.class_codec.specs.Spelling.{block, with_count, constant, table_entry, other};
-ghost use Rattle.class_codec.specs.Spelling.{contents, attribute, member, body, spelling};
-ghost use Rattle.class_codec.specs.Fits.{CanSpell, SpellsClass};
+ghost use Rattle.class_codec.specs.Encoding.{block, with_count, constant, table_entry, other};
+ghost use Rattle.class_codec.specs.Encoding.{contents, attribute, member, body, encoding};
+ghost use Rattle.class_codec.specs.Fits.{IsEncodable, EncodesClass};
 ghost use Rattle.class_codec.specs.declared.tree.ClassFile.{ClassFile};
 
 use crate::tree::{Attr, ClassFile, Code, Const, Member, Other, TableEntry};
@@ -49,20 +49,20 @@ fn put_block(out: &mut Bytes, bytes: &[u8]) -> Result<(), NoMemory>
 }
 
 /// What is counted in a class file.
-trait Spelled {
+trait Encoded {
     ghost use Rattle.std.specs.Prelude.{ℕ, List};
 
     /// Its bytes.
-    ghost spelled: { Self → List ℕ };
+    ghost encoded: { Self → List ℕ };
 
     /// Appends its bytes.
     fn put(&self, alloc: Global, out: &mut Bytes) -> Result<(), NoMemory>
-        ensures { OnOk result (out.new ≡ out.old ++ spelled self.now) };
+        ensures { OnOk result (out.new ≡ out.old ++ encoded self.now) };
 }
 
 /// Appends two bytes of count, and the items.
-fn put_counted<T: Spelled>(alloc: Global, out: &mut Bytes, items: &[T]) -> Result<(), NoMemory>
-    ensures { OnOk result (out.new ≡ out.old ++ with_count T.spelled items.now) }
+fn put_counted<T: Encoded>(alloc: Global, out: &mut Bytes, items: &[T]) -> Result<(), NoMemory>
+    ensures { OnOk result (out.new ≡ out.old ++ with_count T.encoded items.now) }
 {
     put_u2(out, items.len())?;
     for item in items {
@@ -87,8 +87,8 @@ fn put_pair(out: &mut Bytes, tag: u8, first: u16, second: u16) -> Result<(), NoM
     put_u2(out, second as usize)
 }
 
-impl Spelled for Const {
-    ghost spelled = { constant };
+impl Encoded for Const {
+    ghost encoded = { constant };
 
     fn put(&self, _alloc: Global, out: &mut Bytes) -> Result<(), NoMemory> {
         match self {
@@ -133,16 +133,16 @@ fn put_wide(out: &mut Bytes, tag: u8, bits: u64) -> Result<(), NoMemory>
     put_u8(out, bits)
 }
 
-impl Spelled for u16 {
-    ghost spelled = { u2 };
+impl Encoded for u16 {
+    ghost encoded = { u2 };
 
     fn put(&self, _alloc: Global, out: &mut Bytes) -> Result<(), NoMemory> {
         put_u2(out, *self as usize)
     }
 }
 
-impl Spelled for TableEntry {
-    ghost spelled = { table_entry };
+impl Encoded for TableEntry {
+    ghost encoded = { table_entry };
 
     fn put(&self, _alloc: Global, out: &mut Bytes) -> Result<(), NoMemory> {
         put_u2(out, self.from as usize)?;
@@ -152,8 +152,8 @@ impl Spelled for TableEntry {
     }
 }
 
-impl Spelled for Other {
-    ghost spelled = { other };
+impl Encoded for Other {
+    ghost encoded = { other };
 
     fn put(&self, _alloc: Global, out: &mut Bytes) -> Result<(), NoMemory> {
         put_named(out, self.name, self.bytes.as_slice())
@@ -196,8 +196,8 @@ fn put_named(out: &mut Bytes, name: u16, bytes: &[u8]) -> Result<(), NoMemory>
     put_block(out, bytes)
 }
 
-impl Spelled for Attr {
-    ghost spelled = { attribute };
+impl Encoded for Attr {
+    ghost encoded = { attribute };
 
     fn put(&self, alloc: Global, out: &mut Bytes) -> Result<(), NoMemory> {
         match self {
@@ -207,8 +207,8 @@ impl Spelled for Attr {
     }
 }
 
-impl Spelled for Member {
-    ghost spelled = { member };
+impl Encoded for Member {
+    ghost encoded = { member };
 
     fn put(&self, alloc: Global, out: &mut Bytes) -> Result<(), NoMemory> {
         put_u2(out, self.flags as usize)?;
@@ -233,7 +233,7 @@ fn put_body(alloc: Global, out: &mut Bytes, file: &ClassFile) -> Result<(), NoMe
 
 /// Appends the class file.
 fn put_file(alloc: Global, out: &mut Bytes, file: &ClassFile) -> Result<(), NoMemory>
-    ensures { OnOk result (out.new ≡ out.old ++ spelling file.now) }
+    ensures { OnOk result (out.new ≡ out.old ++ encoding file.now) }
 {
     put_u4(out, 0xCAFE_BABE)?;
     put_u2(out, file.minor as usize)?;
@@ -248,9 +248,9 @@ fn put_file(alloc: Global, out: &mut Bytes, file: &ClassFile) -> Result<(), NoMe
 /// Such a tree is none of a class file.
 pub fn encode(alloc: Global, file: &ClassFile) -> Result<Bytes, NoMemory>
     // The bytes are the tree's.
-    ensures is { IfOk result (λ bytes. bytes ≡ spelling file.now) }
+    ensures is { IfOk result (λ bytes. bytes ≡ encoding file.now) }
     // They are a class file, if the tree is one's.
-    ensures spells { CanSpell file.now → IfOk result (λ bytes. SpellsClass bytes file.now) }
+    ensures encodes { IsEncodable file.now → IfOk result (λ bytes. EncodesClass bytes file.now) }
 {
     let mut out = Bytes::new(alloc);
     put_file(alloc, &mut out, file)?;
@@ -259,6 +259,6 @@ pub fn encode(alloc: Global, file: &ClassFile) -> Result<Bytes, NoMemory>
 
 /// A class file has one tree, and a tree one class file. (Nothing to run: the clauses are laws.)
 pub fn one_tree()
-    ensures tree { (bytes : List ℕ) (f g : ClassFile) → SpellsClass bytes f → SpellsClass bytes g → f ≡ g }
-    ensures file { (a b : List ℕ) (f : ClassFile) → SpellsClass a f → SpellsClass b f → a ≡ b }
+    ensures tree { (bytes : List ℕ) (f g : ClassFile) → EncodesClass bytes f → EncodesClass bytes g → f ≡ g }
+    ensures file { (a b : List ℕ) (f : ClassFile) → EncodesClass a f → EncodesClass b f → a ≡ b }
 {}

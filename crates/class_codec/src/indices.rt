@@ -2,7 +2,7 @@
 
 ghost use Rattle.std.specs.Prelude.{◌≡◌, ◌+◌, ◌<◌, ◌^◌, length};
 ghost use Rattle.std.specs.List.{flat_map};
-ghost use Rattle.class_codec.specs.Spelling.{constant};
+ghost use Rattle.class_codec.specs.Encoding.{constant};
 ghost use Rattle.mon_base.specs.Answer.{Answers};
 ghost use Rattle.class_codec.specs.Reading.{index_checked, pair_checked, constant_checked, all_checked};
 

@@ -13,7 +13,7 @@ use Rattle.api_listing.specs.Nearest.{class_named, interfaces_of}
 use Rattle.api_listing.specs.Seen.{has_name}
 use Rattle.bytecode_model.specs.SearchOrder.{Name, interfaces_above, interfaces_from, is_one_of, most, reached, with_above, with_name}
 use Rattle.bytecode_model.proofs.Placing.{same_name}
-use Rattle.class_index.specs.Library.{may_own, AreQuiet}
+use Rattle.class_index.specs.Library.{may_own, AreMemberless}
 
 same_as_itself : (name : Name) → bytes_eq name name ≡ true
 same_as_itself name = (bytes_eq-Decides name name).1 refl
@@ -115,9 +115,9 @@ all_needed classes names = let count = still_at_first classes in omega (arith, c
 
 -- ---- what is reached, but for quiet names
 
-module _ (owners : BTreeSet Name) (classes : List ListedClass) (quiet : BTreeSet Name) (are : AreQuiet owners classes quiet) where
+module _ (owners : BTreeSet Name) (classes : List ListedClass) (memberless : BTreeSet Name) (are : AreMemberless owners classes memberless) where
   abbrev is_loud : Name → Bool
-  is_loud name = not (has_name quiet name)
+  is_loud name = not (has_name memberless name)
 
   abbrev loud : List Name → List Name
   loud names = filter is_loud names
@@ -125,34 +125,34 @@ module _ (owners : BTreeSet Name) (classes : List ListedClass) (quiet : BTreeSet
   abbrev owned : List Name → List Name
   owned names = filter (may_own owners) names
 
-  no_owner : (name : Name) → has_name quiet name ≡ true → may_own owners name ≡ false
-  no_owner name is = by (may_own owners name) (parts (not (may_own owners name)) (list_all (has_name quiet) (interfaces_above classes name)) (are name is)).0 where
+  no_owner : (name : Name) → has_name memberless name ≡ true → may_own owners name ≡ false
+  no_owner name is = by (may_own owners name) (parts (not (may_own owners name)) (list_all (has_name memberless) (interfaces_above classes name)) (are name is)).0 where
     by : (b : Bool) → not b ≡ true → b ≡ false
     by true e = sym e
     by false e = refl
 
-  quiet_above : (name : Name) → has_name quiet name ≡ true → list_all (has_name quiet) (interfaces_above classes name) ≡ true
-  quiet_above name is = (parts (not (may_own owners name)) (list_all (has_name quiet) (interfaces_above classes name)) (are name is)).1
+  memberless_above : (name : Name) → has_name memberless name ≡ true → list_all (has_name memberless) (interfaces_above classes name) ≡ true
+  memberless_above name is = (parts (not (may_own owners name)) (list_all (has_name memberless) (interfaces_above classes name)) (are name is)).1
 
-  none_loud : (names : List Name) → list_all (has_name quiet) names ≡ true → loud names ≡ []
+  none_loud : (names : List Name) → list_all (has_name memberless) names ≡ true → loud names ≡ []
   none_loud [] e = refl
   none_loud (x ∷ names) e =
-      let both = parts (has_name quiet x) (list_all (has_name quiet) names) e in
-      let here : has_name quiet x ≡ true = both.0 in
+      let both = parts (has_name memberless x) (list_all (has_name memberless) names) e in
+      let here : has_name memberless x ≡ true = both.0 in
       rw here (none_loud names both.1)
 
   owned_loud : (names : List Name) → owned (loud names) ≡ owned names
   owned_loud [] = refl
-  owned_loud (x ∷ names) = by (has_name quiet x) refl (owned_loud names) where
-    by : (b : Bool) → has_name quiet x ≡ b → owned (loud names) ≡ owned names → owned (cond (not b) (x ∷ loud names) (loud names)) ≡ owned (x ∷ names)
+  owned_loud (x ∷ names) = by (has_name memberless x) refl (owned_loud names) where
+    by : (b : Bool) → has_name memberless x ≡ b → owned (loud names) ≡ owned names → owned (cond (not b) (x ∷ loud names) (loud names)) ≡ owned (x ∷ names)
     by true is e =
         let foreign : may_own owners x ≡ false = no_owner x is in
         rw foreign e
     by false is e = ap (λ (rest : List Name). cond (may_own owners x) (x ∷ rest) rest) e
 
   -- a quiet name changes nothing
-  quiet_found : (found : List Name) (x : Name) → has_name quiet x ≡ true → loud (with_name found x) ≡ loud found
-  quiet_found found x is = by (is_one_of found x) where
+  memberless_found : (found : List Name) (x : Name) → has_name memberless x ≡ true → loud (with_name found x) ≡ loud found
+  memberless_found found x is = by (is_one_of found x) where
     one : loud (x ∷ []) ≡ []
     one = rw is refl
 
@@ -160,39 +160,39 @@ module _ (owners : BTreeSet Name) (classes : List ListedClass) (quiet : BTreeSet
     by true = refl
     by false = filter-append is_loud found (x ∷ []) ∙ ap (λ (rest : List Name). loud found ++ rest) one ∙ append-nil (loud found)
 
-  quiet_waiting : (found : List Name) (x : Name) (waiting : List Name) → has_name quiet x ≡ true → loud (with_above classes found x waiting) ≡ loud waiting
-  quiet_waiting found x waiting is = by (is_one_of found x) where
+  memberless_waiting : (found : List Name) (x : Name) (waiting : List Name) → has_name memberless x ≡ true → loud (with_above classes found x waiting) ≡ loud waiting
+  memberless_waiting found x waiting is = by (is_one_of found x) where
     by : (b : Bool) → loud (cond b waiting (waiting ++ interfaces_above classes x)) ≡ loud waiting
     by true = refl
     by false =
         filter-append is_loud waiting (interfaces_above classes x)
-        ∙ ap (λ (rest : List Name). loud waiting ++ rest) (none_loud (interfaces_above classes x) (quiet_above x is)) ∙ append-nil (loud waiting)
+        ∙ ap (λ (rest : List Name). loud waiting ++ rest) (none_loud (interfaces_above classes x) (memberless_above x is)) ∙ append-nil (loud waiting)
 
   -- a loud one is found where it is found among the loud ones
-  loud_one : (names : List Name) (x : Name) → has_name quiet x ≡ false → is_one_of (loud names) x ≡ is_one_of names x
+  loud_one : (names : List Name) (x : Name) → has_name memberless x ≡ false → is_one_of (loud names) x ≡ is_one_of names x
   loud_one [] x is = refl
-  loud_one (y ∷ names) x is = by (has_name quiet y) refl (loud_one names x is) where
-    other : (b : Bool) → bytes_eq y x ≡ b → has_name quiet y ≡ true → b ≡ false
+  loud_one (y ∷ names) x is = by (has_name memberless y) refl (loud_one names x is) where
+    other : (b : Bool) → bytes_eq y x ≡ b → has_name memberless y ≡ true → b ≡ false
     other true same noted =
         let here : y ≡ x = same_name y x same in
-        absurd (false≢true (sym is ∙ ap (has_name quiet) (sym here) ∙ noted))
+        absurd (false≢true (sym is ∙ ap (has_name memberless) (sym here) ∙ noted))
     other false same noted = refl
 
-    by : (b : Bool) → has_name quiet y ≡ b → is_one_of (loud names) x ≡ is_one_of names x → is_one_of (cond (not b) (y ∷ loud names) (loud names)) x ≡ (bytes_eq y x || is_one_of names x)
+    by : (b : Bool) → has_name memberless y ≡ b → is_one_of (loud names) x ≡ is_one_of names x → is_one_of (cond (not b) (y ∷ loud names) (loud names)) x ≡ (bytes_eq y x || is_one_of names x)
     by true noted e = e ∙ sym (ap (λ (b : Bool). b || is_one_of names x) (other (bytes_eq y x) refl noted))
     by false noted e = ap (λ (b : Bool). bytes_eq y x || b) e
 
-  alike_one : (found other : List Name) (x : Name) → has_name quiet x ≡ false → loud found ≡ loud other → is_one_of found x ≡ is_one_of other x
+  alike_one : (found other : List Name) (x : Name) → has_name memberless x ≡ false → loud found ≡ loud other → is_one_of found x ≡ is_one_of other x
   alike_one found other x is same = sym (loud_one found x is) ∙ ap (λ (names : List Name). is_one_of names x) same ∙ loud_one other x is
 
-  loud_found : (found other : List Name) (x : Name) → has_name quiet x ≡ false → loud found ≡ loud other → loud (with_name found x) ≡ loud (with_name other x)
+  loud_found : (found other : List Name) (x : Name) → has_name memberless x ≡ false → loud found ≡ loud other → loud (with_name found x) ≡ loud (with_name other x)
   loud_found found other x is same =
       by (is_one_of found x) ∙ ap (λ (b : Bool). loud (cond b other (other ++ x ∷ []))) (alike_one found other x is same) where
         by : (b : Bool) → loud (cond b found (found ++ x ∷ [])) ≡ loud (cond b other (other ++ x ∷ []))
         by true = same
         by false = filter-append is_loud found (x ∷ []) ∙ ap (λ (front : List Name). front ++ loud (x ∷ [])) same ∙ sym (filter-append is_loud other (x ∷ []))
 
-  loud_waiting : (found other : List Name) (x : Name) (v w : List Name) → has_name quiet x ≡ false → loud found ≡ loud other → loud v ≡ loud w
+  loud_waiting : (found other : List Name) (x : Name) (v w : List Name) → has_name memberless x ≡ false → loud found ≡ loud other → loud v ≡ loud w
       → loud (with_above classes found x v) ≡ loud (with_above classes other x w)
   loud_waiting found other x v w is same alike =
       by (is_one_of found x) ∙ ap (λ (b : Bool). loud (cond b w (w ++ interfaces_above classes x))) (alike_one found other x is same) where
@@ -216,23 +216,23 @@ module _ (owners : BTreeSet Name) (classes : List ListedClass) (quiet : BTreeSet
   both_end n m found other same =
       ap owned (at_end n found) ∙ sym (owned_loud found) ∙ ap owned same ∙ owned_loud other ∙ sym (ap owned (at_end m other))
 
-  left_quiet : (k : ℕ) → Goes k → (n m : ℕ) (found other : List Name) (x : Name) (v w : List Name) → has_name quiet x ≡ true → n + m ≤ suc k
+  left_memberless : (k : ℕ) → Goes k → (n m : ℕ) (found other : List Name) (x : Name) (v w : List Name) → has_name memberless x ≡ true → n + m ≤ suc k
       → need classes found (x ∷ v) ≤ n → need classes other w ≤ m → loud found ≡ loud other → loud v ≡ loud w → Alike n m found other (x ∷ v) w
-  left_quiet k goes zero m found other x v w is le few less same alike = absurd (omega (arith, few))
-  left_quiet k goes (suc n) m found other x v w is le few less same alike =
+  left_memberless k goes zero m found other x v w is le few less same alike = absurd (omega (arith, few))
+  left_memberless k goes (suc n) m found other x v w is le few less same alike =
       let one = less_need classes found x v in
       goes n m (with_name found x) other (with_above classes found x v) w (omega (arith, le)) (omega (arith, few, one)) less
-      (quiet_found found x is ∙ same) (quiet_waiting found x v is ∙ alike)
+      (memberless_found found x is ∙ same) (memberless_waiting found x v is ∙ alike)
 
-  right_quiet : (k : ℕ) → Goes k → (n m : ℕ) (found other : List Name) (v : List Name) (y : Name) (w : List Name) → has_name quiet y ≡ true → n + m ≤ suc k
+  right_memberless : (k : ℕ) → Goes k → (n m : ℕ) (found other : List Name) (v : List Name) (y : Name) (w : List Name) → has_name memberless y ≡ true → n + m ≤ suc k
       → need classes found v ≤ n → need classes other (y ∷ w) ≤ m → loud found ≡ loud other → loud v ≡ loud w → Alike n m found other v (y ∷ w)
-  right_quiet k goes n zero found other v y w is le few less same alike = absurd (omega (arith, less))
-  right_quiet k goes n (suc m) found other v y w is le few less same alike =
+  right_memberless k goes n zero found other v y w is le few less same alike = absurd (omega (arith, less))
+  right_memberless k goes n (suc m) found other v y w is le few less same alike =
       let one = less_need classes other y w in
       goes n m found (with_name other y) v (with_above classes other y w) (omega (arith, le)) few (omega (arith, less, one))
-      (same ∙ sym (quiet_found other y is)) (alike ∙ sym (quiet_waiting other y w is))
+      (same ∙ sym (memberless_found other y is)) (alike ∙ sym (memberless_waiting other y w is))
 
-  both_loud : (k : ℕ) → Goes k → (n m : ℕ) (found other : List Name) (x : Name) (v w : List Name) → has_name quiet x ≡ false → n + m ≤ suc k
+  both_loud : (k : ℕ) → Goes k → (n m : ℕ) (found other : List Name) (x : Name) (v w : List Name) → has_name memberless x ≡ false → n + m ≤ suc k
       → need classes found (x ∷ v) ≤ n → need classes other (x ∷ w) ≤ m → loud found ≡ loud other → loud v ≡ loud w → Alike n m found other (x ∷ v) (x ∷ w)
   both_loud k goes zero m found other x v w is le few less same alike = absurd (omega (arith, few))
   both_loud k goes (suc n) zero found other x v w is le few less same alike = absurd (omega (arith, less))
@@ -245,24 +245,24 @@ module _ (owners : BTreeSet Name) (classes : List ListedClass) (quiet : BTreeSet
   heads_same : (x y : Name) (v w : List Name) → ◌≡◌ {A = List Name} (x ∷ v) (y ∷ w) → (x ≡ y) × (v ≡ w)
   heads_same x y v w e = (cc, cc)
 
-  loud_front : (x : Name) (v : List Name) → has_name quiet x ≡ false → loud (x ∷ v) ≡ x ∷ loud v
+  loud_front : (x : Name) (v : List Name) → has_name memberless x ≡ false → loud (x ∷ v) ≡ x ∷ loud v
   loud_front x v is = rw is refl
 
-  quiet_front : (x : Name) (v : List Name) → has_name quiet x ≡ true → loud (x ∷ v) ≡ loud v
-  quiet_front x v is = rw is refl
+  memberless_front : (x : Name) (v : List Name) → has_name memberless x ≡ true → loud (x ∷ v) ≡ loud v
+  memberless_front x v is = rw is refl
 
-  right_goes : (k : ℕ) → Goes k → (n m : ℕ) (found other : List Name) (x : Name) (v : List Name) (y : Name) (w : List Name) → has_name quiet x ≡ false → n + m ≤ suc k
+  right_goes : (k : ℕ) → Goes k → (n m : ℕ) (found other : List Name) (x : Name) (v : List Name) (y : Name) (w : List Name) → has_name memberless x ≡ false → n + m ≤ suc k
       → need classes found (x ∷ v) ≤ n → need classes other (y ∷ w) ≤ m → loud found ≡ loud other → loud (x ∷ v) ≡ loud (y ∷ w) → Alike n m found other (x ∷ v) (y ∷ w)
   right_goes k goes n m found other x v y w is le few less same alike =
-      elim (cases_Bool (has_name quiet y)) [
-        | inl noted ↦ right_quiet k goes n m found other (x ∷ v) y w noted le few less same (alike ∙ quiet_front y w noted)
+      elim (cases_Bool (has_name memberless y)) [
+        | inl noted ↦ right_memberless k goes n m found other (x ∷ v) y w noted le few less same (alike ∙ memberless_front y w noted)
         | inr other_is ↦
             let both = heads_same x y (loud v) (loud w) (sym (loud_front x v is) ∙ alike ∙ loud_front y w other_is) in
             let less_here : need classes other (x ∷ w) ≤ m = less in
             subst (λ (z : Name). Alike n m found other (x ∷ v) (z ∷ w)) both.0 (both_loud k goes n m found other x v w is le few less_here same both.1)
       ]
 
-  left_goes : (k : ℕ) → Goes k → (n m : ℕ) (found other : List Name) (x : Name) (v w : List Name) → has_name quiet x ≡ false → n + m ≤ suc k
+  left_goes : (k : ℕ) → Goes k → (n m : ℕ) (found other : List Name) (x : Name) (v w : List Name) → has_name memberless x ≡ false → n + m ≤ suc k
       → need classes found (x ∷ v) ≤ n → need classes other w ≤ m → loud found ≡ loud other → loud (x ∷ v) ≡ loud w → Alike n m found other (x ∷ v) w
   left_goes k goes n m found other x v [] is le few less same alike =
       let none : ◌≡◌ {A = List Name} (x ∷ loud v) [] = sym (loud_front x v is) ∙ alike in
@@ -273,22 +273,22 @@ module _ (owners : BTreeSet Name) (classes : List ListedClass) (quiet : BTreeSet
   goes k n m found other [] [] le few less same alike = both_end n m found other same
   goes zero n m found other [] (y ∷ w) le few less same alike = absurd (omega (arith, le, less))
   goes (suc k) n m found other [] (y ∷ w) le few less same alike =
-      elim (cases_Bool (has_name quiet y)) [
-        | inl noted ↦ right_quiet k (goes k) n m found other [] y w noted le few less same (alike ∙ quiet_front y w noted)
+      elim (cases_Bool (has_name memberless y)) [
+        | inl noted ↦ right_memberless k (goes k) n m found other [] y w noted le few less same (alike ∙ memberless_front y w noted)
         | inr is ↦
             let none : ◌≡◌ {A = List Name} [] (y ∷ loud w) = alike ∙ loud_front y w is in
             absurd cc
       ]
   goes zero n m found other (x ∷ v) w le few less same alike = absurd (omega (arith, le, few))
   goes (suc k) n m found other (x ∷ v) w le few less same alike =
-      elim (cases_Bool (has_name quiet x)) [
-        | inl noted ↦ left_quiet k (goes k) n m found other x v w noted le few less same (sym (quiet_front x v noted) ∙ alike)
+      elim (cases_Bool (has_name memberless x)) [
+        | inl noted ↦ left_memberless k (goes k) n m found other x v w noted le few less same (sym (memberless_front x v noted) ∙ alike)
         | inr is ↦ left_goes k (goes k) n m found other x v w is le few less same alike
       ]
 
   -- the classes above that may have methods of the library, without the quiet interfaces at the front
-  pub quiet_aside : (names rest : List Name) → list_all (has_name quiet) names ≡ true → owned (interfaces_from classes (names ++ rest)) ≡ owned (interfaces_from classes rest)
-  quiet_aside names rest all =
+  pub memberless_aside : (names rest : List Name) → list_all (has_name memberless) names ≡ true → owned (interfaces_from classes (names ++ rest)) ≡ owned (interfaces_from classes rest)
+  memberless_aside names rest all =
       let n = most classes (names ++ rest) in
       let m = most classes rest in
       let alike : loud (names ++ rest) ≡ loud rest = filter-append is_loud names rest ∙ ap (λ (front : List Name). front ++ loud rest) (none_loud names all) in

@@ -16,14 +16,14 @@ use Rattle.bytecode_model.proofs.Placing.{same_name, test_cases}
 
 -- ---- lists
 
--- what is said of all is said of those in front, and of those behind
+-- what is said of all is said of those in front, and of those after
 all_front : {X : Type 0} (P : X → Type 0) (xs ys : List X) → AllByRecursion P (xs ++ ys) → AllByRecursion P xs
 all_front P [] ys all = tt
 all_front P (x ∷ xs) ys all = (all.0, all_front P xs ys all.1)
 
-all_behind : {X : Type 0} (P : X → Type 0) (xs ys : List X) → AllByRecursion P (xs ++ ys) → AllByRecursion P ys
-all_behind P [] ys all = all
-all_behind P (x ∷ xs) ys all = all_behind P xs ys all.1
+all_after : {X : Type 0} (P : X → Type 0) (xs ys : List X) → AllByRecursion P (xs ++ ys) → AllByRecursion P ys
+all_after P [] ys all = all
+all_after P (x ∷ xs) ys all = all_after P xs ys all.1
 
 -- what is said of each name of the list is said of all
 all_named : (P : Name → Type 0) (names : List Name) → ((name : Name) → is_one_of names name ≡ true → P name) → AllByRecursion P names
@@ -41,7 +41,7 @@ all_named P (x ∷ xs) each =
 interfaces_among : (P : Name → Type 0) (classes : List ListedClass) (name : Name) (c : ListedClass) → class_named classes name ≡ Some c
     → AllByRecursion P (interfaces_of classes) → AllByRecursion P c.interfaces
 interfaces_among P [] name c e all = absurd cc
-interfaces_among P (k ∷ ks) name c e all = by (bytes_eq k.name name) (λ f. interfaces_among P ks name c f (all_behind P k.interfaces (interfaces_of ks) all)) e where
+interfaces_among P (k ∷ ks) name c e all = by (bytes_eq k.name name) (λ f. interfaces_among P ks name c f (all_after P k.interfaces (interfaces_of ks) all)) e where
   by : (b : Bool) → (class_named ks name ≡ Some c → AllByRecursion P c.interfaces)
       → cond b (Some k) (find (λ (x : ListedClass). bytes_eq x.name name) ks) ≡ Some c → AllByRecursion P c.interfaces
   by true later f = subst (λ (x : ListedClass). AllByRecursion P x.interfaces) (some_is k c f) (all_front P k.interfaces (interfaces_of ks) all)

@@ -18,7 +18,7 @@ own_key id =
     let desc : bytes_eq id.desc id.desc ≡ true = (bytes_eq-Decides id.desc id.desc).1 refl in
     rw (name, desc) refl
 
--- Behind a key that was put in, what was there is there, and the key is.
+-- After a key that was put in, what was there is there, and the key is.
 pub is_kept : (fields : BTreeSet MethodId) (id q key : MethodId) (has : Bool) → key ≡ record { class = []; name = id.name; desc = id.desc }
     → has ≡ (is_eq (id_cmp key (in_class q [])) || has_id fields (in_class q []))
     → (has_id fields (in_class q []) || is_eq (id_cmp q id)) ≡ true → has ≡ true

@@ -18,8 +18,8 @@ use Rattle.bytecode_model.proofs.Placing.{same_name}
 use Rattle.bytecode_model.proofs.Upwards.{up_from}
 use Rattle.class_index.specs.declared.library.Above.{Above}
 use Rattle.class_index.specs.declared.library.Shared.{Shared}
-use Rattle.class_index.specs.Library.{may_own, owners_up, AreQuiet, IsShared, AreShared}
-use Rattle.class_index.proofs.Aside.{quiet_aside}
+use Rattle.class_index.specs.Library.{may_own, owners_up, AreMemberless, IsShared, AreShared}
+use Rattle.class_index.proofs.Aside.{memberless_aside}
 
 module _ (owners : BTreeSet (List ℕ)) (classes : List ListedClass) where
   abbrev order_of : List ListedClass → List (List ℕ)
@@ -28,10 +28,10 @@ module _ (owners : BTreeSet (List ℕ)) (classes : List ListedClass) where
   -- ---- a step, and a way of steps
 
   -- a class that owns nothing and whose interfaces are quiet has above it what its superclass has
-  pub step_up : (quiet : BTreeSet (List ℕ)) → AreQuiet owners classes quiet → (name : List ℕ) (c : ListedClass) → class_named classes name ≡ Some c
-      → list_all (has_name quiet) c.interfaces ≡ true → may_own owners c.name ≡ false
+  pub step_up : (memberless : BTreeSet (List ℕ)) → AreMemberless owners classes memberless → (name : List ℕ) (c : ListedClass) → class_named classes name ≡ Some c
+      → list_all (has_name memberless) c.interfaces ≡ true → may_own owners c.name ≡ false
       → (n : ℕ) → owners_up owners classes (n + 1) name ≡ owners_up owners classes n c.parent
-  step_up quiet are name c some plain foreign n =
+  step_up memberless are name c some plain foreign n =
       let more : n + 1 ≡ suc n = omega arith in
       let above : List ListedClass = upwards n classes c.parent in
       let up : upwards (n + 1) classes name ≡ c ∷ above = ap (λ (k : ℕ). upwards k classes name) more ∙ ap (λ (o : Option ListedClass). up_from classes o n) some in
@@ -40,7 +40,7 @@ module _ (owners : BTreeSet (List ℕ)) (classes : List ListedClass) where
       ap (λ (l : List ListedClass). own (order_of l)) up
       ∙ ap (λ (b : Bool). cond b (c.name ∷ own (names_of above ++ below)) (own (names_of above ++ below))) foreign
       ∙ filter-append (may_own owners) (names_of above) below
-      ∙ ap (λ (rest : List (List ℕ)). own (names_of above) ++ rest) (quiet_aside owners classes quiet are c.interfaces (interfaces_of above) plain)
+      ∙ ap (λ (rest : List (List ℕ)). own (names_of above) ++ rest) (memberless_aside owners classes memberless are c.interfaces (interfaces_of above) plain)
       ∙ sym (filter-append (may_own owners) (names_of above) (interfaces_from classes (interfaces_of above)))
 
   -- from the class so many steps lead to the other
@@ -73,7 +73,7 @@ module _ (owners : BTreeSet (List ℕ)) (classes : List ListedClass) where
 
   -- ---- lists that are known
 
-  -- a list that is made now, behind the others
+  -- a list that is made now, after the others
   pub shared_here : (lists : List (List (List ℕ))) (name : List ℕ) (order names : List (List ℕ)) (above : Above) → order ≡ search_order classes name → length order < length classes
       → names ≡ filter (may_own owners) order → above.place ≡ length lists → above.height ≡ length order → IsShared owners classes (lists ++ names ∷ []) name above
   shared_here lists name order names above is few own place height =
@@ -115,13 +115,13 @@ module _ (owners : BTreeSet (List ℕ)) (classes : List ListedClass) where
       }
 
   -- one class more
-  pub with_shared : (old new : Shared) (name : List ℕ) (above : Above) → AreShared owners classes old → new.lists ≡ old.lists → new.quiet ≡ old.quiet → IsShared owners classes old.lists name above
+  pub with_shared : (old new : Shared) (name : List ℕ) (above : Above) → AreShared owners classes old → new.lists ≡ old.lists → new.memberless ≡ old.memberless → IsShared owners classes old.lists name above
       → ((q : List ℕ) → noted new.places q ≡ option_or (noted old.places q) (cond (bytes_eq name q) (Some above) None)) → AreShared owners classes new
-  with_shared old new name above shared lists quiet here puts =
+  with_shared old new name above shared lists memberless here puts =
       record {
         known = λ q a found.
             subst (λ (l : List (List (List ℕ))). IsShared owners classes l q a) (sym lists) (by q a (noted old.places q) (bytes_eq name q) refl refl (sym (puts q) ∙ found));
-        quiet = subst (λ (set : BTreeSet (List ℕ)). AreQuiet owners classes set) (sym quiet) shared.quiet;
+        memberless = subst (λ (set : BTreeSet (List ℕ)). AreMemberless owners classes set) (sym memberless) shared.memberless;
       } where
         by : (q : List ℕ) (a : Above) (o : Option Above) (b : Bool) → noted old.places q ≡ o → bytes_eq name q ≡ b → option_or o (cond b (Some above) None) ≡ Some a → IsShared owners classes old.lists q a
         by q a (Some m) b was same e = shared.known q a (was ∙ ap Some (some_is m a e))

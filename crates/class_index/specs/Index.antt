@@ -40,7 +40,7 @@ declared_of kinds.Field files listing = fields_declared files listing
 abbrev pub AreFirst : List Declared → BTreeMap MethodId Found → Type 0
 AreFirst declared found = (q : MethodId) → found_in found q ≡ first_of declared q
 
--- What is declared is noted behind what the map has: the first of each name counts.
+-- What is declared is noted after what the map has: the first of each name counts.
 abbrev pub Notes : List Declared → BTreeMap MethodId Found → BTreeMap MethodId Found → Type 0
 Notes declared old new = (q : MethodId) → found_in new q ≡ option_or (found_in old q) (first_of declared q)
 

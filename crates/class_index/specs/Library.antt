@@ -42,12 +42,12 @@ abbrev pub Interfaces : Type 0
 Interfaces = BTreeSet (List ℕ)
 
 -- The interface may have no method of the library, and those above it are of the set.
-abbrev pub is_quiet : Owners → List ListedClass → Interfaces → Name → Bool
-is_quiet owners classes quiet name = not (may_own owners name) && list_all (has_name quiet) (interfaces_above classes name)
+abbrev pub is_memberless : Owners → List ListedClass → Interfaces → Name → Bool
+is_memberless owners classes memberless name = not (may_own owners name) && list_all (has_name memberless) (interfaces_above classes name)
 
 -- It is so of each of the set.
-abbrev pub AreQuiet : Owners → List ListedClass → Interfaces → Type 0
-AreQuiet owners classes quiet = (name : Name) → has_name quiet name ≡ true → is_quiet owners classes quiet name ≡ true
+abbrev pub AreMemberless : Owners → List ListedClass → Interfaces → Type 0
+AreMemberless owners classes memberless = (name : Name) → has_name memberless name ≡ true → is_memberless owners classes memberless name ≡ true
 
 -- ---- lists that classes share
 
@@ -72,4 +72,4 @@ pub record IsShared (owners : Owners) (classes : List ListedClass) (lists : List
 -- It is so of each class whose list is known, and the interfaces are quiet.
 pub record AreShared (owners : Owners) (classes : List ListedClass) (shared : Shared) : Type 0 where
   pub known : (name : Name) (above : Above) → noted shared.places name ≡ Some above → IsShared owners classes shared.lists name above
-  pub quiet : AreQuiet owners classes shared.quiet
+  pub memberless : AreMemberless owners classes shared.memberless

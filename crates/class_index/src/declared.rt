@@ -3,7 +3,7 @@
 ghost use Rattle.std.specs.Prelude.{◌≡◌, ◌||◌, ◌∷◌, [], ◌+◌, ◌<◌, ◌≤◌, ◌^◌, ℕ, List, length, IfOk, OnOk, map};
 ghost use Rattle.std.specs.List.{AllByRecursion};
 ghost use Rattle.mon_base.specs.declared.method.MethodId.{MethodId};
-ghost use Rattle.class_codec.specs.Fits.{CanSpell};
+ghost use Rattle.class_codec.specs.Fits.{IsEncodable};
 ghost use Rattle.api_listing.specs.BuiltIn.{is_method};
 ghost use Rattle.api_listing.specs.Seen.{has_id, has_name};
 ghost use Rattle.api_listing.specs.Listing.{has_method, IsFew};
@@ -30,7 +30,7 @@ pub fn first_declared(
     listing: &Listing,
 ) -> Result<BTreeMap<MethodId, Found>, NoMemory>
     requires count { length files.now ≤ 1001 }
-    requires fits { AllByRecursion CanSpell files.now }
+    requires fits { AllByRecursion IsEncodable files.now }
     requires listed { IsFew listing.now }
     ensures { IfOk result (AreFirst (declared_of kind files.now listing.now)) }
 {
@@ -48,7 +48,7 @@ fn add_declared(
     listing: &Listing,
 ) -> Result<(), NoMemory>
     requires count { length files.now ≤ 1001 }
-    requires fits { AllByRecursion CanSpell files.now }
+    requires fits { AllByRecursion IsEncodable files.now }
     requires listed { IsFew listing.now }
     ensures { OnOk result (Notes (declared_of kind files.now listing.now) found.old found.new) }
 {
@@ -66,7 +66,7 @@ fn add_methods(
     listing: &Listing,
 ) -> Result<(), NoMemory>
     requires count { length files.now ≤ 1001 }
-    requires fits { AllByRecursion CanSpell files.now }
+    requires fits { AllByRecursion IsEncodable files.now }
     requires listed { length listing.now.methods ≤ 20000 }
     ensures { OnOk result (Notes (methods_declared files.now listing.now) found.old found.new) }
 {
@@ -84,7 +84,7 @@ fn add_fields(
     listing: &Listing,
 ) -> Result<(), NoMemory>
     requires count { length files.now ≤ 1001 }
-    requires fits { AllByRecursion CanSpell files.now }
+    requires fits { AllByRecursion IsEncodable files.now }
     requires listed { length listing.now.fields ≤ 20000 }
     ensures { OnOk result (Notes (fields_declared files.now listing.now) found.old found.new) }
 {
@@ -116,7 +116,7 @@ fn add_files(
     files: &[ClassFile],
 ) -> Result<(), NoMemory>
     requires count { length files.now ≤ 1001 }
-    requires fits { AllByRecursion CanSpell files.now }
+    requires fits { AllByRecursion IsEncodable files.now }
     ensures { OnOk result (Notes (given_from kind 0 files.now) found.old found.new) }
 {
     let mut class: u32 = 0;
@@ -130,7 +130,7 @@ fn add_files(
 }
 
 fn members_of(kind: MemberKind, file: &ClassFile) -> &[Member]
-    requires { CanSpell file.now }
+    requires { IsEncodable file.now }
     ensures members { result.now ≡ members_of kind file.now }
     ensures count { length result.now < 2 ^ 16 }
 {
@@ -147,7 +147,7 @@ fn add_file(
     class: u32,
     file: &ClassFile,
 ) -> Result<(), NoMemory>
-    requires { CanSpell file.now }
+    requires { IsEncodable file.now }
     ensures { OnOk result (Notes (file_members kind class file.now) found.old found.new) }
 {
     let pool = file.pool.as_slice();

@@ -46,7 +46,7 @@ pub fn all_classes(
     Classes::new(alloc, all)
 }
 
-/// Adds the others behind the classes.
+/// Adds the others after the classes.
 fn add_classes(
     alloc: Global,
     classes: &mut List<ListedClass>,

@@ -3,7 +3,7 @@
 ghost use Rattle.std.specs.Prelude.{◌≡◌, ◌≤◌, ◌&&◌, ◌++◌, ◌∷◌, [], ℕ, List, false, not, length, option_copied, IfOk, OnOk};
 ghost use Rattle.std.specs.List.{AllByRecursion, filter};
 ghost use Rattle.mon_base.specs.declared.method.MethodId.{MethodId};
-ghost use Rattle.class_codec.specs.Fits.{CanSpell};
+ghost use Rattle.class_codec.specs.Fits.{IsEncodable};
 ghost use Rattle.api_listing.specs.Listing.{has_method, IsFew};
 ghost use Rattle.api_listing.specs.Seen.{has_id, has_name};
 ghost use Rattle.bytecode_model.specs.Heads.{heads_of, all_classes};
@@ -100,7 +100,7 @@ impl<'a> Index<'a> {
         literals: &'a Literals,
     ) -> Result<Index<'a>, NoMemory>
         requires count { length files.now ≤ 1001 }
-        requires fits { AllByRecursion CanSpell files.now }
+        requires fits { AllByRecursion IsEncodable files.now }
         requires heads { heads.now ≡ heads_of files.now }
         requires classes { classes.now ≡ all_classes listing.now files.now }
         requires literals { literals.now ≡ literals_of files.now }
@@ -267,7 +267,7 @@ fn members_of(
     listing: &Listing,
 ) -> Result<Members, NoMemory>
     requires count { length files.now ≤ 1001 }
-    requires fits { AllByRecursion CanSpell files.now }
+    requires fits { AllByRecursion IsEncodable files.now }
     requires listed { IsFew listing.now }
     ensures methods { IfOk result (λ members. AreFirst (methods_declared files.now listing.now) members.methods) }
     ensures fields { IfOk result (λ members. AreFirst (fields_declared files.now listing.now) members.fields) }
@@ -298,7 +298,7 @@ fn known_of(
     listing: &Listing,
 ) -> Result<(BTreeMap<MethodId, Found>, Nearest), NoMemory>
     requires count { length files.now ≤ 1001 }
-    requires fits { AllByRecursion CanSpell files.now }
+    requires fits { AllByRecursion IsEncodable files.now }
     requires listed { IsFew listing.now }
     ensures first { IfOk result (λ known. AreFirst (declared_of kind files.now listing.now) known.0) }
     ensures near { IfOk result (λ known. AreVersions (found_in known.0) known.1.numbers classes.now known.1.versions) }

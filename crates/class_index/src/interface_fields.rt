@@ -10,8 +10,8 @@ ghost use Rattle.class_index.specs.Index.{found_in};
 ghost use Rattle.class_index.specs.InterfaceFields.{AreInterfaceFields};
 
 use crate::classes::Classes;
+use crate::memberless::{interfaces_of, set_of};
 use crate::numbers::key_of;
-use crate::quiet::{interfaces_of, set_of};
 use bytecode_model::Found;
 use mon_base::{Bytes, MethodId, NoMemory};
 use std::alloc::Global;

@@ -11,11 +11,11 @@ mod heads;
 mod index;
 mod interface_fields;
 mod library;
+mod memberless;
 mod members;
 mod nearest;
 mod numbers;
 mod places;
-mod quiet;
 mod search;
 
 pub use asking::is_asked;

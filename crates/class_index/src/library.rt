@@ -11,10 +11,10 @@ ghost use Rattle.api_listing.specs.Listing.{has_method};
 ghost use Rattle.api_listing.specs.Seen.{has_id};
 ghost use Rattle.bytecode_model.specs.Conditions.{is_of_library, is_run};
 ghost use Rattle.bytecode_model.specs.SearchOrder.{search_order};
-ghost use Rattle.class_index.specs.Library.{may_own, owners_up, AreQuiet, AreShared, IsShared, Owners};
+ghost use Rattle.class_index.specs.Library.{may_own, owners_up, AreMemberless, AreShared, IsShared, Owners};
 
 use crate::classes::Classes;
-use crate::quiet::{are_among, may_own, quiet_of};
+use crate::memberless::{are_among, may_own, memberless_of};
 use crate::search::{add_copy, add_names, search_order};
 use api_listing::{ListedClass, Listing, is_built_in};
 use bytecode_model::{ByName, is_text, note, noted};
@@ -34,7 +34,7 @@ pub struct Above {
 pub struct Shared {
     pub places: ByName<Above>,
     pub lists: List<List<Bytes>>,
-    pub quiet: BTreeSet<Bytes>,
+    pub memberless: BTreeSet<Bytes>,
 }
 
 /// The lists of these classes, each made once.
@@ -46,20 +46,20 @@ pub fn shared_of(
 ) -> Result<Shared, NoMemory>
     ensures { IfOk result (AreShared owners.now classes.now) }
 {
-    let quiet = quiet_of(alloc, classes, owners, given)?;
-    let mut shared = nothing_shared(alloc, quiet);
+    let memberless = memberless_of(alloc, classes, owners, given)?;
+    let mut shared = nothing_shared(alloc, memberless);
     add_given(alloc, classes, owners, &mut shared, given)?;
     Ok(shared)
 }
 
 /// No lists yet, with these quiet interfaces.
-fn nothing_shared(alloc: Global, quiet: BTreeSet<Bytes>) -> Shared
-    ensures { (owners : Owners) (classes : List ListedClass) → AreQuiet owners classes quiet → AreShared owners classes result }
+fn nothing_shared(alloc: Global, memberless: BTreeSet<Bytes>) -> Shared
+    ensures { (owners : Owners) (classes : List ListedClass) → AreMemberless owners classes memberless → AreShared owners classes result }
 {
     Shared {
         places: BTreeMap::new(alloc),
         lists: List::new(alloc),
-        quiet,
+        memberless,
     }
 }
 
@@ -119,7 +119,7 @@ fn end_of<'a>(
     shared: &Shared,
     name: &'a Bytes,
 ) -> Option<(&'a Bytes, usize)>
-    requires { AreQuiet owners.now classes.now shared.now.quiet }
+    requires { AreMemberless owners.now classes.now shared.now.memberless }
     ensures { IfSome result (λ end. (n : ℕ) → owners_up owners.now classes.now (n + end.1) name.now
         ≡ owners_up owners.now classes.now n end.0.now) }
 {
@@ -128,7 +128,7 @@ fn end_of<'a>(
         if shared.places.contains_key(at.as_slice()) {
             return Some((at, steps));
         }
-        let Some(parent) = step_from(classes, owners, &shared.quiet, at) else {
+        let Some(parent) = step_from(classes, owners, &shared.memberless, at) else {
             return Some((at, steps));
         };
         at = parent;
@@ -140,15 +140,15 @@ fn end_of<'a>(
 fn step_from<'a>(
     classes: &'a Classes,
     owners: &BTreeSet<Bytes>,
-    quiet: &BTreeSet<Bytes>,
+    memberless: &BTreeSet<Bytes>,
     name: &Bytes,
 ) -> Option<&'a Bytes>
-    requires { AreQuiet owners.now classes.now quiet.now }
+    requires { AreMemberless owners.now classes.now memberless.now }
     ensures { IfSome result (λ parent. (n : ℕ) → owners_up owners.now classes.now (n + 1) name.now
         ≡ owners_up owners.now classes.now n parent.now) }
 {
     let class = classes.named(name)?;
-    if are_among(quiet, class.interfaces.as_slice()) && !may_own(owners, &class.name) {
+    if are_among(memberless, class.interfaces.as_slice()) && !may_own(owners, &class.name) {
         Some(&class.parent)
     } else {
         None
@@ -215,7 +215,7 @@ fn add_steps(
     let place = above.place;
     for _ in 0..steps {
         note(alloc, &mut shared.places, at, Above { place, height })?;
-        let Some(parent) = step_from(classes, owners, &shared.quiet, at) else {
+        let Some(parent) = step_from(classes, owners, &shared.memberless, at) else {
             return Ok(());
         };
         let Some(less) = height.checked_sub(1) else {

@@ -28,7 +28,7 @@ pub fn search_order(alloc: Global, classes: &Classes, name: &Bytes) -> Result<Li
     Ok(order)
 }
 
-/// Adds the interfaces and those above them behind the names.
+/// Adds the interfaces and those above them after the names.
 fn add_interfaces(
     alloc: Global,
     classes: &Classes,
@@ -64,7 +64,7 @@ fn climb(
     Ok(())
 }
 
-/// Adds the others behind the names.
+/// Adds the others after the names.
 pub fn add_names(alloc: Global, names: &mut List<Bytes>, others: &[Bytes]) -> Result<(), NoMemory>
     ensures { OnOk result (names.new ≡ names.old ++ others.now) }
 {
@@ -74,7 +74,7 @@ pub fn add_names(alloc: Global, names: &mut List<Bytes>, others: &[Bytes]) -> Re
     Ok(())
 }
 
-/// Adds a copy of the name behind the names.
+/// Adds a copy of the name after the names.
 pub fn add_copy(alloc: Global, names: &mut List<Bytes>, name: &Bytes) -> Result<(), NoMemory>
     ensures { OnOk result (names.new ≡ names.old ++ name.now ∷ []) }
 {
@@ -96,7 +96,7 @@ fn interfaces_from(
     Ok(found)
 }
 
-/// Takes up so many of the names and of those that come to wait behind them, where none was found before.
+/// Takes up so many of the names and of those that come to wait after them, where none was found before.
 fn reach_all(
     alloc: Global,
     classes: &Classes,
@@ -112,7 +112,7 @@ fn reach_all(
     reach(alloc, classes, most, names, found, &mut seen, &mut waiting)
 }
 
-/// Takes up so many of the names behind those that wait, and of those that come to wait behind them.
+/// Takes up so many of the names after those that wait, and of those that come to wait after them.
 fn reach(
     alloc: Global,
     classes: &Classes,
@@ -135,7 +135,7 @@ fn reach(
     Ok(())
 }
 
-/// Takes up a name that has waited: if it is new, its interfaces wait behind the others.
+/// Takes up a name that has waited: if it is new, its interfaces wait after the others.
 fn visit(
     alloc: Global,
     classes: &Classes,

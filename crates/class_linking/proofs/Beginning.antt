@@ -11,7 +11,7 @@ use Rattle.class_codec.specs.declared.tree.Attr.{Attr}
 use Rattle.class_codec.specs.declared.tree.Attr.TheVariants as attributes
 use Rattle.class_codec.specs.declared.tree.Member.{Member}
 use Rattle.class_codec.specs.declared.tree.ClassFile.{ClassFile}
-use Rattle.class_codec.specs.Fits.{CanSpell, FitsMember, FitsAttr}
+use Rattle.class_codec.specs.Fits.{IsEncodable, FitsMember, FitsAttr}
 use Rattle.insn_codec.specs.declared.fault.CodeFault.{CodeFault}
 use Rattle.insn_codec.specs.declared.insn.Insn.{Insn}
 use Rattle.insn_codec.specs.Reading.{Read, Finder, insn_at, insns_at, insns_of, among, any, ended, code_of}
@@ -175,7 +175,7 @@ HasCode o = IsSomeAnd o (λ (m : Method). 0 < length m.insns)
 abbrev method_at : List LinkedClass → ℕ → ℕ → Option Method
 method_at classes c m = option_and_then (λ (x : LinkedClass). slice_get x.methods m) (slice_get classes c)
 
-pub main_has_code : (files : List ClassFile) (listing : Listing) (main : List ℕ) (methods : List (List Method)) (c m : ℕ) → AllByRecursion CanSpell files → each_linked files listing files ≡ Ok methods
+pub main_has_code : (files : List ClassFile) (listing : Listing) (main : List ℕ) (methods : List (List Method)) (c m : ℕ) → AllByRecursion IsEncodable files → each_linked files listing files ≡ Ok methods
     → main_of files main ≡ Some (c, m) → HasCode (method_at (classes_with files methods) c m)
 main_has_code files listing main methods c m fit linked begin =
     let b = begins_at 0 files main c m begin in
@@ -183,7 +183,7 @@ main_has_code files listing main methods c m fit linked begin =
     let m_is : b.main.place ≡ m = omega (arith, b.main.is) in
     let ms = linked_at (λ (at : ℕ). methods_linked files listing) 0 files methods b.place b.file linked b.found in
     let one = linked_at (method_linked files listing b.file) 0 b.file.methods ms.0 b.main.place b.main.member (class_parts files listing b.file ms.0 ms.2).each b.main.found in
-    let file_fits = all_get CanSpell files b.place b.file fit b.found in
+    let file_fits = all_get IsEncodable files b.place b.file fit b.found in
     let fits = all_get (FitsMember b.file.pool true) b.file.methods b.main.place b.main.member file_fits.methods.each b.main.found in
     let some = method_some files listing b.file (0 + b.main.place) b.main.member one.0 fits b.main.static one.2 in
     let class : slice_get (classes_with files methods) c ≡ Some (class_with b.file ms.0) = subst (λ (n : ℕ). slice_get (classes_with files methods) n ≡ Some (class_with b.file ms.0)) c_is (class_at_place files methods b.place b.file ms.0 b.found ms.1) in

@@ -1,7 +1,7 @@
 -- How long a code is.
 use Rattle.std.proofs.Common.{ℕ, ◌+◌, ◌≤◌, List, [], ◌∷◌, length, arith}
 use Rattle.insn_codec.specs.declared.insn.Insn.{Insn}
-use Rattle.insn_codec.specs.Spelling.{size, len_from}
+use Rattle.insn_codec.specs.Encoding.{size, len_from}
 use Rattle.insn_codec.proofs.Standing.{size-some}
 
 -- Each instruction has a byte or more.

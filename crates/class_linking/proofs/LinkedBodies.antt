@@ -12,7 +12,7 @@ use Rattle.class_codec.specs.declared.tree.TableEntry.{TableEntry}
 use Rattle.class_codec.specs.declared.tree.Member.{Member}
 use Rattle.class_codec.specs.declared.tree.ClassFile.{ClassFile}
 use Rattle.class_codec.specs.Fits.{FitsMember}
-use Rattle.insn_codec.specs.Spelling.{starts_of}
+use Rattle.insn_codec.specs.Encoding.{starts_of}
 use Rattle.insn_codec.proofs.InsnForms.{passed}
 use Rattle.api_listing.specs.declared.descriptor.FieldType.{FieldType}
 use Rattle.api_listing.specs.declared.types.ListedClass.{ListedClass}
@@ -35,7 +35,7 @@ use Rattle.class_linking.specs.Linking.{bare, with_code, code_linked, body_linke
 use Rattle.class_linking.specs.Operands.{class_linked, array_linked, told_at}
 use Rattle.bytecode_model.specs.Operands.{element_is_known, known_in}
 use Rattle.bytecode_model.specs.Layout.{has_code}
-use Rattle.bytecode_model.specs.Standing.{IsOfEntry, IsOfCode, IsOfMember, IsAllowed}
+use Rattle.bytecode_model.specs.LinkedClasses.{IsOfEntry, IsOfCode, IsOfMember, IsAllowed}
 use Rattle.bytecode_model.specs.Targets.{is_type, item_is_known}
 use Rattle.class_linking.proofs.Beginning.{and_left, and_right, first_code, code_some}
 use Rattle.class_linking.proofs.Parts.{handler_parts, code_parts, method_parts}

@@ -12,7 +12,7 @@ use Rattle.class_codec.specs.declared.pool.ConstKind.TheVariants as kinds
 use Rattle.class_codec.specs.declared.tree.ClassFile.{ClassFile}
 use Rattle.class_codec.specs.declared.tree.Const.{Const}
 use Rattle.class_codec.specs.declared.tree.Const.TheVariants as constants
-use Rattle.class_codec.specs.Fits.{CanSpell, FitsPool, IsNamed}
+use Rattle.class_codec.specs.Fits.{IsEncodable, FitsPool, IsNamed}
 use Rattle.class_codec.specs.Pool.{names, utf8_at, class_name_at, class_name_of, name_and_type_at, member_id, reference_of, reference_at}
 use Rattle.insn_codec.specs.declared.opcodes.TheConstants.{INVOKESPECIAL, INVOKESTATIC, INVOKEVIRTUAL}
 use Rattle.insn_codec.specs.declared.insn.Insn.{Insn}
@@ -263,7 +263,7 @@ module _ (files : List ClassFile) (listing : Listing) where
           omega (arith, less, classes);
     }
 
-    pub operand_right : (class : LinkedClass) (insn : Insn) (ref : Target) → CanSpell class.file → 0 < length class.file.pool → IsInsn insn → operand_linked files listing class.file.pool insn ≡ Ok ref
+    pub operand_right : (class : LinkedClass) (insn : Insn) (ref : Target) → IsEncodable class.file → 0 < length class.file.pool → IsInsn insn → operand_linked files listing class.file.pool insn ≡ Ok ref
         → IsRightOperand program class insn ref
     operand_right class insn ref fits some is e = by (is_nothing (use_of insn)) refl e where
       by : (b : Bool) → is_nothing (use_of insn) ≡ b → cond b (Ok target.None) (ok_or (slice_get class.file.pool (index_of insn)) operand.Wrong >>= used files listing class.file.pool (use_of insn)) ≡ Ok ref → IsRightOperand program class insn ref

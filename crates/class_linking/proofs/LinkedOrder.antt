@@ -12,7 +12,7 @@ use Rattle.class_codec.specs.declared.tree.ClassFile.{ClassFile}
 use Rattle.api_listing.specs.declared.types.ListedClass.{ListedClass}
 use Rattle.api_listing.specs.declared.types.Listing.{Listing}
 use Rattle.api_listing.specs.BuiltIn.{object, throwable, class_rows, class_of_row, built_in_classes}
-use Rattle.api_listing.specs.Listing.{is_known, SpellsListing}
+use Rattle.api_listing.specs.Listing.{is_known, EncodesListing}
 use Rattle.api_listing.specs.Nearest.{class_named, upwards}
 use Rattle.api_listing.specs.Words.{is_class_name}
 use Rattle.class_linking.proofs.LinkedPlaces.{linked_known, all_are}
@@ -29,8 +29,8 @@ use Rattle.class_linking.specs.Linking.{assembled}
 use Rattle.bytecode_model.specs.Arrays.{is_array}
 use Rattle.bytecode_model.specs.Order.{IsInOrder}
 use Rattle.bytecode_model.proofs.Ending.{ended, unnamed_up}
-use Rattle.bytecode_model.proofs.Upwards.{one_named, named_behind}
-use Rattle.class_linking.proofs.Listed.{array_unnamed, is_proper, all_behind, nameless, unknown, EndsIn, ends_later, ends_unnamed, ends_above, front_ends, IsListed, is_listed, founded}
+use Rattle.bytecode_model.proofs.Upwards.{one_named, named_after}
+use Rattle.class_linking.proofs.Listed.{array_unnamed, is_proper, all_after, nameless, unknown, EndsIn, ends_later, ends_unnamed, ends_above, front_ends, IsListed, is_listed, founded}
 use Rattle.bytecode_model.proofs.Upwards.{named_passes}
 use Rattle.bytecode_model.proofs.Upwards.{same_of}
 use Rattle.bytecode_model.proofs.Lists.{not_true}
@@ -163,7 +163,7 @@ module _ (listed heads : List ListedClass) (founds : founded [] listed ≡ true)
       elim (cases_Bool (is_known listed name)) [
         | inl known ↦ listed_ends zero name known
         | inr new ↦
-            given_one (zero + length listed) zero name (class_named heads name) (named_behind heads name listed (unknown listed name new)) refl e
+            given_one (zero + length listed) zero name (class_named heads name) (named_after heads name listed (unknown listed name new)) refl e
             (λ c found h. absurd (false≢true (sym h)))
       ]
   given_ends (suc k) name e =
@@ -171,7 +171,7 @@ module _ (listed heads : List ListedClass) (founds : founded [] listed ≡ true)
       elim (cases_Bool (is_known listed name)) [
         | inl known ↦ listed_ends (suc k) name known
         | inr new ↦
-            given_one (suc k + length listed) (suc k) name (class_named heads name) (named_behind heads name listed (unknown listed name new)) refl e
+            given_one (suc k + length listed) (suc k) name (class_named heads name) (named_after heads name listed (unknown listed name new)) refl e
             (λ c found h. rw count (ends_above all no_name (k + length listed) name c found (given_ends k c.parent h)))
       ]
 
@@ -198,7 +198,7 @@ ordered : (files : List ClassFile) (listing : Listing) (program : Program) → I
 ordered files listing program listed given =
     let heads = heads_of files in
     let all = listing.classes ++ heads in
-    let proper : list_all is_proper all ≡ true = all_behind is_proper listing.classes heads listed.proper given.proper in
+    let proper : list_all is_proper all ≡ true = all_after is_proper listing.classes heads listed.proper given.proper in
     let no_name : class_named all [] ≡ None = nameless all [] proper refl in
     let split : all ≡ built_in_classes ++ (listed.others ++ heads) = ap (λ (l : List ListedClass). l ++ heads) listed.built_in ∙ append_assoc built_in_classes listed.others heads in
     let first : class_named all object ≡ Some (class_of_row (object, [])) = ap (λ (l : List ListedClass). class_named l object) split ∙ object_first (listed.others ++ heads) in
@@ -215,13 +215,13 @@ in_order : (program : Program) → Ordered (classes_of program) → IsInOrder pr
 in_order program h = record { ends = h.ends; top = h.top; interfaces = h.interfaces; thrown = h.thrown; no_arrays = h.no_arrays }
 
 pub linked_in_order : (text : List ℕ) (listing : Listing) (files : List ClassFile) (main : List ℕ) (side : Side) (program : Program)
-    → SpellsListing text listing → assembled files listing main side ≡ Ok program → IsInOrder program
-linked_in_order text listing files main side program spells e =
+    → EncodesListing text listing → assembled files listing main side ≡ Ok program → IsInOrder program
+linked_in_order text listing files main side program encodes e =
     let given = is_given files listing main side program e in
-    in_order program (subst Ordered (sym given.whole) (ordered files listing program (is_listed text listing spells) given))
+    in_order program (subst Ordered (sym given.whole) (ordered files listing program (is_listed text listing encodes) given))
 
 -- the same of a call that answers what the files link to
 pub known : (files : List ClassFile) (listing : Listing) (main : List ℕ) (side : Side) (answer : Linked Program) → Answers faults.Memory answer (assembled files listing main side)
-    → IfOk answer (λ program. (text : List ℕ) → SpellsListing text listing → IsInOrder program)
-known files listing main side (Ok program) given = λ text spells. linked_in_order text listing files main side program spells given
+    → IfOk answer (λ program. (text : List ℕ) → EncodesListing text listing → IsInOrder program)
+known files listing main side (Ok program) given = λ text encodes. linked_in_order text listing files main side program encodes given
 known files listing main side (Err fault) given = tt

@@ -33,7 +33,7 @@ use Rattle.bytecode_model.proofs.Lists.{some_is, not_true}
 
 -- ---- places
 
--- what stands behind a list that is made item by item
+-- what stands after a list that is made item by item
 pub item_at : {X Y : Type 0} (f : X → Y) (xs : List X) (i : ℕ) (y : Y) → slice_get (map f xs) i ≡ Some y → (x : X) × (slice_get xs i ≡ Some x) × (f x ≡ y)
 item_at f [] i y e = absurd cc
 item_at f (x ∷ xs) zero y e = (x, refl, some_is (f x) y e)

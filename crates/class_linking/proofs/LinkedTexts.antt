@@ -119,14 +119,14 @@ is_there [] i name e = absurd cc
 is_there (x ∷ names) zero name e = subst (λ (n : Name). is_one_of (n ∷ names) name ≡ true) (sym (some_is x name e)) (front_is_one name names)
 is_there (x ∷ names) (suc i) name e = one_more (bytes_eq x name) (is_one_of names name) (is_there names i name e)
 
-not_behind : (x name : Name) (names : List Name) (j : ℕ) → is_one_of names x ≡ false → x ≡ name → slice_get names j ≡ Some name → ⊥
-not_behind x name names j new same e = false≢true (sym new ∙ is_there names j x (e ∙ ap Some (sym same)))
+not_after : (x name : Name) (names : List Name) (j : ℕ) → is_one_of names x ≡ false → x ≡ name → slice_get names j ≡ Some name → ⊥
+not_after x name names j new same e = false≢true (sym new ∙ is_there names j x (e ∙ ap Some (sym same)))
 
 one_place : (names : List Name) (i j : ℕ) (name : Name) → AreOnce names → slice_get names i ≡ Some name → slice_get names j ≡ Some name → i ≡ j
 one_place [] i j name once at_i at_j = absurd cc
 one_place (x ∷ names) zero zero name once at_i at_j = refl
-one_place (x ∷ names) zero (suc j) name once at_i at_j = absurd (not_behind x name names j once.0 (some_is x name at_i) at_j)
-one_place (x ∷ names) (suc i) zero name once at_i at_j = absurd (not_behind x name names i once.0 (some_is x name at_j) at_i)
+one_place (x ∷ names) zero (suc j) name once at_i at_j = absurd (not_after x name names j once.0 (some_is x name at_i) at_j)
+one_place (x ∷ names) (suc i) zero name once at_i at_j = absurd (not_after x name names i once.0 (some_is x name at_j) at_i)
 one_place (x ∷ names) (suc i) (suc j) name once at_i at_j = ap suc (one_place names i j name once.1 at_i at_j)
 
 -- a text has one place among the literals

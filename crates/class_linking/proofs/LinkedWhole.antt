@@ -29,7 +29,7 @@ use Rattle.bytecode_model.specs.Members.{methods_declared, fields_declared}
 use Rattle.bytecode_model.specs.Operands.{literals_of}
 use Rattle.bytecode_model.specs.SearchOrder.{search_order}
 use Rattle.bytecode_model.specs.Sound.{IsSound, IsSoundClass}
-use Rattle.bytecode_model.specs.Standing.{IsOfMember, CatchesKnown, IsStanding, AreStanding, is_main, BeginsIn, AreLiterals, IsLinkedOf}
+use Rattle.bytecode_model.specs.LinkedClasses.{IsOfMember, CatchesKnown, IsLinkedMethod, AreLinkedClasses, is_main, BeginsIn, AreLiterals, IsLinkedOf}
 use Rattle.class_linking.specs.Laws.{LinkedAreNamed}
 use Rattle.bytecode_model.specs.Targets.{is_type, IsMethodAt, IsFieldAt, AreNamed}
 use Rattle.class_linking.proofs.LinkedBodies.{Catches, IsMethodOf, method_is, allowed_is}
@@ -91,7 +91,7 @@ module _ (files : List ClassFile) (listing : Listing) (main : List ℕ) (side : 
 
     -- ---- how the class stands
 
-    stands_of : (index : ℕ) (method : Method) → slice_get class.methods index ≡ Some method → IsStanding program class method
+    stands_of : (index : ℕ) (method : Method) → slice_get class.methods index ≡ Some method → IsLinkedMethod program class method
     stands_of index method e =
         let one = linked_of (method_linked files listing class.file) 0 class.file.methods class.methods index method of_file.methods e in
         let fits = all_get (FitsMember class.file.pool true) class.file.methods index one.0 sound_class.fits.methods.each one.1 in
@@ -121,7 +121,7 @@ module _ (files : List ClassFile) (listing : Listing) (main : List ℕ) (side : 
   name_is : (own : ℕ) (class : LinkedClass) → slice_get program.classes own ≡ Some class → class.name ≡ (head_of class.file).name
   name_is own class there = (of_file own class there).name
 
-  class_stands : AreStanding program
+  class_stands : AreLinkedClasses program
   class_stands own class there =
       let heads = heads_of files in
       let name = name_is own class there in
@@ -130,7 +130,7 @@ module _ (files : List ClassFile) (listing : Listing) (main : List ℕ) (side : 
       record {
         count = same_length (method_linked files listing class.file) 0 class.file.methods class.methods (of_file own class there).methods;
         members = member_is own class there;
-        methods = all_from (IsStanding program class) class.methods (stands_of own class there);
+        methods = all_from (IsLinkedMethod program class) class.methods (stands_of own class there);
         named = ap is_class_name name ∙ good.named;
         supers = ap (λ (fs : List ClassFile). has_supers (heads_of fs) (head_of class.file) class.file.fields) known.back ∙ good.supers;
         left = ap₂ (λ (fs : List ClassFile) (l : Listing). left_to_library fs l (head_of class.file)) known.back known.listing_is ∙ (of_file own class there).left;

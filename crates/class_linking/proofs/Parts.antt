@@ -11,7 +11,7 @@ use Rattle.class_codec.specs.declared.tree.TableEntry.{TableEntry}
 use Rattle.insn_codec.specs.declared.fault.CodeFault.{CodeFault}
 use Rattle.insn_codec.specs.declared.insn.Insn.{Insn}
 use Rattle.insn_codec.specs.Reading.{code_of}
-use Rattle.insn_codec.specs.Spelling.{starts_of}
+use Rattle.insn_codec.specs.Encoding.{starts_of}
 use Rattle.api_listing.specs.declared.types.Listing.{Listing}
 use Rattle.class_linking.specs.declared.fault.LinkFault.{LinkFault}
 use Rattle.class_linking.specs.declared.fault.LinkFault.TheVariants as faults

@@ -9,10 +9,10 @@ use Rattle.class_codec.specs.declared.tree.Code.{Code}
 use Rattle.class_codec.specs.declared.tree.TableEntry.{TableEntry}
 use Rattle.class_codec.specs.declared.tree.Member.{Member}
 use Rattle.class_codec.specs.declared.tree.ClassFile.{ClassFile}
-use Rattle.class_codec.specs.Fits.{CanSpell}
+use Rattle.class_codec.specs.Fits.{IsEncodable}
 use Rattle.insn_codec.specs.declared.insn.Insn.{Insn}
 use Rattle.insn_codec.specs.Fits as code
-use Rattle.insn_codec.specs.Spelling.{size, starts_from, starts_of}
+use Rattle.insn_codec.specs.Encoding.{size, starts_from, starts_of}
 use Rattle.api_listing.specs.declared.types.Listing.{Listing}
 use Rattle.api_listing.specs.Listing.{IsFew}
 use Rattle.bytecode_model.specs.declared.program.Handler.{Handler}
@@ -74,7 +74,7 @@ module _ (files : List ClassFile) (listing : Listing) (class : List ℕ) (pool :
 
 -- a method with code
 pub sound_code : (files : List ClassFile) (listing : Listing) (file : ClassFile) (method end : ℕ) (member : Member) (given : Code) (insns : List Insn) (refs : List Target) (handlers : List Handler)
-    → length insns ≤ 65535 → code.CanSpell insns → length given.table < 2 ^ 16 → operands_linked files listing (head_of file).name file.pool method insns ≡ Ok refs
+    → length insns ≤ 65535 → code.IsEncodable insns → length given.table < 2 ^ 16 → operands_linked files listing (head_of file).name file.pool method insns ≡ Ok refs
     → handlers_linked files listing (head_of file).name file.pool method end (starts_of insns) given.table ≡ Ok handlers → IsSoundMethod (with_code file member given insns refs handlers)
 sound_code files listing file method end member given insns refs handlers few fits short operands table =
     let class = (head_of file).name in
@@ -95,12 +95,12 @@ abbrev pub SoundMethods : List Method → Type 0
 SoundMethods methods = AllByRecursion IsSoundMethod methods
 
 module _ (files : List ClassFile) (listing : Listing) where
-  sound_class : (file : ClassFile) (methods : List Method) → CanSpell file → methods_linked files listing file ≡ Ok methods → SoundMethods methods → IsSoundClass (class_with file methods)
+  sound_class : (file : ClassFile) (methods : List Method) → IsEncodable file → methods_linked files listing file ≡ Ok methods → SoundMethods methods → IsSoundClass (class_with file methods)
   sound_class file methods fits made sound =
       let many = same_length (method_linked files listing file) 0 file.methods methods (class_parts files listing file methods made).each in
       record { fits = fits; name = refl; parent = refl; few = omega (arith, many, fits.methods.count); methods = sound }
 
-  sound_classes : (at : ℕ) (some : List ClassFile) (methods : List (List Method)) → AllByRecursion CanSpell some → linked_from (λ i. methods_linked files listing) at some ≡ Ok methods
+  sound_classes : (at : ℕ) (some : List ClassFile) (methods : List (List Method)) → AllByRecursion IsEncodable some → linked_from (λ i. methods_linked files listing) at some ≡ Ok methods
       → AllByRecursion SoundMethods methods → AllByRecursion IsSoundClass (classes_with some methods)
   sound_classes at [] methods fit made sound = tt
   sound_classes at (file ∷ others) [] fit made sound = tt
@@ -116,7 +116,7 @@ few_classes (file ∷ files) (first ∷ methods) = omega (arith, few_classes fil
 -- ---- the program
 
 pub is_sound : (files : List ClassFile) (listing : Listing) (main : List ℕ) (methods : List (List Method)) (literals : List (List ℕ)) (class method : ℕ) → length files ≤ 1001 → IsFew listing
-    → AllByRecursion CanSpell files → members_of files listing ≡ Ok (methods, literals) → AllByRecursion SoundMethods methods → main_of files main ≡ Some (class, method)
+    → AllByRecursion IsEncodable files → members_of files listing ≡ Ok (methods, literals) → AllByRecursion SoundMethods methods → main_of files main ≡ Some (class, method)
     → IsSound (record { classes = classes_with files methods; listing = listing; literals = literals; main_class = class; main_method = method })
 is_sound files listing main methods literals class method few listed fit made sound begin =
     let each = (members_are files listing (methods, literals) made).0 in

@@ -7,12 +7,12 @@ use Rattle.std.specs.Ordering.{nat_cmp}
 use Rattle.std.proofs.lemmas.Bool.Decides.{nat_tests}
 use Rattle.std.proofs.lemmas.List.Sorted.{searched}
 use Rattle.insn_codec.specs.declared.insn.Insn.{Insn}
-use Rattle.insn_codec.specs.Spelling.{size, starts_from}
+use Rattle.insn_codec.specs.Encoding.{size, starts_from}
 use Rattle.insn_codec.proofs.Standing.{size-some}
 use Rattle.bytecode_model.specs.Starts.{index_at}
 use Rattle.class_linking.specs.Handlers.{RisesFrom}
 
--- Each is as far above the first as it stands behind it.
+-- Each is as far above the first as it stands after it.
 above : (low : ℕ) (ns : List ℕ) (i : ℕ) → RisesFrom low ns → i < length ns → low + i ≤ get_or ns i 0
 above low [] i up within = absurd (omega arith)
 above low (n ∷ ns) zero up within = omega (arith, up.0)
@@ -44,15 +44,15 @@ stands low at (n ∷ ns) (suc i) q up within is =
 
 -- A number between those before a place and those from it on is not among them.
 stands_not : (at : ℕ) (ns : List ℕ) (i q : ℕ) → ((k : ℕ) → k < i → get_or ns k 0 < q) → ((k : ℕ) → i ≤ k → k < length ns → q < get_or ns k 0) → position_from (λ (s : ℕ). eqb s q) at ns ≡ None
-stands_not at [] i q before behind = refl
-stands_not at (n ∷ ns) zero q before behind =
-    ap (λ b. cond b (Some at) (position_from (λ (s : ℕ). eqb s q) (at + 1) ns)) (greater n q (behind 0 (omega arith) (omega arith)))
-    ∙ stands_not (at + 1) ns 0 q (λ k l. absurd (omega arith)) (λ k l m. behind (suc k) (omega arith) (omega arith)) where
+stands_not at [] i q before following = refl
+stands_not at (n ∷ ns) zero q before following =
+    ap (λ b. cond b (Some at) (position_from (λ (s : ℕ). eqb s q) (at + 1) ns)) (greater n q (following 0 (omega arith) (omega arith)))
+    ∙ stands_not (at + 1) ns 0 q (λ k l. absurd (omega arith)) (λ k l m. following (suc k) (omega arith) (omega arith)) where
       greater : (a b : ℕ) → b < a → eqb a b ≡ false
       greater a b l = grind (arith, nat_tests)
-stands_not at (n ∷ ns) (suc i) q before behind =
+stands_not at (n ∷ ns) (suc i) q before following =
     ap (λ b. cond b (Some at) (position_from (λ (s : ℕ). eqb s q) (at + 1) ns)) (other n q (before 0 (omega arith)))
-    ∙ stands_not (at + 1) ns i q (λ k l. before (suc k) (omega arith)) (λ k l m. behind (suc k) (omega arith) (omega arith))
+    ∙ stands_not (at + 1) ns i q (λ k l. before (suc k) (omega arith)) (λ k l m. following (suc k) (omega arith) (omega arith))
 
 -- What a search by halving finds is the first place, and no further than the number.
 pub halved : (ns : List ℕ) (q : ℕ) (r : Result ℕ ℕ) → RisesFrom 0 ns → IsBinarySearchResult (λ y. nat_cmp y q) ns r

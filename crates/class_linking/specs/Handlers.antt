@@ -20,7 +20,7 @@ caught files listing class pool method at index =
     if index == 0 then Ok None
     else (told_at class method at (class_linked true (known_in files listing) (class_at pool index)) >>= λ (t : Target). Ok (Some (class_at pool index)))
 
--- an entry of the exception table of a method whose instructions begin at these bytes; it is told behind them
+-- an entry of the exception table of a method whose instructions begin at these bytes; it is told after them
 abbrev pub handler_linked : List ClassFile → Listing → List ℕ → List Const → ℕ → ℕ → List ℕ → TableEntry → Linked Handler
 handler_linked files listing class pool method end starts entry = do
   from ← ok_or (insn_at starts entry.from) (faults.Operand class method end)

@@ -6,7 +6,7 @@ use Rattle.api_listing.specs.declared.types.ListedClass.{ListedClass}
 use Rattle.bytecode_model.specs.Conditions.{stays_within}
 use Rattle.bytecode_model.specs.ByName.{noted}
 
--- The way up from the class leaves the given classes behind just so many of them.
+-- The way up from the class leaves the given classes after just so many of them.
 abbrev pub LeavesAfter : List ListedClass → List ℕ → ℕ → Type 0
 LeavesAfter heads name n = (stays_within n heads name ≡ true) × (stays_within (n + 1) heads name ≡ false)
 

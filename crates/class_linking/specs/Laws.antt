@@ -2,13 +2,13 @@
 use Rattle.std.specs.Prelude.{◌≡◌, ℕ, List, Ok}
 use Rattle.class_codec.specs.declared.tree.ClassFile.{ClassFile}
 use Rattle.api_listing.specs.declared.types.Listing.{Listing}
-use Rattle.api_listing.specs.Listing.{SpellsListing}
+use Rattle.api_listing.specs.Listing.{EncodesListing}
 use Rattle.bytecode_model.specs.declared.program.Program.{Program}
 use Rattle.bytecode_model.specs.declared.program.Side.{Side}
 use Rattle.bytecode_model.specs.Named.{AreRightOperands}
 use Rattle.bytecode_model.specs.Order.{IsInOrder}
 use Rattle.bytecode_model.specs.Sound.{IsSound}
-use Rattle.bytecode_model.specs.Standing.{IsLinkedOf}
+use Rattle.bytecode_model.specs.LinkedClasses.{IsLinkedOf}
 use Rattle.class_linking.specs.Linking.{assembled}
 
 abbrev pub LinkedOperandsAreRight : Type 0
@@ -25,4 +25,4 @@ LinkedAreNamed =
 abbrev pub LinkedIsInOrder : Type 0
 LinkedIsInOrder =
     (text : List ℕ) (listing : Listing) (files : List ClassFile) (main : List ℕ) (side : Side) (program : Program)
-    → SpellsListing text listing → assembled files listing main side ≡ Ok program → IsInOrder program
+    → EncodesListing text listing → assembled files listing main side ≡ Ok program → IsInOrder program

@@ -1,7 +1,7 @@
 //! The exception table of a method, by indices of instructions. (The Java Virtual Machine Specification, section 4.7.3.)
 
 ghost use Rattle.std.specs.Prelude.{◌≡◌, ◌<◌, ◌^◌, IfOk, ok_or};
-ghost use Rattle.insn_codec.specs.Spelling.{len_from, starts_of};
+ghost use Rattle.insn_codec.specs.Encoding.{len_from, starts_of};
 ghost use Rattle.class_linking.specs.declared.fault.LinkFault.TheVariants.{Operand};
 ghost use Rattle.mon_base.specs.Answer.{Answers};
 ghost use Rattle.bytecode_model.specs.Starts.{index_at, insn_at};
@@ -67,7 +67,7 @@ impl Starts {
     }
 }
 
-/// The handlers of a code, or the first entry that is refused; it is told behind the instructions.
+/// The handlers of a code, or the first entry that is refused; it is told after the instructions.
 pub fn handlers_linked(
     alloc: Global,
     index: &Index,

@@ -89,7 +89,7 @@ fn place_of(index: u16, how: Use) -> usize {
     usize::from(index) * KEPT_USES + usize::from(is_second(how))
 }
 
-/// Whether it is kept behind the other use of its constant.
+/// Whether it is kept after the other use of its constant.
 fn is_second(how: Use) -> bool {
     match how {
         Use::Field { is_static, writes } => writes,

@@ -2,15 +2,15 @@
 
 ghost use Rattle.std.specs.Prelude.{◌≡◌, ◌≤◌, ℕ, List, length, Ok, Some, ◌++◌, IfErr, IfOk, OnOk};
 ghost use Rattle.std.specs.List.{AllByRecursion};
-ghost use Rattle.class_codec.specs.Fits.{CanSpell};
-ghost use Rattle.api_listing.specs.Listing.{IsFew, SpellsListing};
+ghost use Rattle.class_codec.specs.Fits.{IsEncodable};
+ghost use Rattle.api_listing.specs.Listing.{IsFew, EncodesListing};
 ghost use Rattle.mon_base.specs.Answer.{Answers, Fails};
 ghost use Rattle.bytecode_model.specs.Heads.{all_classes, head_of, heads_of, is_member, main_name, main_desc};
 ghost use Rattle.bytecode_model.specs.Named.{AreRightOperands};
 ghost use Rattle.bytecode_model.specs.Operands.{literals_of};
 ghost use Rattle.bytecode_model.specs.Order.{IsInOrder};
 ghost use Rattle.bytecode_model.specs.Sound.{IsSoundMethod, IsSound};
-ghost use Rattle.bytecode_model.specs.Standing.{IsLinkedOf};
+ghost use Rattle.bytecode_model.specs.LinkedClasses.{IsLinkedOf};
 ghost use Rattle.class_linking.specs.ClassConditions.{classes_linked};
 ghost use Rattle.class_linking.specs.Linking.{if_static, static_main, main_of, each_linked, class_with, classes_with};
 ghost use Rattle.class_linking.specs.Linking.{members_of, assembled, linked};
@@ -44,7 +44,7 @@ pub fn link(
     main: &Bytes,
     side: Side,
 ) -> Result<Program, LinkFault>
-    requires fits { AllByRecursion CanSpell files }
+    requires fits { AllByRecursion IsEncodable files }
     requires listed { IsFew listing }
     ensures exact { Answers LinkFault.Memory result (linked files listing main.now side) }
     ensures few { IfOk result (λ program. length program.classes ≤ max_files) }
@@ -52,7 +52,7 @@ pub fn link(
     ensures sound { IfOk result IsSound }
     ensures operands { IfOk result AreRightOperands }
     ensures named { IfOk result (IsLinkedOf side listing main.now) }
-    ensures order { IfOk result (λ program. (text : List ℕ) → SpellsListing text listing → IsInOrder program) }
+    ensures order { IfOk result (λ program. (text : List ℕ) → EncodesListing text listing → IsInOrder program) }
 {
     let count = files.len();
     if count > MAX_FILES {
@@ -72,14 +72,14 @@ pub fn assemble(
     side: Side,
 ) -> Result<Program, LinkFault>
     requires few { length files ≤ 1001 }
-    requires fits { AllByRecursion CanSpell files }
+    requires fits { AllByRecursion IsEncodable files }
     requires listed { IsFew listing }
     ensures exact { Answers LinkFault.Memory result (assembled files listing main.now side) }
     ensures back { IfOk result (λ program. unlinked program ≡ files) }
     ensures sound { IfOk result IsSound }
     ensures operands { IfOk result AreRightOperands }
     ensures named { IfOk result (IsLinkedOf side listing main.now) }
-    ensures order { IfOk result (λ program. (text : List ℕ) → SpellsListing text listing → IsInOrder program) }
+    ensures order { IfOk result (λ program. (text : List ℕ) → EncodesListing text listing → IsInOrder program) }
 {
     linked_operands_are_right();
     linked_programs_are_named();
@@ -95,7 +95,7 @@ fn assembled_program(
     side: Side,
 ) -> Result<Program, LinkFault>
     requires few { length files ≤ 1001 }
-    requires fits { AllByRecursion CanSpell files }
+    requires fits { AllByRecursion IsEncodable files }
     requires listed { IsFew listing }
     ensures exact { Answers LinkFault.Memory result (assembled files listing main.now side) }
     ensures back { IfOk result (λ program. unlinked program ≡ files) }
@@ -125,7 +125,7 @@ fn parts(
     side: Side,
 ) -> Result<(Members, (u32, u32)), LinkFault>
     requires few { length files.now ≤ 1001 }
-    requires fits { AllByRecursion CanSpell files.now }
+    requires fits { AllByRecursion IsEncodable files.now }
     requires listed { IsFew listing.now }
     ensures classes { IfOk result (λ parts. classes_linked side (heads_of files.now) listing.now.classes files.now ≡ Ok tt) }
     ensures members { IfOk result (λ parts. members_of files.now listing.now ≡ Ok parts.0) }
@@ -148,7 +148,7 @@ fn members_checked(
     side: Side,
 ) -> Result<Members, LinkFault>
     requires few { length files.now ≤ 1001 }
-    requires fits { AllByRecursion CanSpell files.now }
+    requires fits { AllByRecursion IsEncodable files.now }
     requires listed { IsFew listing.now }
     ensures classes { IfOk result (λ members. classes_linked side (heads_of files.now) listing.now.classes files.now ≡ Ok tt) }
     ensures members { IfOk result (λ members. members_of files.now listing.now ≡ Ok members) }
@@ -176,7 +176,7 @@ fn members_under(
     side: Side,
 ) -> Result<Members, LinkFault>
     requires few { length files.now ≤ 1001 }
-    requires fits { AllByRecursion CanSpell files.now }
+    requires fits { AllByRecursion IsEncodable files.now }
     requires heads { heads.now ≡ heads_of files.now }
     requires listed { IsFew listing.now }
     ensures classes { IfOk result (λ members. classes_linked side (heads_of files.now) listing.now.classes files.now ≡ Ok tt) }
@@ -197,7 +197,7 @@ fn members(
     listing: &Listing,
 ) -> Result<Members, LinkFault>
     requires count { length files.now ≤ 1001 }
-    requires fits { AllByRecursion CanSpell files.now }
+    requires fits { AllByRecursion IsEncodable files.now }
     requires heads { heads.now ≡ heads_of files.now }
     requires listed { IsFew listing.now }
     ensures answers { Answers LinkFault.Memory result (members_of files.now listing.now) }
@@ -217,7 +217,7 @@ fn methods_of(
     listing: &Listing,
 ) -> Result<List<List<Method>>, LinkFault>
     requires count { length files.now ≤ 1001 }
-    requires fits { AllByRecursion CanSpell files.now }
+    requires fits { AllByRecursion IsEncodable files.now }
     requires heads { heads.now ≡ heads_of files.now }
     requires literals { literals.now ≡ literals_of files.now }
     requires listed { IsFew listing.now }
@@ -240,7 +240,7 @@ fn methods_among(
     listing: &Listing,
 ) -> Result<List<List<Method>>, LinkFault>
     requires count { length files.now ≤ 1001 }
-    requires fits { AllByRecursion CanSpell files.now }
+    requires fits { AllByRecursion IsEncodable files.now }
     requires heads { heads.now ≡ heads_of files.now }
     requires classes { classes.now ≡ all_classes listing.now files.now }
     requires literals { literals.now ≡ literals_of files.now }
@@ -260,7 +260,7 @@ fn each_linked(
     index: &Index,
     files: &[ClassFile],
 ) -> Result<List<List<Method>>, LinkFault>
-    requires { AllByRecursion CanSpell files.now }
+    requires { AllByRecursion IsEncodable files.now }
     ensures answers { Answers LinkFault.Memory result (each_linked index.now.files index.now.listing files.now) }
     ensures sound { IfOk result (AllByRecursion (AllByRecursion IsSoundMethod)) }
 {
@@ -342,7 +342,7 @@ fn class_names(alloc: Global, file: &ClassFile) -> Result<(Bytes, Bytes), NoMemo
 /// The class and the method, by their indices, that a program begins with.
 fn main_of(files: &[ClassFile], main: &[u8]) -> Option<(u32, u32)>
     requires count { length files.now ≤ 1001 }
-    requires fits { AllByRecursion CanSpell files.now }
+    requires fits { AllByRecursion IsEncodable files.now }
     ensures { result ≡ main_of files.now main.now }
 {
     let mut class: u32 = 0;
@@ -359,7 +359,7 @@ fn main_of(files: &[ClassFile], main: &[u8]) -> Option<(u32, u32)>
 
 /// The first `main` of the class, if it is static.
 fn static_main(class: u32, file: &ClassFile) -> Option<(u32, u32)>
-    requires { CanSpell file.now }
+    requires { IsEncodable file.now }
     ensures { result ≡ static_main class file.now.pool 0 file.now.methods }
 {
     let pool = file.pool.as_slice();

@@ -2,10 +2,10 @@
 
 ghost use Rattle.std.specs.Prelude.{◌≡◌, ◌≤◌, ◌<◌, ◌^◌, true, length, IfOk};
 ghost use Rattle.std.specs.List.{AllByRecursion};
-ghost use Rattle.class_codec.specs.Fits.{CanSpell, FitsMember};
+ghost use Rattle.class_codec.specs.Fits.{IsEncodable, FitsMember};
 ghost use Rattle.insn_codec.specs.Fits as insns;
 ghost use Rattle.insn_codec.specs.Reading.{code_of};
-ghost use Rattle.insn_codec.specs.Spelling.{len_from, starts_of};
+ghost use Rattle.insn_codec.specs.Encoding.{len_from, starts_of};
 ghost use Rattle.mon_base.specs.Answer.{Answers, TellsFault};
 ghost use Rattle.bytecode_model.specs.Heads.{all_classes, desc_of, head_of, name_of};
 ghost use Rattle.bytecode_model.specs.LeftMethods.{left_to_library};
@@ -37,7 +37,7 @@ pub fn methods_linked(
     index: &Index,
     file: &ClassFile,
 ) -> Result<List<Method>, LinkFault>
-    requires { CanSpell file.now }
+    requires { IsEncodable file.now }
     ensures answers { Answers LinkFault.Memory result (methods_linked index.now.files index.now.listing file.now) }
     ensures sound { IfOk result (AllByRecursion IsSoundMethod) }
 {
@@ -81,7 +81,7 @@ fn each_linked(
     class: &Bytes,
     known: &mut Known,
 ) -> Result<List<Method>, LinkFault>
-    requires fits { CanSpell file.now }
+    requires fits { IsEncodable file.now }
     requires name { class.now ≡ (head_of file.now).name }
     requires known { AreRemembered index.now.files index.now.listing file.now.pool known.old }
     requires order { OverridesAs index.now.listing order.now (search_order (all_classes index.now.listing index.now.files) class.now) }
@@ -277,7 +277,7 @@ fn read_insns(
 ) -> Result<List<Insn>, LinkFault>
     requires { length code.now ≤ 65535 }
     ensures answers { Answers LinkFault.Memory result (read_of class.now method (code_of code.now)) }
-    ensures fits { IfOk result insns.CanSpell }
+    ensures fits { IfOk result insns.IsEncodable }
     ensures len { IfOk result (λ insns. len_from 0 insns ≡ length code.now) }
     ensures count { IfOk result (λ insns. length insns ≤ 65535) }
 {

@@ -17,12 +17,12 @@ pub bind_front : (front text : List ℕ) (others : Shown) → with_front front (
 bind_front front text (Ok rest) = ap Ok (sym (append_assoc front text rest))
 bind_front front text (Err e) = refl
 
--- a text behind a front is no fault
+-- a text after a front is no fault
 pub fault_front : (front : List ℕ) (answer : Shown) (e : ShowFault) → with_front front answer ≡ Err e → answer ≡ Err e
 fault_front front (Ok text) e is = absurd (false≢true (sym (ap is_ok is)))
 fault_front front (Err f) e is = is
 
--- the others behind the first
+-- the others after the first
 pub next : (front new : List ℕ) (first others : Shown) → with_front front first ≡ Ok new
     → with_front new others ≡ with_front front (first >>= λ text. others >>= λ rest. Ok (text ++ rest))
 next front new (Ok text) others is =

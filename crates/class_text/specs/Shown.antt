@@ -10,7 +10,7 @@ use Rattle.insn_codec.specs.declared.insn.Insn.{Insn}
 use Rattle.insn_codec.specs.declared.fault.CodeFault.{CodeFault}
 use Rattle.insn_codec.specs.declared.fault.CodeFault.TheVariants as codes
 use Rattle.insn_codec.specs.Reading.{code_of}
-use Rattle.insn_codec.specs.Spelling.{starts_of}
+use Rattle.insn_codec.specs.Encoding.{starts_of}
 use Rattle.api_listing.specs.declared.types.Listing.{Listing}
 use Rattle.bytecode_model.specs.Heads.{class_at}
 use Rattle.bytecode_model.specs.Conditions.{codes_of}

@@ -3,9 +3,9 @@
 ghost use Rattle.std.specs.Prelude.{◌≡◌, ◌++◌, ◌≤◌, ◌<◌, ◌^◌, true, length, slice_get, filter_map, Some};
 ghost use Rattle.std.specs.Prelude.{option_copied, OnOk, IfOk};
 ghost use Rattle.std.specs.List.{AllByRecursion, flat_map};
-ghost use Rattle.class_codec.specs.Fits.{CanSpell, FitsMember};
+ghost use Rattle.class_codec.specs.Fits.{IsEncodable, FitsMember};
 ghost use Rattle.insn_codec.specs.Reading.{code_of};
-ghost use Rattle.insn_codec.specs.Spelling.{len_from, starts_of};
+ghost use Rattle.insn_codec.specs.Encoding.{len_from, starts_of};
 ghost use Rattle.bytecode_model.specs.Heads.{class_at};
 ghost use Rattle.bytecode_model.specs.Conditions.{code_in};
 ghost use Rattle.class_text.specs.Lines.{handler_line};
@@ -26,7 +26,7 @@ use std::alloc::Global;
 /// The text of the class files: a line for each class, each method, each instruction and each handler. Else the first
 /// method, in order, whose code is of no form.
 pub fn show(alloc: Global, listing: &Listing, files: &[ClassFile]) -> Result<Bytes, ShowFault>
-    requires { AllByRecursion CanSpell files.now }
+    requires { AllByRecursion IsEncodable files.now }
     ensures exact { Answers ShowFault.Memory result (shown listing.now files.now) }
 {
     let library = Library::new(alloc, listing)?;
@@ -41,7 +41,7 @@ fn push_classes(
     library: &Library,
     files: &[ClassFile],
 ) -> Result<(), ShowFault>
-    requires { AllByRecursion CanSpell files.now }
+    requires { AllByRecursion IsEncodable files.now }
     ensures { Appends result out.old out.new (shown library.now files.now) }
 {
     let mut left = files;
@@ -58,7 +58,7 @@ fn push_class(
     library: &Library,
     file: &ClassFile,
 ) -> Result<(), ShowFault>
-    requires { CanSpell file.now }
+    requires { IsEncodable file.now }
     ensures { Appends result out.old out.new (class_shown library.now file.now) }
 {
     push_class_line(out, file)?;
@@ -71,7 +71,7 @@ fn push_methods(
     library: &Library,
     file: &ClassFile,
 ) -> Result<(), ShowFault>
-    requires { CanSpell file.now }
+    requires { IsEncodable file.now }
     ensures { Appends result out.old out.new (texts_from (method_shown library.now file.now) 0 file.now.methods) }
 {
     let mut number: u32 = 0;

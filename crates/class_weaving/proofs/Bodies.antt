@@ -99,7 +99,7 @@ module _ (w : Weaves) where
   pub made_long : length w.made.insns ≡ parts.total w.plan base refs
   made_long = ap length insns_are ∙ parts.insns_many w.plan base w.pool fronts 0 w.method.insns refs (sym same_length)
 
-  -- Behind the last instruction the code ends.
+  -- After the last instruction the code ends.
   pub end_is : front n ≡ length w.made.insns
   end_is = ap (parts.before w.plan base refs) (sym same_length) ∙ parts.before_end w.plan base refs ∙ sym made_long
 

@@ -38,7 +38,7 @@ grows at (site ∷ sites) zero j le within = least at (site ∷ sites) j within
 grows at (site ∷ sites) (suc i) zero le within = absurd (omega arith)
 grows at (site ∷ sites) (suc i) (suc j) le within = grows (at + length (part_of site)) sites i j (omega (arith, le)) (omega (arith, within))
 
--- What stands behind a part is behind all of it.
+-- What stands after a part is after all of it.
 reaches : (at : ℕ) (sites : List (Option Block)) (i j : ℕ) (site : Option Block) → slice_get sites i ≡ Some site → i < j → j ≤ length sites
     → front at sites i + length (part_of site) ≤ front at sites j
 reaches at [] i j site e lt within = absurd cc

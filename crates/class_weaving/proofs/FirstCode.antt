@@ -21,7 +21,7 @@ others_stay code [] e = refl
 others_stay code (attributes.Code c ∷ attrs) e = absurd cc
 others_stay code (attributes.Other o ∷ attrs) e = ap (λ (xs : List Attr). attributes.Other o ∷ xs) (others_stay code attrs e)
 
--- behind the last code the others are as they were
+-- after the last code the others are as they were
 pub last_code : (code : Code) (made next last left rest all : List Attr) (attr : Attr) → left ≡ attr ∷ rest → attr_with code attr ≡ attributes.Code code → first_code rest ≡ None
     → next ≡ made ++ attributes.Code code ∷ [] → last ≡ next ++ rest → made ++ map (attr_with code) left ≡ all → last ≡ all
 last_code code made next last left rest all attr split is none pushed put so_far =

@@ -4,7 +4,7 @@ pub mod FirstCode
 pub mod Sites
 pub mod CodeCases
 pub mod StateFits
-pub mod Spells
+pub mod Encodes
 pub mod Sizing
 pub mod Wanted
 pub mod Lists

@@ -13,9 +13,9 @@ use Rattle.class_codec.specs.declared.tree.Code.{Code}
 use Rattle.class_codec.specs.declared.tree.Const.{Const}
 use Rattle.class_codec.specs.declared.tree.Member.{Member}
 use Rattle.class_codec.specs.declared.tree.Other.{Other}
-use Rattle.class_codec.specs.Spelling as spell
+use Rattle.class_codec.specs.Encoding as encode
 use Rattle.mon_base.specs.Widths.{u2, u4}
-use Rattle.insn_codec.specs.Spelling.{starts_of}
+use Rattle.insn_codec.specs.Encoding.{starts_of}
 use Rattle.bytecode_model.specs.declared.program.Method.{Method}
 use Rattle.bytecode_model.specs.Heads.{text_at}
 use Rattle.offset_patch.specs.Lines.{Line, are_within, attr_kept, attrs_kept, before, each_kept, line, line_moved, lines_in, lines_moved, lines_of, start_moved, table, table_moved}
@@ -30,46 +30,46 @@ use Rattle.class_weaving.specs.Woven.{sites_of}
 contains_later : {X : Type 0} (xs : List X) (x y : X) → Contains xs x → Contains (y ∷ xs) x
 contains_later xs x y c = (suc c.0, omega (arith, c.1), c.2)
 
--- the spelling of an item is no longer than that of all
+-- the encoding of an item is no longer than that of all
 part_short : {X : Type 0} (f : X → List ℕ) (xs : List X) (x : X) → Contains xs x → length (f x) ≤ length (flat_map f xs)
 part_short f [] x c = absurd (omega (arith, c.1))
 part_short f (y ∷ xs) x (zero, few, is) = omega (arith, length-append (f y) (flat_map f xs), ap (λ z. length (f z)) is)
 part_short f (y ∷ xs) x (suc k, few, is) = omega (arith, length-append (f y) (flat_map f xs), part_short f xs x (k, omega (arith, few), is))
 
-behind_short : (xs ys : List ℕ) → length ys ≤ length (xs ++ ys)
-behind_short xs ys = omega (arith, length-append xs ys)
+after_short : (xs ys : List ℕ) → length ys ≤ length (xs ++ ys)
+after_short xs ys = omega (arith, length-append xs ys)
 
 -- ---- the attributes of a code are no longer than the file
 
-attrs_short : (code : Code) → length (flat_map spell.other code.attrs) ≤ length (spell.attribute (attributes.Code code))
+attrs_short : (code : Code) → length (flat_map encode.other code.attrs) ≤ length (encode.attribute (attributes.Code code))
 attrs_short code =
-    let others = flat_map spell.other code.attrs in
-    let one = behind_short (u2 (length code.attrs)) others in
-    let two = behind_short (spell.with_count spell.table_entry code.table) (spell.with_count spell.other code.attrs) in
-    let three = behind_short (spell.block code.code) (spell.with_count spell.table_entry code.table ++ spell.with_count spell.other code.attrs) in
-    let four = behind_short (u2 code.max_stack ++ u2 code.max_locals) (spell.block code.code ++ (spell.with_count spell.table_entry code.table ++ spell.with_count spell.other code.attrs)) in
-    let five = behind_short (u4 (length (spell.contents code))) (spell.contents code) in
-    let six = behind_short (u2 code.name) (spell.block (spell.contents code)) in
+    let others = flat_map encode.other code.attrs in
+    let one = after_short (u2 (length code.attrs)) others in
+    let two = after_short (encode.with_count encode.table_entry code.table) (encode.with_count encode.other code.attrs) in
+    let three = after_short (encode.block code.code) (encode.with_count encode.table_entry code.table ++ encode.with_count encode.other code.attrs) in
+    let four = after_short (u2 code.max_stack ++ u2 code.max_locals) (encode.block code.code ++ (encode.with_count encode.table_entry code.table ++ encode.with_count encode.other code.attrs)) in
+    let five = after_short (u4 (length (encode.contents code))) (encode.contents code) in
+    let six = after_short (u2 code.name) (encode.block (encode.contents code)) in
     omega (arith, one, two, three, four, five, six)
 
-member_short : (member : Member) → length (flat_map spell.attribute member.attrs) ≤ length (spell.member member)
+member_short : (member : Member) → length (flat_map encode.attribute member.attrs) ≤ length (encode.member member)
 member_short member =
-    let one = behind_short (u2 (length member.attrs)) (flat_map spell.attribute member.attrs) in
-    let two = behind_short (u2 member.flags ++ u2 member.name ++ u2 member.desc) (spell.with_count spell.attribute member.attrs) in
+    let one = after_short (u2 (length member.attrs)) (flat_map encode.attribute member.attrs) in
+    let two = after_short (u2 member.flags ++ u2 member.name ++ u2 member.desc) (encode.with_count encode.attribute member.attrs) in
     omega (arith, one, two)
 
-methods_short : (file : ClassFile) → length (flat_map spell.member file.methods) ≤ length (spell.spelling file)
+methods_short : (file : ClassFile) → length (flat_map encode.member file.methods) ≤ length (encode.encoding file)
 methods_short file =
-    let rest = spell.with_count spell.attribute file.attrs in
-    let methods = spell.with_count spell.member file.methods in
-    let fields = spell.with_count spell.member file.fields in
-    let one = behind_short (u2 (length file.methods)) (flat_map spell.member file.methods) in
+    let rest = encode.with_count encode.attribute file.attrs in
+    let methods = encode.with_count encode.member file.methods in
+    let fields = encode.with_count encode.member file.fields in
+    let one = after_short (u2 (length file.methods)) (flat_map encode.member file.methods) in
     let two = length-append methods rest in
-    let three = behind_short fields (methods ++ rest) in
-    let four = behind_short (spell.with_count u2 file.interfaces) (fields ++ (methods ++ rest)) in
-    let five = behind_short (u2 file.flags ++ u2 file.this_class ++ u2 file.super_class) (spell.with_count u2 file.interfaces ++ (fields ++ (methods ++ rest))) in
-    let six = behind_short (spell.with_count spell.constant file.pool) (spell.body file) in
-    let seven = behind_short (u4 0xCAFEBABE ++ u2 file.minor ++ u2 49) (spell.with_count spell.constant file.pool ++ spell.body file) in
+    let three = after_short fields (methods ++ rest) in
+    let four = after_short (encode.with_count u2 file.interfaces) (fields ++ (methods ++ rest)) in
+    let five = after_short (u2 file.flags ++ u2 file.this_class ++ u2 file.super_class) (encode.with_count u2 file.interfaces ++ (fields ++ (methods ++ rest))) in
+    let six = after_short (encode.with_count encode.constant file.pool) (encode.body file) in
+    let seven = after_short (u4 0xCAFEBABE ++ u2 file.minor ++ u2 49) (encode.with_count encode.constant file.pool ++ encode.body file) in
     omega (arith, one, two, three, four, five, six, seven)
 
 -- ---- a table that is moved
@@ -196,49 +196,49 @@ table_short f bytes made e = by (lines_of bytes) refl e
             let same : table moved ≡ made = cc in
             omega (arith, ap length same, table_long moved, moved_long f lines moved s, table_read bytes lines r)
 
-other_long : (attr : Other) → length (spell.other attr) ≡ 6 + length attr.bytes
+other_long : (attr : Other) → length (encode.other attr) ≡ 6 + length attr.bytes
 other_long attr =
     omega (
       arith,
-      length-append (u2 attr.name) (spell.block attr.bytes),
+      length-append (u2 attr.name) (encode.block attr.bytes),
       length-append (u4 (length attr.bytes)) attr.bytes,
       length-bytes_high_first 2 attr.name,
       length-bytes_high_first 4 (length attr.bytes),
     )
 
-kept_short : (pool : List Const) (f : ℕ → Option ℕ) (attrs : List Other) → length (flat_map spell.other (each_kept pool f attrs)) ≤ length (flat_map spell.other attrs)
+kept_short : (pool : List Const) (f : ℕ → Option ℕ) (attrs : List Other) → length (flat_map encode.other (each_kept pool f attrs)) ≤ length (flat_map encode.other attrs)
 kept_short pool f [] = omega arith
 kept_short pool f (attr ∷ attrs) = by (bytes_eq (text_at pool attr.name) (codes "LineNumberTable")) (table_moved f attr.bytes) refl (kept_short pool f attrs)
   where
     rest : List Other
     rest = each_kept pool f attrs
 
-    by : (b : Bool) (o : Option (List ℕ)) → table_moved f attr.bytes ≡ o → length (flat_map spell.other rest) ≤ length (flat_map spell.other attrs)
-        → length (flat_map spell.other (cons_option (if b then option_map (λ bytes. record { name = attr.name; bytes = bytes }) o else None) rest))
-        ≤ length (flat_map spell.other (attr ∷ attrs))
-    by true None e others = omega (arith, others, length-append (spell.other attr) (flat_map spell.other attrs))
+    by : (b : Bool) (o : Option (List ℕ)) → table_moved f attr.bytes ≡ o → length (flat_map encode.other rest) ≤ length (flat_map encode.other attrs)
+        → length (flat_map encode.other (cons_option (if b then option_map (λ bytes. record { name = attr.name; bytes = bytes }) o else None) rest))
+        ≤ length (flat_map encode.other (attr ∷ attrs))
+    by true None e others = omega (arith, others, length-append (encode.other attr) (flat_map encode.other attrs))
     by true (Some made) e others =
         let one : Other = record { name = attr.name; bytes = made } in
         omega (
           arith,
           others,
-          length-append (spell.other attr) (flat_map spell.other attrs),
-          length-append (spell.other one) (flat_map spell.other rest),
+          length-append (encode.other attr) (flat_map encode.other attrs),
+          length-append (encode.other one) (flat_map encode.other rest),
           other_long attr,
           other_long one,
           table_short f attr.bytes made e,
         )
-    by false o e others = omega (arith, others, length-append (spell.other attr) (flat_map spell.other attrs))
+    by false o e others = omega (arith, others, length-append (encode.other attr) (flat_map encode.other attrs))
 
-within : (room : ℕ) (attrs : List Other) → length (flat_map spell.other attrs) ≤ room → are_within room attrs ≡ true
+within : (room : ℕ) (attrs : List Other) → length (flat_map encode.other attrs) ≤ room → are_within room attrs ≡ true
 within room [] few = refl
 within room (attr ∷ attrs) few = by (nat_lt room (6 + length attr.bytes)) refl (λ less. within (room - (6 + length attr.bytes)) attrs less)
   where
-    long : 6 + length attr.bytes + length (flat_map spell.other attrs) ≤ room
-    long = omega (arith, few, length-append (spell.other attr) (flat_map spell.other attrs), other_long attr)
+    long : 6 + length attr.bytes + length (flat_map encode.other attrs) ≤ room
+    long = omega (arith, few, length-append (encode.other attr) (flat_map encode.other attrs), other_long attr)
 
     by : (b : Bool) → nat_lt room (6 + length attr.bytes) ≡ b
-        → (length (flat_map spell.other attrs) ≤ room - (6 + length attr.bytes) → are_within (room - (6 + length attr.bytes)) attrs ≡ true) → (if b then false else are_within (room - (6 + length attr.bytes)) attrs) ≡ true
+        → (length (flat_map encode.other attrs) ≤ room - (6 + length attr.bytes) → are_within (room - (6 + length attr.bytes)) attrs ≡ true) → (if b then false else are_within (room - (6 + length attr.bytes)) attrs) ≡ true
     by true n again = absurd (grind (arith, nat_tests, long))
     by false n again = again (omega (arith, long))
 
@@ -257,7 +257,7 @@ kept_there pool f (a ∷ attrs) attr made (suc k, few, is) e = by (attr_kept poo
     by (Some first) c = contains_later (each_kept pool f attrs) made first c
 
 pub lines_stay : LinesStay
-lines_stay bytes file member code attr lines plan pool method spells short method_there code_there attr_there named whole =
+lines_stay bytes file member code attr lines plan pool method encodes short method_there code_there attr_there named whole =
     let f = moved_to plan pool method in
     let m = all_moved plan pool method lines whole.begin in
     let made : Other = record { name = attr.name; bytes = table m.moved } in
@@ -266,16 +266,16 @@ lines_stay bytes file member code attr lines plan pool method spells short metho
     let kept : attr_kept pool f attr ≡ Some made =
     ap (λ (b : Bool). if b then option_map (λ bs. record { name = attr.name; bytes = bs }) (table_moved f attr.bytes) else None) is_lines
     ∙ ap (option_map (λ bs. record { name = attr.name; bytes = bs })) moved in
-    let small : length (flat_map spell.other (each_kept pool f code.attrs)) ≤ 2 ^ 31 =
+    let small : length (flat_map encode.other (each_kept pool f code.attrs)) ≤ 2 ^ 31 =
     omega (
       arith,
       kept_short pool f code.attrs,
       attrs_short code,
-      part_short spell.attribute member.attrs (attributes.Code code) code_there,
+      part_short encode.attribute member.attrs (attributes.Code code) code_there,
       member_short member,
-      part_short spell.member file.methods member method_there,
+      part_short encode.member file.methods member method_there,
       methods_short file,
-      ap length spells.is,
+      ap length encodes.is,
       short,
     ) in
     let all : attrs_kept pool f code.attrs ≡ each_kept pool f code.attrs =

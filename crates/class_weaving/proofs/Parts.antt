@@ -50,7 +50,7 @@ module _ (plan : Plan) (base : ℕ) where
   -- ---- each part has an instruction
 
   module _ (some : (ref : Target) → 0 < length (part ref)) where
-    -- Parts that come later stand behind.
+    -- Parts that come later stand after.
     pub before_grows : (refs : List Target) (i j : ℕ) → i < j → j ≤ length refs → before refs i < before refs j
     before_grows [] i j lt le = absurd (omega arith)
     before_grows (ref ∷ refs) zero zero lt le = absurd (omega arith)
@@ -64,7 +64,7 @@ module _ (plan : Plan) (base : ℕ) where
     least (r ∷ refs) zero le = omega arith
     least (r ∷ refs) (suc i) le = omega (arith, least refs i (omega (arith, le)), some r)
 
-    -- What stands behind a part is behind each earlier part.
+    -- What stands after a part is after each earlier part.
     pub before_reaches : (refs : List Target) (i j : ℕ) (ref : Target) → slice_get refs i ≡ Some ref → i < j → j ≤ length refs
         → before refs i + length (part ref) ≤ before refs j
     before_reaches refs i j ref e lt le =

@@ -1,4 +1,4 @@
--- The class file of conspec/State can be spelled, and where the names of its variables stand.
+-- The class file of conspec/State can be encoded, and where the names of its variables stand.
 use Rattle.std.proofs.Common.{◌≡◌, ℕ, ◌+◌, ◌*◌, ◌<◌, ◌≤◌, Bool, true, false, List, [], ◌∷◌, ◌++◌, length, Some, refl, sym, ap, subst, ◌∙◌, FitsSigned, append_assoc, arith}
 use Rattle.std.specs.Prelude.{codes, slice_get, ⊤}
 use Rattle.std.specs.Int.{w32}
@@ -9,7 +9,7 @@ use Rattle.class_codec.specs.declared.pool.ConstKind.TheVariants as kinds
 use Rattle.class_codec.specs.declared.tree.Const.{Const}
 use Rattle.class_codec.specs.declared.tree.Const.TheVariants as constants
 use Rattle.class_codec.specs.Pool.{is_one_of, names}
-use Rattle.class_codec.specs.Fits.{FitsConst, FitsMember, HasSeconds, IsNamed, CanSpell}
+use Rattle.class_codec.specs.Fits.{FitsConst, FitsMember, HasSeconds, IsNamed, IsEncodable}
 use Rattle.conspec_tree.specs.declared.types.Var.{Var}
 use Rattle.offset_patch.specs.Entries.{state_name, variable_name}
 use Rattle.offset_patch.proofs.EntryFits as entries
@@ -22,9 +22,9 @@ abbrev pub HasNames : List Const → ℕ → List Var → Type 0
 HasNames pool index [] = ⊤
 HasNames pool index (var ∷ vars) = (slice_get pool (variable_text index) ≡ Some (constants.Utf8 (variable_name index))) × HasNames pool (index + 1) vars
 
-get_behind : {X : Type 0} (xs : List X) (x : X) (ys : List X) → slice_get (xs ++ x ∷ ys) (length xs) ≡ Some x
-get_behind [] x ys = refl
-get_behind (z ∷ xs) x ys = get_behind xs x ys
+get_after : {X : Type 0} (xs : List X) (x : X) (ys : List X) → slice_get (xs ++ x ∷ ys) (length xs) ≡ Some x
+get_after [] x ys = refl
+get_after (z ∷ xs) x ys = get_after xs x ys
 
 names_from : (front : List Const) (index : ℕ) (vars : List Var) → length front ≡ variable_text index → HasNames (front ++ values_from index vars) index vars
 names_from front index [] e = tt
@@ -34,7 +34,7 @@ names_from front index (var ∷ vars) e =
     let rest = values_from (index + 1) vars in
     let same : (front ++ name ∷ value ∷ []) ++ rest ≡ front ++ name ∷ value ∷ rest = append_assoc front (name ∷ value ∷ []) rest in
     let count : length (front ++ name ∷ value ∷ []) ≡ variable_text (index + 1) = omega (arith, length-append front (name ∷ value ∷ []), e) in (
-      ap (slice_get (front ++ name ∷ value ∷ rest)) (sym e) ∙ get_behind front name (value ∷ rest),
+      ap (slice_get (front ++ name ∷ value ∷ rest)) (sym e) ∙ get_after front name (value ∷ rest),
       subst (λ (p : List Const). HasNames p (index + 1) vars) same (names_from (front ++ name ∷ value ∷ []) (index + 1) vars count),
     )
 
@@ -64,7 +64,7 @@ values_named : (pool : List Const) (index : ℕ) (vars : List Var) → AllByRecu
 values_named pool index [] = tt
 values_named pool index (var ∷ vars) = (tt, (tt, values_named pool (index + 1) vars))
 
--- behind the constants that each such class has
+-- after the constants that each such class has
 module _ (rest : List Const) where
   head_fits : AllByRecursion FitsConst rest → AllByRecursion FitsConst (head ++ rest)
   head_fits h = (
@@ -140,7 +140,7 @@ fields_count : (index : ℕ) (vars : List Var) → length (fields_from index var
 fields_count index [] = refl
 fields_count index (var ∷ vars) = omega (arith, fields_count (index + 1) vars)
 
-pub state_fits : (vars : List Var) → length vars ≤ 16 → AllByRecursion (λ (v : Var). FitsSigned w32 v.first) vars → CanSpell (state_file vars)
+pub state_fits : (vars : List Var) → length vars ≤ 16 → AllByRecursion (λ (v : Var). FitsSigned w32 v.first) vars → IsEncodable (state_file vars)
 state_fits vars few h =
     let values = values_from 0 vars in
     let count = values_count 0 vars in

@@ -7,8 +7,8 @@ use Rattle.class_codec.specs.declared.tree.Code.{Code}
 use Rattle.class_codec.specs.declared.tree.Const.{Const}
 use Rattle.class_codec.specs.declared.tree.Member.{Member}
 use Rattle.class_codec.specs.declared.tree.Other.{Other}
-use Rattle.class_codec.specs.Fits.{SpellsClass}
-use Rattle.insn_codec.specs.Spelling.{starts_of}
+use Rattle.class_codec.specs.Fits.{EncodesClass}
+use Rattle.insn_codec.specs.Encoding.{starts_of}
 use Rattle.bytecode_model.specs.declared.program.Method.{Method}
 use Rattle.bytecode_model.specs.Heads.{text_at}
 use Rattle.offset_patch.specs.Lines.{Line, lines_of, table}
@@ -17,7 +17,7 @@ use Rattle.offset_patch.specs.Splicing.{begins, fronts_of}
 use Rattle.class_weaving.specs.Outcome.{Each, attrs_woven, insns_woven}
 use Rattle.class_weaving.specs.Woven.{sites_of}
 
--- The table is whole: it has as many lines as its count tells and nothing behind them, and each begins where an instruction does.
+-- The table is whole: it has as many lines as its count tells and nothing after them, and each begins where an instruction does.
 pub record IsWholeTable (method : Method) (bytes : List ℕ) (lines : List Line) : Type 0 where
   pub are : lines_of bytes ≡ Some lines
   pub begin : AllByRecursion (λ (one : Line). Contains (begins method.insns) one.0) lines
@@ -33,7 +33,7 @@ pub record IsLineMoved (plan : Plan) (pool : List Const) (method : Method) (old 
 abbrev pub LinesStay : Type 0
 LinesStay =
     (bytes : List ℕ) (file : ClassFile) (member : Member) (code : Code) (attr : Other) (lines : List Line) (plan : Plan) (pool : List Const) (method : Method)
-    → SpellsClass bytes file → length bytes ≤ 2 ^ 20 → Contains file.methods member → Contains member.attrs (attributes.Code code) → Contains code.attrs attr
+    → EncodesClass bytes file → length bytes ≤ 2 ^ 20 → Contains file.methods member → Contains member.attrs (attributes.Code code) → Contains code.attrs attr
     → text_at pool attr.name ≡ codes "LineNumberTable" → IsWholeTable method attr.bytes lines
     → (moved : List Line) × Each (IsLineMoved plan pool method) lines moved
     × Contains (attrs_woven plan pool method code.attrs) (record { name = attr.name; bytes = table moved })

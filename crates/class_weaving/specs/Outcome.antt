@@ -1,5 +1,5 @@
 -- What class files that were woven link to: the classes of the program, in which each instruction to which the plan gives a
--- block stands in it, and behind them conspec/State. (docs/BLOCKS.md)
+-- block stands in it, and after them conspec/State. (docs/BLOCKS.md)
 use Rattle.std.specs.Prelude.{◌≡◌, ◌≢◌, ℕ, ◌+◌, true, false, if◌then◌else◌, List, [], ◌∷◌, ◌++◌, length, Contains, Some, ⊤}
 use Rattle.std.specs.List.{AllByRecursion}
 use Rattle.class_codec.specs.declared.tree.Attr.{Attr}
@@ -112,7 +112,7 @@ pub record IsWovenMethod (plan : Plan) (state : ℕ) (pool : List Const) (old ne
   -- where a block stops the program, the pool's way out is that
   pub out : Contains (wants_woven plan old) wants.Exit → reference_at pool (place_in pool wants.Exit) ≡ Some way_out
 
--- The blocks name constants of the new file, which has all of the old one, each in its place, and behind them what the
+-- The blocks name constants of the new file, which has all of the old one, each in its place, and after them what the
 -- blocks name that was not there, in the order of use. All else of the file is as it was, but the code of its methods.
 pub record IsWovenClass (plan : Plan) (state : ℕ) (old new : LinkedClass) : Type 0 where
   pub name : new.name ≡ old.name

@@ -27,7 +27,7 @@ abbrev pub values_from : ℕ → List Var → List Const
 values_from index [] = []
 values_from index (var ∷ vars) = Utf8 (variable_name index) ∷ Integer var.first ∷ values_from (index + 1) vars
 
--- the place of a variable's name in the pool, behind which its value stands
+-- the place of a variable's name in the pool, after which its value stands
 abbrev pub variable_text : ℕ → ℕ
 variable_text index = 8 + 2 * index
 

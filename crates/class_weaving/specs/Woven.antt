@@ -1,4 +1,4 @@
--- What weaving makes of a program: each instruction to which the plan gives a block stands in it, and behind the classes
+-- What weaving makes of a program: each instruction to which the plan gives a block stands in it, and after the classes
 -- stands conspec/State. Or the first size that does not fit. (docs/BLOCKS.md)
 use Rattle.std.specs.Prelude.{ℕ, ◌+◌, Bool, max, if◌then◌else◌, List, [], ◌∷◌, ◌++◌, length, map, Option, Some, None, slice_get, Ok}
 use Rattle.std.specs.Option.{option_to_list}
@@ -75,7 +75,7 @@ blocks_put plan state class number pool method code sites = do
 abbrev pub as_it_is : Method → Code → Spliced
 as_it_is method code = record { method = method; origins = clients_from 0 method.insns; code = code }
 
--- The locals of a block stand behind the client's.
+-- The locals of a block stand after the client's.
 abbrev pub code_woven : Plan → ℕ → List ℕ → ℕ → List Const → Method → Code → Fitting WovenCode
 code_woven plan state class number pool method code =
     if is_woven plan method then blocks_put plan state class number pool method code (sites_of plan code.max_locals method)
@@ -96,7 +96,7 @@ attr_with code (attributes.Other other) = attributes.Other other
 abbrev pub member_with : Member → Code → Member
 member_with member code = record { flags = member.flags; name = member.name; desc = member.desc; attrs = map (attr_with code) member.attrs }
 
--- behind the members that are made, one more without code, and its method
+-- after the members that are made, one more without code, and its method
 abbrev pub bare_put : Members → Member → Option Method → Members
 bare_put made member method = record {
   number = made.number + 1;
@@ -149,7 +149,7 @@ file_with file pool methods = record {
   attrs = file.attrs;
 }
 
--- behind what is made, one class more
+-- after what is made, one class more
 abbrev pub file_put : Woven → LinkedClass → Members → Woven
 file_put woven class made = record {
   files = woven.files ++ file_with class.file made.entries made.items ∷ [];
@@ -170,7 +170,7 @@ classes_woven plan state woven classes = folded (class_woven plan state) woven c
 abbrev pub nothing_woven : Woven
 nothing_woven = record { files = []; methods = []; origins = [] }
 
--- conspec/State stands behind the classes, and has no method.
+-- conspec/State stands after the classes, and has no method.
 abbrev pub state_put : List Var → Woven → Woven
 state_put vars woven = record { files = woven.files ++ state_file vars ∷ []; methods = woven.methods ++ [] ∷ []; origins = woven.origins ++ [] ∷ [] }
 

@@ -184,7 +184,7 @@ fn put_site<P: Planner>(
     Ok(())
 }
 
-/// The block of an instruction that stands behind these.
+/// The block of an instruction that stands after these.
 fn site_of<P: Planner>(
     alloc: Global,
     planner: &P,

@@ -1,6 +1,6 @@
 //! The weaving of blocks into the class files of a program, by any plan. (docs/BLOCKS.md)
 //!
-//! Each instruction to which the plan gives a block stands in it; no other has one. Behind the classes stands
+//! Each instruction to which the plan gives a block stands in it; no other has one. After the classes stands
 //! `conspec/State`, which holds the variables of a policy, and whose monitor is the lock.
 #![tactic(auto)]
 

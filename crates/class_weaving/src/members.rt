@@ -196,7 +196,7 @@ fn attrs_with(alloc: Global, olds: &[Attr], code: Code) -> Result<List<Attr>, No
     Ok(attrs)
 }
 
-/// Whether the attribute is a code behind which these stand, of which none is one.
+/// Whether the attribute is a code after which these stand, of which none is one.
 fn is_last_code(attr: &Attr, rest: &[Attr]) -> bool
     ensures { result ≡ true → ((code : Code) → attr_with code attr.now ≡ Coded code) × (first_code rest.now ≡ None) }
 {

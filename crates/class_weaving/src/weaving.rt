@@ -3,7 +3,7 @@
 ghost use Rattle.std.specs.Prelude.{◌≡◌, ◌≢◌, ◌<◌, ◌≤◌, ◌^◌, FitsSigned, IfErr, IfOk, IsOk, None, OnOk, Some, length, map};
 ghost use Rattle.std.specs.Int.{w32};
 ghost use Rattle.std.specs.List.{AllByRecursion};
-ghost use Rattle.class_codec.specs.Fits.{CanSpell};
+ghost use Rattle.class_codec.specs.Fits.{IsEncodable};
 ghost use Rattle.conspec_tree.specs.declared.types.Var.{Var};
 ghost use Rattle.bytecode_model.specs.Sound.{IsSound, IsSoundClass};
 ghost use Rattle.mon_base.specs.Answer.{Answers, AnswersAs};
@@ -23,7 +23,7 @@ use mon_base::{List, NoMemory};
 use offset_patch::{Entries, Planner, SpliceFault};
 use std::alloc::Global;
 
-/// The class files of a program with a block for each instruction to which the planner gives one, and behind them
+/// The class files of a program with a block for each instruction to which the planner gives one, and after them
 /// `conspec/State` of these variables; or the first size that does not fit.
 pub fn weave<P: Planner>(
     alloc: Global,
@@ -39,8 +39,8 @@ pub fn weave<P: Planner>(
     ensures fits { IsOk result → first_unfit (program_sizes program.now (P.plan planner.now)) ≡ None }
     ensures unfit { IfErr result (λ fault. fault ≢ Memory → first_unfit (program_sizes program.now (P.plan planner.now)) ≡ Some fault) }
     // The files can be written.
-    ensures spells { AllByRecursion (λ (v : Var). FitsSigned w32 v.first) vars.now
-        → IfOk result (λ made. AllByRecursion CanSpell made.files) }
+    ensures encodes { AllByRecursion (λ (v : Var). FitsSigned w32 v.first) vars.now
+        → IfOk result (λ made. AllByRecursion IsEncodable made.files) }
 {
     all_woven(alloc, program, planner, vars)
 }

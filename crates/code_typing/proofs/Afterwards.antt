@@ -48,22 +48,22 @@ top_changed place taken (shapes.Heap heap.New) = refl
 top_changed place taken (shapes.Heap (heap.Call how)) = top_called place taken
 top_changed place taken other = refl
 
--- a local behind all that there are
-pub behind_all : (place : InsnPlace) (locals taken : List VType) (j : ℕ) → length locals ≤ j → stores (shape_of place.insn) j ≡ false → local_after place locals taken j ≡ types.Top
-behind_all place locals taken j less e =
+-- a local after all that there are
+pub after_all : (place : InsnPlace) (locals taken : List VType) (j : ℕ) → length locals ≤ j → stores (shape_of place.insn) j ≡ false → local_after place locals taken j ≡ types.Top
+after_all place locals taken j less e =
     rw e (ap (changed place taken) (absent locals j less) ∙ top_changed place taken (shape_of place.insn))
 
 pub local_same : (place : InsnPlace) (change : Change) (locals taken : List VType) (j : ℕ) → ((t : VType) → change_told change t ≡ changed place taken t)
     → local_told (shape_of place.insn) change locals taken j ≡ local_after place locals taken j
 local_same place change locals taken j told = ap (λ (t : VType). cond (stores (shape_of place.insn) j) (type_at taken 0) t) (told (type_at locals j))
 
--- each local, where those below a place are told and there are none behind it
+-- each local, where those below a place are told and there are none after it
 pub each_local : (place : InsnPlace) (locals taken found : List VType) (n : ℕ) → length found ≡ n → length locals ≤ n → ((j : ℕ) → n ≤ j → stores (shape_of place.insn) j ≡ false)
     → ((k : ℕ) → k < n → type_at found k ≡ local_after place locals taken k) → (j : ℕ) → type_at found j ≡ local_after place locals taken j
 each_local place locals taken found n e less stored told j =
     elim (cases_lt j n) [
       | inl below ↦ told j below
-      | inr above ↦ absent found j (omega (arith, e, above)) ∙ sym (behind_all place locals taken j (omega (arith, less, above)) (stored j above))
+      | inr above ↦ absent found j (omega (arith, e, above)) ∙ sym (after_all place locals taken j (omega (arith, less, above)) (stored j above))
     ]
 
 -- one local more

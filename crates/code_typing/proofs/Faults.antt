@@ -30,7 +30,7 @@ none_row : (row : ℕ → Option ℕ) (class method n at : ℕ) → ((k : ℕ) �
 none_row row class method zero at h = refl
 none_row row class method (suc n) at h = rw (h at) (none_row row class method n (at + 1) h)
 
--- with i of n rows behind, the next one
+-- with i of n rows after, the next one
 pub row_more : (row : ℕ → Option ℕ) (class method n i : ℕ) → i < n → row i ≡ None → first_row row class method (n - i) i ≡ first_row row class method (n - (i + 1)) (i + 1)
 row_more row class method n i less e =
     let k : n - i ≡ suc (n - (i + 1)) = omega arith in
@@ -65,13 +65,13 @@ typed_method program own class m frames index h = none_row (row_in program own c
 
 -- ---- methods
 
-behind_at : {A : Type 0} (told : List (List A)) (i : ℕ) → list_at told (suc i) ≡ list_at (drop 1 told) i
-behind_at [] i = refl
-behind_at (x ∷ told) i = refl
+after_at : {A : Type 0} (told : List (List A)) (i : ℕ) → list_at told (suc i) ≡ list_at (drop 1 told) i
+after_at [] i = refl
+after_at (x ∷ told) i = refl
 
--- the frames of a method behind one with code, and behind one without
+-- the frames of a method after one with code, and after one without
 with_code : (m : Method) (methods : List Method) (told : List Frames) (k : ℕ) → has_code m ≡ true → frames_in (m ∷ methods) told (suc k) ≡ frames_in methods (drop 1 told) k
-with_code m methods told k e = rw e (behind_at told (length (coded (take k methods))))
+with_code m methods told k e = rw e (after_at told (length (coded (take k methods))))
 
 without_code : (m : Method) (methods : List Method) (told : List Frames) (k : ℕ) → has_code m ≡ false → frames_in (m ∷ methods) told (suc k) ≡ frames_in methods told k
 without_code m methods told k e = rw e refl
@@ -139,7 +139,7 @@ module _ (program : Program) where
       let h = neither _ _ e in
       let at : own + suc k ≡ (own + 1) + k = omega arith in
       subst (λ (n : ℕ). MethodsTyped program n c c.methods (list_at told (suc k))) (sym at)
-      (subst (λ (f : List Frames). MethodsTyped program ((own + 1) + k) c c.methods f) (sym (behind_at told k)) (classes_typed (own + 1) classes (drop 1 told) h.1 k c s))
+      (subst (λ (f : List Frames). MethodsTyped program ((own + 1) + k) c c.methods f) (sym (after_at told k)) (classes_typed (own + 1) classes (drop 1 told) h.1 k c s))
 
   typed_classes : (own : ℕ) (classes : List LinkedClass) (told : List (List Frames)) → ClassesTyped program own classes told → classes_fault program own classes told ≡ None
   typed_classes own [] told h = refl
@@ -150,7 +150,7 @@ module _ (program : Program) where
       (λ k c s.
       let at : own + suc k ≡ (own + 1) + k = omega arith in
       subst (λ (n : ℕ). MethodsTyped program n c c.methods (list_at (drop 1 told) k)) at
-      (subst (λ (f : List Frames). MethodsTyped program (own + suc k) c c.methods f) (behind_at told k) (h (suc k) c s))))
+      (subst (λ (f : List Frames). MethodsTyped program (own + suc k) c c.methods f) (after_at told k) (h (suc k) c s))))
 
 -- ---- a program
 

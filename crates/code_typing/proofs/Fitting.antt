@@ -28,16 +28,16 @@ pub locals_fit-same : (program : Program) (f g : ℕ → VType) → ((j : ℕ) �
 locals_fit-same program f g same j [] = refl
 locals_fit-same program f g same j (t ∷ to) = rw (same j, locals_fit-same program f g same (j + 1) to) refl
 
-pub type_at-behind : (x : VType) (xs : List VType) (j : ℕ) → type_at (x ∷ xs) (j + 1) ≡ type_at xs j
-type_at-behind x xs j =
+pub type_at-following : (x : VType) (xs : List VType) (j : ℕ) → type_at (x ∷ xs) (j + 1) ≡ type_at xs j
+type_at-following x xs j =
     let next : j + 1 ≡ suc j = omega arith in
     rw next refl
 
--- Behind the first local stand the others.
-pub locals_fit-behind : (program : Program) (x : VType) (xs : List VType) (j : ℕ) (to : List VType)
+-- After the first local stand the others.
+pub locals_fit-following : (program : Program) (x : VType) (xs : List VType) (j : ℕ) (to : List VType)
     → locals_fit program (type_at (x ∷ xs)) (j + 1) to ≡ locals_fit program (type_at xs) j to
-locals_fit-behind program x xs j [] = refl
-locals_fit-behind program x xs j (t ∷ to) = rw (type_at-behind x xs j, locals_fit-behind program x xs (j + 1) to) refl
+locals_fit-following program x xs j [] = refl
+locals_fit-following program x xs j (t ∷ to) = rw (type_at-following x xs j, locals_fit-following program x xs (j + 1) to) refl
 
 -- Where anything is wanted only the number counts.
 pub any_met : (n : ℕ) (types : List VType) → all_met (replicate n anything) types ≡ (length types == n)

@@ -2,7 +2,7 @@
 
 ghost use Rattle.std.specs.Prelude.{◌≡◌, ◌++◌, ◌≤◌, ℕ, length, option_map, IfOk, IsTrue, OnOk};
 ghost use Rattle.std.specs.Option.{option_to_list};
-ghost use Rattle.bytecode_model.specs.Lending.{type_lent};
+ghost use Rattle.bytecode_model.specs.Borrowing.{type_borrowed};
 ghost use Rattle.bytecode_model.specs.Described.{type_described};
 ghost use Rattle.bytecode_model.specs.Makes.{form_yields, heap_yields, yields, stack_after, local_after, type_at};
 ghost use Rattle.bytecode_model.specs.Rules.{arguments_typed, entry_locals, taken, Local};
@@ -27,7 +27,7 @@ use std::alloc::Global;
 
 /// What an instruction pushes that works on more than its frame.
 fn heap_yielded<'a>(place: &PlaceRef<'a>, taken: &'a [VType], what: Heap) -> Option<TypeRef<'a>>
-    ensures { option_to_list (option_map type_lent result) ≡ heap_yields place.now taken.now what }
+    ensures { option_to_list (option_map type_borrowed result) ≡ heap_yields place.now taken.now what }
 {
     match what {
         Heap::Constant => Some(constant_type(place.target)),
@@ -64,10 +64,10 @@ fn push_moved(
 }
 
 /// Appends the type, if there is one.
-fn push_one(alloc: Global, out: &mut List<VType>, lent: Option<TypeRef>) -> Result<(), NoMemory>
-    ensures { OnOk result (out.new ≡ out.old ++ option_to_list (option_map type_lent lent.entry)) }
+fn push_one(alloc: Global, out: &mut List<VType>, borrowed: Option<TypeRef>) -> Result<(), NoMemory>
+    ensures { OnOk result (out.new ≡ out.old ++ option_to_list (option_map type_borrowed borrowed.entry)) }
 {
-    let Some(t) = lent else {
+    let Some(t) = borrowed else {
         return Ok(());
     };
     let one = own(alloc, t)?;
@@ -149,12 +149,12 @@ fn push_arguments(alloc: Global, out: &mut List<VType>, method: &Method) -> Resu
 {
     let mut text = arguments_text(method.desc.as_slice());
     for _ in 0..255usize {
-        let Some((desc, behind)) = next_type(text) else {
+        let Some((desc, following)) = next_type(text) else {
             return Ok(());
         };
         let argument = own(alloc, type_described(desc))?;
         out.push(argument)?;
-        text = behind;
+        text = following;
     }
     Ok(())
 }

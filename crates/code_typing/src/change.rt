@@ -3,12 +3,12 @@
 
 ghost use Rattle.std.specs.Prelude.{◌≡◌, option_copied};
 ghost use Rattle.cert_format.specs.declared.typing.VType.{VType};
-ghost use Rattle.bytecode_model.specs.Lending.{type_lent};
+ghost use Rattle.bytecode_model.specs.Borrowing.{type_borrowed};
 ghost use Rattle.code_typing.specs.Changing.{change_told};
 ghost use Rattle.bytecode_model.specs.Makes.{class_made, is_same_object, changed, when_called};
 
 use crate::place::PlaceRef;
-use bytecode_model::{TypeRef, lend};
+use bytecode_model::{TypeRef, borrow};
 use cert_format::VType;
 use frame_types::{InsnRef, calls_maker, class_referred, is_made_at, is_same_object, new_at};
 use insn_codec::{Heap, Shape};
@@ -75,21 +75,21 @@ pub fn change_of<'a>(place: &PlaceRef<'a>, taken: &'a [VType]) -> Change<'a>
 
 /// What becomes of a type that stays.
 pub fn change_told<'a>(change: Change<'a>, t: &'a VType) -> TypeRef<'a>
-    ensures { type_lent result ≡ change_told change.entry t.now }
+    ensures { type_borrowed result ≡ change_told change.entry t.now }
 {
     match change {
-        Change::Nothing => lend(t),
+        Change::Nothing => borrow(t),
         Change::Forget(at) => {
             if is_made_at(at, t) {
                 return TypeRef::Top;
             }
-            lend(t)
+            borrow(t)
         }
         Change::Make(receiver, class) => {
             if is_same_object(receiver, t) {
                 return TypeRef::Ref(class);
             }
-            lend(t)
+            borrow(t)
         }
     }
 }

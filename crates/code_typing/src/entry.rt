@@ -1,17 +1,17 @@
 //! Rule 1: a method begins with its arguments.
 
 ghost use Rattle.std.specs.Prelude.{◌≡◌, ◌∷◌, [], length, map, option_copied};
-ghost use Rattle.code_typing.specs.Steps.{behind_fit};
+ghost use Rattle.code_typing.specs.Steps.{after_fit};
 ghost use Rattle.bytecode_model.specs.Described.{types_at, type_described};
 ghost use Rattle.bytecode_model.specs.Makes.{type_at};
 ghost use Rattle.bytecode_model.specs.Rules.{Entry, entry_locals, locals_fit, this_type};
-ghost use Rattle.bytecode_model.specs.Lending.{type_lent};
+ghost use Rattle.bytecode_model.specs.Borrowing.{type_borrowed};
 
 use crate::place::PlaceRef;
 use bytecode_model::{TypeRef, is_static};
 use cert_format::{FrameType, VType};
 use frame_types::{arguments_text, arity, is_maker, next_type, type_described};
-use type_lattice::{Indexed, lent_fits};
+use type_lattice::{Indexed, borrowed_fits};
 
 /// Whether locals that hold nothing are assignable to these.
 fn are_top(program: &Indexed, to: &[VType]) -> bool
@@ -20,7 +20,7 @@ fn are_top(program: &Indexed, to: &[VType]) -> bool
     let mut j: usize = 0;
     let mut left = to;
     while let [first, rest @ ..] = left {
-        if !lent_fits(program, TypeRef::Top, first) {
+        if !borrowed_fits(program, TypeRef::Top, first) {
             return false;
         }
         j += 1;
@@ -29,41 +29,41 @@ fn are_top(program: &Indexed, to: &[VType]) -> bool
     true
 }
 
-/// The locals behind the first, where the type is assignable to that or there is none.
-fn behind_fit<'a>(program: &Indexed, from: TypeRef, to: &'a [VType]) -> Option<&'a [VType]>
-    ensures { option_copied result ≡ behind_fit program.now (type_lent from.entry) to.now }
+/// The locals after the first, where the type is assignable to that or there is none.
+fn after_fit<'a>(program: &Indexed, from: TypeRef, to: &'a [VType]) -> Option<&'a [VType]>
+    ensures { option_copied result ≡ after_fit program.now (type_borrowed from.entry) to.now }
 {
     let [first, others @ ..] = to else {
         return Some(to);
     };
-    if lent_fits(program, from, first) {
+    if borrowed_fits(program, from, first) {
         return Some(others);
     }
     None
 }
 
-/// Whether arguments of these types, and locals that hold nothing behind them, are assignable to these.
+/// Whether arguments of these types, and locals that hold nothing after them, are assignable to these.
 fn arguments_fit(program: &Indexed, text: &[u8], to: &[VType]) -> bool
     ensures { result ≡ locals_fit program.now (type_at (map type_described (types_at 255 text.now))) 0 to.now }
 {
     let mut text = text;
     let mut to = to;
     for _ in 0..255usize {
-        let Some((desc, behind)) = next_type(text) else {
+        let Some((desc, following)) = next_type(text) else {
             return are_top(program, to);
         };
-        let Some(others) = behind_fit(program, type_described(desc), to) else {
+        let Some(others) = after_fit(program, type_described(desc), to) else {
             return false;
         };
         to = others;
-        text = behind;
+        text = following;
     }
     are_top(program, to)
 }
 
 /// What an instance method finds in local 0.
 pub fn this_type<'a>(place: &PlaceRef<'a>) -> TypeRef<'a>
-    ensures { type_lent result ≡ this_type place.now }
+    ensures { type_borrowed result ≡ this_type place.now }
 {
     if is_maker(place.method) {
         TypeRef::UninitThis
@@ -72,11 +72,11 @@ pub fn this_type<'a>(place: &PlaceRef<'a>) -> TypeRef<'a>
     }
 }
 
-/// Whether this first type, and arguments of these types behind it, are assignable to these.
+/// Whether this first type, and arguments of these types after it, are assignable to these.
 fn first_fits(program: &Indexed, from: TypeRef, text: &[u8], to: &[VType]) -> bool
-    ensures { result ≡ locals_fit program.now (type_at (type_lent from.entry ∷ map type_described (types_at 255 text.now))) 0 to.now }
+    ensures { result ≡ locals_fit program.now (type_at (type_borrowed from.entry ∷ map type_described (types_at 255 text.now))) 0 to.now }
 {
-    match behind_fit(program, from, to) {
+    match after_fit(program, from, to) {
         None => false,
         Some(others) => arguments_fit(program, text, others),
     }

@@ -18,7 +18,7 @@ use crate::yielded::yields_fit;
 use cert_format::{FrameType, VType};
 use frame_types::split_top;
 use insn_codec::{Insn, goes_on};
-use type_lattice::{Indexed, assignable, lent_fits};
+use type_lattice::{Indexed, assignable, borrowed_fits};
 
 /// The frame of an instruction, if it is reached.
 pub fn frame_of(frames: &[Option<FrameType>], at: usize) -> Option<&FrameType>
@@ -71,7 +71,7 @@ fn changed_fit(program: &Indexed, change: Change, from: &[VType], to: &[VType]) 
         let [first, rest @ ..] = to else {
             return false;
         };
-        if !lent_fits(program, change_told(change, t), first) {
+        if !borrowed_fits(program, change_told(change, t), first) {
             return false;
         }
         from = others;

@@ -21,7 +21,7 @@ use crate::place::PlaceRef;
 use bytecode_model::Handler;
 use cert_format::{FrameType, VType};
 use frame_types::{THROWABLE, class_caught, is_alone, local_caught};
-use type_lattice::{Indexed, is_below, lent_fits};
+use type_lattice::{Indexed, borrowed_fits, is_below};
 
 /// Whether the locals that a handler finds are assignable to these.
 fn locals_caught(program: &Indexed, locals: &[VType], to: &[VType]) -> bool
@@ -30,7 +30,7 @@ fn locals_caught(program: &Indexed, locals: &[VType], to: &[VType]) -> bool
     let mut j: usize = 0;
     let mut left = to;
     while let [first, rest @ ..] = left {
-        if !lent_fits(program, local_caught(locals, j), first) {
+        if !borrowed_fits(program, local_caught(locals, j), first) {
             return false;
         }
         j += 1;

@@ -4,7 +4,7 @@ ghost use Rattle.std.specs.Prelude.{◌≡◌, IsTrue, List, ℕ};
 ghost use Rattle.cert_format.specs.declared.typing.VType.{VType};
 ghost use Rattle.insn_codec.specs.Shapes.{shape_of};
 ghost use Rattle.bytecode_model.specs.Assigning.{assignable};
-ghost use Rattle.bytecode_model.specs.Lending.{type_lent};
+ghost use Rattle.bytecode_model.specs.Borrowing.{type_borrowed};
 ghost use Rattle.code_typing.specs.Changing.{local_told};
 ghost use Rattle.bytecode_model.specs.Makes.{stores, type_at};
 ghost use Rattle.bytecode_model.specs.Rules.{Local, uses_local, locals_fit};
@@ -15,7 +15,7 @@ use bytecode_model::TypeRef;
 use cert_format::{FrameType, VType};
 use frame_types::{stores, type_at, uses_local};
 use insn_codec::Shape;
-use type_lattice::{Indexed, assignable, lent_fits};
+use type_lattice::{Indexed, assignable, borrowed_fits};
 
 /// Rule 4.
 pub fn has_locals(place: &PlaceRef, frame: &FrameType) -> bool
@@ -33,7 +33,7 @@ pub fn local_told<'a>(
     taken: &'a [VType],
     j: usize,
 ) -> TypeRef<'a>
-    ensures { type_lent result ≡ local_told shape change.entry locals.now taken.now j }
+    ensures { type_borrowed result ≡ local_told shape change.entry locals.now taken.now j }
 {
     if stores(shape, j) {
         return type_at(taken, 0);
@@ -49,7 +49,7 @@ fn local_fits(program: &Indexed, from: &[VType], j: usize, to: &VType) -> bool
     ensures { result ≡ assignable program.now (type_at from.now j) to.now }
 {
     let Some(t) = from.get(j) else {
-        return lent_fits(program, TypeRef::Top, to);
+        return borrowed_fits(program, TypeRef::Top, to);
     };
     assignable(program, t, to)
 }
@@ -109,7 +109,7 @@ fn changed_fit(
     let mut j: usize = 0;
     let mut left = to;
     while let [first, rest @ ..] = left {
-        if !lent_fits(program, local_told(shape, change, locals, taken, j), first) {
+        if !borrowed_fits(program, local_told(shape, change, locals, taken, j), first) {
             return false;
         }
         j += 1;

@@ -1,7 +1,7 @@
 //! The operands that an instruction takes: how many, and whether each is what is wanted.
 
 ghost use Rattle.std.specs.Prelude.{◌≡◌, ◌∷◌, ◌&&◌, [], length, map, replicate, option_map, option_copied};
-ghost use Rattle.code_typing.specs.Steps.{behind_met};
+ghost use Rattle.code_typing.specs.Steps.{after_met};
 ghost use Rattle.insn_codec.specs.Shapes.{shape_of};
 ghost use Rattle.bytecode_model.specs.Described.{types_at};
 ghost use Rattle.bytecode_model.specs.Wants.{
@@ -24,7 +24,7 @@ ghost use Rattle.bytecode_model.specs.Wants.{
 ghost use Rattle.bytecode_model.specs.Described.{result_type};
 ghost use Rattle.bytecode_model.specs.InsnPlace.{class_referred, desc_referred};
 ghost use Rattle.insn_codec.specs.declared.shape.Heap.TheVariants as heap;
-ghost use Rattle.bytecode_model.specs.Lending.{type_lent};
+ghost use Rattle.bytecode_model.specs.Borrowing.{type_borrowed};
 
 use crate::place::{PlaceRef, is_own_field};
 use crate::wanted::{Wanted, one_is, three_are, to_class, to_described, two_are};
@@ -83,9 +83,9 @@ fn none_wanted(types: &[VType]) -> bool
     types.is_empty()
 }
 
-/// The operands behind the first, where that is what is described.
-fn behind_met<'a>(program: &Indexed, desc: &[u8], types: &'a [VType]) -> Option<&'a [VType]>
-    ensures { option_copied result ≡ behind_met program.now desc.now types.now }
+/// The operands after the first, where that is what is described.
+fn after_met<'a>(program: &Indexed, desc: &[u8], types: &'a [VType]) -> Option<&'a [VType]>
+    ensures { option_copied result ≡ after_met program.now desc.now types.now }
 {
     let [first, others @ ..] = types else {
         return None;
@@ -103,14 +103,14 @@ fn arguments_met(program: &Indexed, text: &[u8], types: &[VType]) -> bool
     let mut text = text;
     let mut types = types;
     for _ in 0..255usize {
-        let Some((desc, behind)) = next_type(text) else {
+        let Some((desc, following)) = next_type(text) else {
             return none_wanted(types);
         };
-        let Some(others) = behind_met(program, desc, types) else {
+        let Some(others) = after_met(program, desc, types) else {
             return false;
         };
         types = others;
-        text = behind;
+        text = following;
     }
     none_wanted(types)
 }
@@ -272,7 +272,7 @@ fn operands_met(place: &PlaceRef, shape: Shape, types: &[VType]) -> bool
 }
 
 fn is_result_of(kind: Option<ValueKind>, result_type: Option<TypeRef>) -> bool
-    ensures { result ≡ is_result_of kind (option_map type_lent result_type.entry) }
+    ensures { result ≡ is_result_of kind (option_map type_borrowed result_type.entry) }
 {
     let Some(kind) = kind else {
         return result_type.is_none();

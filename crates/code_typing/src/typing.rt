@@ -15,7 +15,7 @@ use crate::following::frame_of;
 use crate::handlers::all_take_thrown;
 use crate::place::PlaceRef;
 use crate::row::row_failing;
-use bytecode_model::{LinkedClass, Method, behind_first, list_at};
+use bytecode_model::{LinkedClass, Method, after_first, list_at};
 use cert_format::{FrameType, Typing};
 use mon_base::List;
 use type_lattice::Indexed;
@@ -129,7 +129,7 @@ fn methods_fault(
             if let Some(fault) = method_fault(program, own, class, method, frames, index) {
                 return Some(fault);
             }
-            told = behind_first(told);
+            told = after_first(told);
         }
         index += 1;
         left = later;
@@ -149,7 +149,7 @@ fn typing_fault(program: &Indexed, typing: &Typing) -> Option<TypeFault>
         if let Some(fault) = methods_fault(program, own, class, list_at(told, 0)) {
             return Some(fault);
         }
-        told = behind_first(told);
+        told = after_first(told);
         own += 1;
         left = later;
     }

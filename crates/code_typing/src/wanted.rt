@@ -4,7 +4,7 @@ ghost use Rattle.std.specs.Prelude.{◌≡◌, ◌∷◌, []};
 ghost use Rattle.bytecode_model.specs.Wants.{to_class, to_array, to_item, to_described, all_met};
 ghost use Rattle.code_typing.specs.Wanted.{want_of};
 
-use bytecode_model::lend;
+use bytecode_model::borrow;
 use cert_format::VType;
 use frame_types::{is_array_type, is_made, is_number, of_kind, without_last};
 use insn_codec::{Item, ValueKind};
@@ -32,7 +32,7 @@ pub enum Wanted<'a> {
 pub fn to_class(program: &Indexed, name: &[u8], t: &VType) -> bool
     ensures { result ≡ to_class program.now name.now t.now }
 {
-    fits_class(program, lend(t), name)
+    fits_class(program, borrow(t), name)
 }
 
 fn to_array(program: &Indexed, item: Item, t: &VType) -> bool

@@ -1,7 +1,7 @@
 //! What an instruction pushes. (The Java Virtual Machine Specification, section 6.5.)
 
 ghost use Rattle.std.specs.Prelude.{◌≡◌, ◌≤◌, ◌∷◌, [], List, length, map};
-ghost use Rattle.bytecode_model.specs.Lending.{type_lent};
+ghost use Rattle.bytecode_model.specs.Borrowing.{type_borrowed};
 ghost use Rattle.bytecode_model.specs.Makes.{moved_from, call_yields, heap_yields, yields, yields_of};
 ghost use Rattle.bytecode_model.specs.Rules.{stack_fits};
 ghost use Rattle.cert_format.specs.declared.typing.VType.{VType};
@@ -16,16 +16,16 @@ use frame_types::{
     result_type, type_at, type_described,
 };
 use insn_codec::{Heap, Shape, depth_of};
-use type_lattice::{Indexed, lent_fits};
+use type_lattice::{Indexed, borrowed_fits};
 
 // ---- whether the pushed are assignable
 
 fn one_fits(program: &Indexed, from: TypeRef, to: &[VType]) -> bool
-    ensures { result ≡ stack_fits program.now (type_lent from.entry ∷ []) to.now }
+    ensures { result ≡ stack_fits program.now (type_borrowed from.entry ∷ []) to.now }
 {
     match to {
         [] => false,
-        [first, rest @ ..] => lent_fits(program, from, first) && rest.is_empty(),
+        [first, rest @ ..] => borrowed_fits(program, from, first) && rest.is_empty(),
     }
 }
 
@@ -38,7 +38,7 @@ fn form_fits(program: &Indexed, depth: u8, taken: &[VType], order: &[u8], to: &[
         let [first, others @ ..] = to else {
             return false;
         };
-        if !lent_fits(program, moved_from(depth, taken, *place), first) {
+        if !borrowed_fits(program, moved_from(depth, taken, *place), first) {
             return false;
         }
         order = places;

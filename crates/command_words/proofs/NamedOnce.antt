@@ -5,7 +5,7 @@ use Rattle.command_words.specs.declared.inline_words.Weaving.{Weaving}
 use Rattle.command_words.specs.declared.inline_words.Weaving.TheVariants.{Auto, Hold, Release}
 use Rattle.command_words.specs.InlineWords.{IsInline, NamedInline, weaving_word}
 use Rattle.command_words.specs.ReplayWords.{IsReplay, NamedReplay}
-use Rattle.command_words.specs.Words.{Check, Inline, IsCheck, IsCommand, IsPolicyCommand, IsRace, IsShow, NamedCheck, NamedCommand, NamedPolicy, NamedRace, NamedShow, Policy, Race, Replay, Show, Spells}
+use Rattle.command_words.specs.Words.{Check, Inline, IsCheck, IsCommand, IsPolicyCommand, IsRace, IsShow, NamedCheck, NamedCommand, NamedPolicy, NamedRace, NamedShow, Policy, Race, Replay, Show, Encodes}
 
 -- ---- the command inline
 
@@ -29,7 +29,7 @@ words_of named = codes "inline" ∷ named.policy ∷ named.listing ∷ named.mai
 
 pub same_inline : (words : List (List ℕ)) (a b : NamedInline) → IsInline words a → IsInline words b → a ≡ b
 same_inline words a b of_a of_b =
-    let e : words_of a ≡ words_of b = sym of_a.spelled ∙ of_b.spelled in
+    let e : words_of a ≡ words_of b = sym of_a.encoded ∙ of_b.encoded in
     let policy : a.policy ≡ b.policy = cc in
     let listing : a.listing ≡ b.listing = cc in
     let main : a.main ≡ b.main = cc in
@@ -48,7 +48,7 @@ words_of_check named = codes "check" ∷ named.policy ∷ named.listing ∷ name
 
 same_check : (words : List (List ℕ)) (a b : NamedCheck) → IsCheck words a → IsCheck words b → a ≡ b
 same_check words a b of_a of_b =
-    let e : words_of_check a ≡ words_of_check b = sym of_a.spelled ∙ of_b.spelled in
+    let e : words_of_check a ≡ words_of_check b = sym of_a.encoded ∙ of_b.encoded in
     let policy : a.policy ≡ b.policy = cc in
     let listing : a.listing ≡ b.listing = cc in
     let certificate : a.certificate ≡ b.certificate = cc in
@@ -62,7 +62,7 @@ words_of_show named = codes "show" ∷ named.listing ∷ named.classes
 
 same_show : (words : List (List ℕ)) (a b : NamedShow) → IsShow words a → IsShow words b → a ≡ b
 same_show words a b of_a of_b =
-    let e : words_of_show a ≡ words_of_show b = sym of_a.spelled ∙ of_b.spelled in
+    let e : words_of_show a ≡ words_of_show b = sym of_a.encoded ∙ of_b.encoded in
     let listing : a.listing ≡ b.listing = cc in
     let classes : a.classes ≡ b.classes = cc in
     let whole : a ≡ record { listing = b.listing; classes = b.classes } = rw (← listing, ← classes) refl in
@@ -73,7 +73,7 @@ words_of_policy named = codes "policy" ∷ named.policy ∷ named.listing ∷ na
 
 same_policy : (words : List (List ℕ)) (a b : NamedPolicy) → IsPolicyCommand words a → IsPolicyCommand words b → a ≡ b
 same_policy words a b of_a of_b =
-    let e : words_of_policy a ≡ words_of_policy b = sym of_a.spelled ∙ of_b.spelled in
+    let e : words_of_policy a ≡ words_of_policy b = sym of_a.encoded ∙ of_b.encoded in
     let policy : a.policy ≡ b.policy = cc in
     let listing : a.listing ≡ b.listing = cc in
     let recorded : a.recorded ≡ b.recorded = cc in
@@ -85,7 +85,7 @@ words_of_race named = codes "race" ∷ named.policy ∷ named.listing ∷ []
 
 same_race : (words : List (List ℕ)) (a b : NamedRace) → IsRace words a → IsRace words b → a ≡ b
 same_race words a b of_a of_b =
-    let e : words_of_race a ≡ words_of_race b = sym of_a.spelled ∙ of_b.spelled in
+    let e : words_of_race a ≡ words_of_race b = sym of_a.encoded ∙ of_b.encoded in
     let policy : a.policy ≡ b.policy = cc in
     let listing : a.listing ≡ b.listing = cc in
     let whole : a ≡ record { policy = b.policy; listing = b.listing } = rw (← policy, ← listing) refl in
@@ -96,7 +96,7 @@ words_of_replay named = codes "replay" ∷ named.listing ∷ named.main ∷ name
 
 same_replay : (words : List (List ℕ)) (a b : NamedReplay) → IsReplay words a → IsReplay words b → a ≡ b
 same_replay words a b of_a of_b =
-    let e : words_of_replay a ≡ words_of_replay b = sym of_a.spelled ∙ of_b.spelled in
+    let e : words_of_replay a ≡ words_of_replay b = sym of_a.encoded ∙ of_b.encoded in
     let listing : a.listing ≡ b.listing = cc in
     let main : a.main ≡ b.main = cc in
     let recorded : a.recorded ≡ b.recorded = cc in
@@ -122,15 +122,15 @@ mark_of (Race named) = 1144
 mark_of (Inline named) = 1056
 mark_of (Replay named) = 1146
 
-marks : (words : List (List ℕ)) (named : NamedCommand) → Spells words named → marked words ≡ mark_of named
-marks words (Check named) spelled = ap marked spelled.spelled
-marks words (Show named) spelled = ap marked spelled.spelled
-marks words (Policy named) spelled = ap marked spelled.spelled
-marks words (Race named) spelled = ap marked spelled.spelled
-marks words (Inline named) spelled = ap marked spelled.spelled
-marks words (Replay named) spelled = ap marked spelled.spelled
+marks : (words : List (List ℕ)) (named : NamedCommand) → Encodes words named → marked words ≡ mark_of named
+marks words (Check named) encoded = ap marked encoded.encoded
+marks words (Show named) encoded = ap marked encoded.encoded
+marks words (Policy named) encoded = ap marked encoded.encoded
+marks words (Race named) encoded = ap marked encoded.encoded
+marks words (Inline named) encoded = ap marked encoded.encoded
+marks words (Replay named) encoded = ap marked encoded.encoded
 
-same_command : (words : List (List ℕ)) (a b : NamedCommand) → mark_of a ≡ mark_of b → Spells words a → Spells words b → a ≡ b
+same_command : (words : List (List ℕ)) (a b : NamedCommand) → mark_of a ≡ mark_of b → Encodes words a → Encodes words b → a ≡ b
 same_command words (Check a) (Check b) e of_a of_b = ap Check (same_check words a b of_a of_b)
 same_command words (Check a) (Show b) e of_a of_b = absurd (omega (arith, e))
 same_command words (Check a) (Policy b) e of_a of_b = absurd (omega (arith, e))
@@ -170,4 +170,4 @@ same_command words (Replay a) (Replay b) e of_a of_b = ap Replay (same_replay wo
 
 -- Words are those of one command.
 pub command_once : (words : List (List ℕ)) (a b : NamedCommand) → IsCommand words a → IsCommand words b → a ≡ b
-command_once words a b of_a of_b = same_command words a b (sym (marks words a of_a.spelled) ∙ marks words b of_b.spelled) of_a.spelled of_b.spelled
+command_once words a b of_a of_b = same_command words a b (sym (marks words a of_a.encoded) ∙ marks words b of_b.encoded) of_a.encoded of_b.encoded

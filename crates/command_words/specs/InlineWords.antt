@@ -30,5 +30,5 @@ weaving_word Release = codes "release"
 
 -- inline POLICY LISTING MAIN OUTDIR MODE CLASS..
 pub record IsInline (words : List (List ℕ)) (named : NamedInline) : Type 0 where
-  pub spelled : words ≡ codes "inline" ∷ named.policy ∷ named.listing ∷ named.main ∷ named.folder ∷ weaving_word named.weaving ∷ named.classes
+  pub encoded : words ≡ codes "inline" ∷ named.policy ∷ named.listing ∷ named.main ∷ named.folder ∷ weaving_word named.weaving ∷ named.classes
   pub some : named.classes ≢ []

@@ -14,5 +14,5 @@ replay_named words = record { listing = words.listing.now; main = words.main.now
 
 -- replay LISTING MAIN RECORD CLASS..
 pub record IsReplay (words : List (List ℕ)) (named : NamedReplay) : Type 0 where
-  pub spelled : words ≡ codes "replay" ∷ named.listing ∷ named.main ∷ named.recorded ∷ named.classes
+  pub encoded : words ≡ codes "replay" ∷ named.listing ∷ named.main ∷ named.recorded ∷ named.classes
   pub some : named.classes ≢ []

@@ -70,31 +70,31 @@ named_by (commands.Replay words) = Replay (replay_named words)
 
 -- check POLICY LISTING CERT MAIN CLASS..
 pub record IsCheck (words : List (List ℕ)) (named : NamedCheck) : Type 0 where
-  pub spelled : words ≡ codes "check" ∷ named.policy ∷ named.listing ∷ named.certificate ∷ named.main ∷ named.classes
+  pub encoded : words ≡ codes "check" ∷ named.policy ∷ named.listing ∷ named.certificate ∷ named.main ∷ named.classes
   pub some : named.classes ≢ []
 
 -- show LISTING CLASS..
 pub record IsShow (words : List (List ℕ)) (named : NamedShow) : Type 0 where
-  pub spelled : words ≡ codes "show" ∷ named.listing ∷ named.classes
+  pub encoded : words ≡ codes "show" ∷ named.listing ∷ named.classes
   pub some : named.classes ≢ []
 
 -- policy POLICY LISTING RECORD
 pub record IsPolicyCommand (words : List (List ℕ)) (named : NamedPolicy) : Type 0 where
-  pub spelled : words ≡ codes "policy" ∷ named.policy ∷ named.listing ∷ named.recorded ∷ []
+  pub encoded : words ≡ codes "policy" ∷ named.policy ∷ named.listing ∷ named.recorded ∷ []
 
 -- race POLICY LISTING
 pub record IsRace (words : List (List ℕ)) (named : NamedRace) : Type 0 where
-  pub spelled : words ≡ codes "race" ∷ named.policy ∷ named.listing ∷ []
+  pub encoded : words ≡ codes "race" ∷ named.policy ∷ named.listing ∷ []
 
-abbrev pub Spells : List (List ℕ) → NamedCommand → Type 0
-Spells words (Check named) = IsCheck words named
-Spells words (Show named) = IsShow words named
-Spells words (Policy named) = IsPolicyCommand words named
-Spells words (Race named) = IsRace words named
-Spells words (Inline named) = IsInline words named
-Spells words (Replay named) = IsReplay words named
+abbrev pub Encodes : List (List ℕ) → NamedCommand → Type 0
+Encodes words (Check named) = IsCheck words named
+Encodes words (Show named) = IsShow words named
+Encodes words (Policy named) = IsPolicyCommand words named
+Encodes words (Race named) = IsRace words named
+Encodes words (Inline named) = IsInline words named
+Encodes words (Replay named) = IsReplay words named
 
 -- The words are those of the command, and none of them is empty.
 pub record IsCommand (words : List (List ℕ)) (named : NamedCommand) : Type 0 where
-  pub spelled : Spells words named
+  pub encoded : Encodes words named
   pub full : AllByRecursion (λ word. word ≢ []) words

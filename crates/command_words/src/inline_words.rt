@@ -4,7 +4,7 @@ ghost use Rattle.std.specs.Prelude.{◌≡◌, ◌∷◌, ℕ, List, IfNone, IfS
 ghost use Rattle.command_words.specs.InlineWords.{IsInline, NamedInline, inline_named, weaving_word};
 ghost use Rattle.command_words.specs.declared.inline_words.Weaving.{Weaving as AWeaving};
 
-use crate::words::{behind, first_of, two_of};
+use crate::words::{first_of, following, two_of};
 use mon_base::Bytes;
 
 /// How the blocks that are woven are to use the lock.
@@ -36,7 +36,7 @@ pub fn inline_words(words: &[Bytes]) -> Option<InlineWords<'_>>
     ensures found { IfSome result (λ c. IsInline words.now (inline_named c)) }
     ensures none { IfNone result ((named : NamedInline) → IsInline words.now named → ⊥) }
 {
-    let words = behind(b"inline".as_slice(), words)?;
+    let words = following(b"inline".as_slice(), words)?;
     let (policy, listing, words) = two_of(words)?;
     let (main, folder, words) = two_of(words)?;
     let (weaving, classes) = woven_as(words)?;

@@ -3,7 +3,7 @@
 ghost use Rattle.std.specs.Prelude.{◌≡◌, IfNone, IfSome};
 ghost use Rattle.command_words.specs.ReplayWords.{IsReplay, NamedReplay, replay_named};
 
-use crate::words::{behind, first_of, two_of};
+use crate::words::{first_of, following, two_of};
 use mon_base::Bytes;
 
 /// The words of the command `replay`: names of files, but for `main`.
@@ -22,7 +22,7 @@ pub fn replay_words(words: &[Bytes]) -> Option<ReplayWords<'_>>
     ensures found { IfSome result (λ c. IsReplay words.now (replay_named c)) }
     ensures none { IfNone result ((named : NamedReplay) → IsReplay words.now named → ⊥) }
 {
-    let words = behind(b"replay".as_slice(), words)?;
+    let words = following(b"replay".as_slice(), words)?;
     let (listing, main, words) = two_of(words)?;
     let (recorded, classes) = first_of(words)?;
     if classes.is_empty() {

@@ -102,7 +102,7 @@ fn check_words(words: &[Bytes]) -> Option<CheckWords<'_>>
     ensures found { IfSome result (λ c. IsCheck words.now (check_named c)) }
     ensures none { IfNone result ((named : NamedCheck) → IsCheck words.now named → ⊥) }
 {
-    let words = behind(b"check".as_slice(), words)?;
+    let words = following(b"check".as_slice(), words)?;
     let (policy, listing, words) = two_of(words)?;
     let (certificate, main, classes) = two_of(words)?;
     if classes.is_empty() {
@@ -121,7 +121,7 @@ fn show_words(words: &[Bytes]) -> Option<ShowWords<'_>>
     ensures found { IfSome result (λ c. IsShow words.now (show_named c)) }
     ensures none { IfNone result ((named : NamedShow) → IsShow words.now named → ⊥) }
 {
-    let words = behind(b"show".as_slice(), words)?;
+    let words = following(b"show".as_slice(), words)?;
     let (listing, classes) = first_of(words)?;
     if classes.is_empty() {
         return None;
@@ -133,7 +133,7 @@ fn policy_words(words: &[Bytes]) -> Option<PolicyWords<'_>>
     ensures found { IfSome result (λ c. IsPolicyCommand words.now (policy_named c)) }
     ensures none { IfNone result ((named : NamedPolicy) → IsPolicyCommand words.now named → ⊥) }
 {
-    let words = behind(b"policy".as_slice(), words)?;
+    let words = following(b"policy".as_slice(), words)?;
     let (policy, listing, words) = two_of(words)?;
     let recorded = last_of(words)?;
     Some(PolicyWords {
@@ -147,7 +147,7 @@ fn race_words(words: &[Bytes]) -> Option<RaceWords<'_>>
     ensures found { IfSome result (λ c. IsRace words.now (race_named c)) }
     ensures none { IfNone result ((named : NamedRace) → IsRace words.now named → ⊥) }
 {
-    let words = behind(b"race".as_slice(), words)?;
+    let words = following(b"race".as_slice(), words)?;
     let (policy, words) = first_of(words)?;
     let listing = last_of(words)?;
     Some(RaceWords { policy, listing })
@@ -167,8 +167,8 @@ fn are_full(words: &[Bytes]) -> bool
     true
 }
 
-/// The words behind the one that names the command.
-pub fn behind<'a>(command: &[u8], words: &'a [Bytes]) -> Option<&'a [Bytes]>
+/// The words after the one that names the command.
+pub fn following<'a>(command: &[u8], words: &'a [Bytes]) -> Option<&'a [Bytes]>
     ensures found { IfSome result (λ others. words.now ≡ command.now ∷ others.now) }
     ensures none { IfNone result ((others : List (List ℕ)) → words.now ≡ command.now ∷ others → ⊥) }
 {

@@ -26,7 +26,7 @@ range_atoms maxint (Add var by) =
     else if int_lt by (pos 0) then compared var Ge (int_wrapping_neg w32 by) ∷ []
     else []
 
--- the atoms, and behind them those that keep the updates in range
+-- the atoms, and after them those that keep the updates in range
 abbrev pub atoms_of : ℤ → List Update → List Atom → List Atom
 atoms_of maxint updates atoms = atoms ++ flat_map (range_atoms maxint) updates
 

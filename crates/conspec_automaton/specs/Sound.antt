@@ -11,7 +11,7 @@ use Rattle.conspec_automaton.specs.declared.policy.Clause.{Clause}
 use Rattle.conspec_automaton.specs.declared.policy.Policy.{Policy}
 use Rattle.conspec_automaton.specs.Building.{atoms_of}
 
--- Behind the atoms that were written stand those that keep the updates in range. Each variable is updated once.
+-- After the atoms that were written stand those that keep the updates in range. Each variable is updated once.
 pub record IsBranchIn (vars : List Var) (maxint : ℤ) (askable : Askable) (branch : Branch) : Type 0 where
   pub own : List Atom
   pub kept : branch.atoms ≡ atoms_of maxint branch.updates own

@@ -122,7 +122,7 @@ fn branch_of(
     })
 }
 
-/// The atoms, and behind them those that keep the updates in range.
+/// The atoms, and after them those that keep the updates in range.
 fn atoms_of(
     alloc: Global,
     maxint: i32,

@@ -11,7 +11,7 @@ ghost use Rattle.conspec_automaton.specs.Refused.{RefusedCallsDisobey, RefusedRe
 ghost use Rattle.conspec_automaton.specs.Sight.{sight_of};
 ghost use Rattle.conspec_automaton.specs.Turning.{Keeps};
 
-/// The events of two lists are run one behind the other.
+/// The events of two lists are run one after the other.
 pub fn runs_join<S, E>()
     ensures { (next : S → E → Option S) (state : S) (first second : List E)
         → after next state (first ++ second) ≡ option_and_then (λ reached. after next reached second) (after next state first) }

@@ -1,7 +1,7 @@
 //! The automaton of a policy: its states, the clause that speaks of an event, and the state after it.
 //!
 //! [`build`] makes it out of the tree of a policy: a branch for each list of atoms, with the atoms that keep its updates
-//! in range behind them. [`initial`] gives its first [`State`], [`next`] takes an event, and [`accept`] says of a list of
+//! in range after them. [`initial`] gives its first [`State`], [`next`] takes an event, and [`accept`] says of a list of
 //! events whether they are accepted in order. What it is for events to obey a policy is said by specs/Obeys.antt.
 //! (docs/POLICIES.md)
 #![tactic(auto)]

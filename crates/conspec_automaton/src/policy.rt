@@ -9,7 +9,7 @@ use mon_base::List;
 /// What is done where all atoms hold.
 #[derive(Drop)]
 pub struct Branch {
-    /// The atoms that were written, and behind them those that keep the updates in range.
+    /// The atoms that were written, and after them those that keep the updates in range.
     pub atoms: List<Atom>,
     pub updates: List<Update>,
 }

@@ -1,9 +1,9 @@
--- What is spelled is read: names, types, parameters and methods.
+-- What is encoded is read: names, types, parameters and methods.
 use Rattle.std.proofs.Common.{◌≡◌, ℕ, zero, suc, true, false, cond, List, [], ◌∷◌, ◌++◌, map, drop, replicate, Option, Some, None, refl, sym, ap, subst, ◌∙◌, arith, append_assoc}
 use Rattle.std.specs.Prelude.{is_some, not, codes, IsTrue, ◌||◌}
 use Rattle.std.specs.List.{flat_map}
 use Rattle.std.proofs.lemmas.List.{append-nil}
-use Rattle.api_listing.specs.Descriptor.{class_spelled}
+use Rattle.api_listing.specs.Descriptor.{class_encoded}
 use Rattle.conspec_tokens.specs.declared.token.Lexeme.{Lexeme}
 use Rattle.conspec_tokens.specs.declared.token.Lexeme.TheVariants.{Quoted, Name}
 use Rattle.conspec_tokens.specs.declared.token.Token.{Token}
@@ -17,11 +17,11 @@ use Rattle.conspec_parse.specs.Forms.{is_short}
 use Rattle.conspec_parse.specs.Types.{judged_name, type_named, plain_type, next_part, class_at, class_type_at, element_at, dimension_at, array_of, type_at}
 use Rattle.conspec_tree.specs.Variables.{is_variable}
 use Rattle.conspec_parse.specs.Methods.{is_parameter, is_free, given_name_at, parameter_name_at, parameter_at, next_parameter, some_parameters, parameters_at}
-use Rattle.conspec_parse.specs.Written.{Element, WrittenType, WrittenParam, led, one_name, element_spelled, brackets_spelled, type_spelled, name_spelled, param_spelled, params_spelled}
+use Rattle.conspec_parse.specs.Written.{Element, WrittenType, WrittenParam, led, one_name, element_encoded, brackets_encoded, type_encoded, name_encoded, param_encoded, params_encoded}
 use Rattle.conspec_parse.specs.Written.Element.{Void, Int, Boolean, Byte, Short, Char, Class}
 use Rattle.conspec_parse.specs.Meaning.{AreShort, below, element_desc, element_kind, type_desc, type_kind, param_of, element_names, lexemes}
 use Rattle.conspec_parse.proofs.Found.{array_is}
-use Rattle.conspec_parse.proofs.Got.{Got, ended, ended_as, gets, passes, holds, on_true, on_false, heads, head_name, next_at, is_name_here, drop_one, next_quoted, behind_again, name_again, Path, Stops, Parts, each_again, Steps, Grows, grows}
+use Rattle.conspec_parse.proofs.Got.{Got, ended, ended_as, gets, passes, holds, on_true, on_false, heads, head_name, next_at, is_name_here, drop_one, next_quoted, after_again, name_again, Path, Stops, Parts, each_again, Steps, Grows, grows}
 
 abbrev pub Always : List Lexeme → Type 0
 Always words = Unit {0}
@@ -70,7 +70,7 @@ name_parts = record {
   leads = λ name words. tt;
   long = λ name. omega arith;
   step = λ class name next tokens words goes e last.
-      passes _ (behind_again (codes ".") tokens (Name name ∷ words) e) λ dot one.
+      passes _ (after_again (codes ".") tokens (Name name ∷ words) e) λ dot one.
       gets _ (judged_again name dot words one goes.1) λ rest two.
       ended_as (class ++ 47 ∷ name) next rest (sym goes.0) two;
 }
@@ -83,7 +83,7 @@ names_path class (name ∷ names) short =
 pub stops_at : (text : List ℕ) (words : List Lexeme) → heads text words ≡ false → Stops (is_next text) words
 stops_at text words none = λ tokens e. next_at text tokens words e ∙ none
 
-class_again : (first : List ℕ) (others : List (List ℕ)) (tokens : List Token) (words : List Lexeme) → lexemes tokens ≡ element_spelled (Class first others) ++ words
+class_again : (first : List ℕ) (others : List (List ℕ)) (tokens : List Token) (words : List Lexeme) → lexemes tokens ≡ element_encoded (Class first others) ++ words
     → AreShort (first ∷ others) → heads (codes ".") words ≡ false → Got (class_at true tokens) (first ++ flat_map below others) words
 unfolding class_at
 class_again first others tokens words e short last =
@@ -91,14 +91,14 @@ class_again first others tokens words e short last =
     each_again (is_next (codes ".")) (next_part true) (λ (name : List ℕ). Quoted (codes ".") ∷ one_name name) Always AddsName name_parts
     others first (first ++ flat_map below others) rest words (names_path first others short.1) left tt (stops_at (codes ".") words last)
 
-class_type_again : (first : List ℕ) (others : List (List ℕ)) (tokens : List Token) (words : List Lexeme) → lexemes tokens ≡ element_spelled (Class first others) ++ words
+class_type_again : (first : List ℕ) (others : List (List ℕ)) (tokens : List Token) (words : List Lexeme) → lexemes tokens ≡ element_encoded (Class first others) ++ words
     → AreShort (first ∷ others) → heads (codes ".") words ≡ false → Got (class_type_at true tokens) (type_named (element_desc (Class first others)) (Some kinds.Object)) words
 unfolding class_type_at
 class_type_again first others tokens words e short last =
     gets _ (class_again first others tokens words e short last) λ rest left.
-    ended (type_named (class_spelled (first ++ flat_map below others)) (Some kinds.Object)) rest left
+    ended (type_named (class_encoded (first ++ flat_map below others)) (Some kinds.Object)) rest left
 
-element_again : (element : Element) (tokens : List Token) (words : List Lexeme) → lexemes tokens ≡ element_spelled element ++ words → AreShort (element_names element)
+element_again : (element : Element) (tokens : List Token) (words : List Lexeme) → lexemes tokens ≡ element_encoded element ++ words → AreShort (element_names element)
     → heads (codes ".") words ≡ false → Got (element_at true tokens) (type_named (element_desc element) (element_kind element)) words
 element_again Void tokens words e short last = plain_again tokens _ (Quoted (codes "void")) words refl e
 element_again Int tokens words e short last = plain_again tokens _ (Quoted (codes "int")) words refl e
@@ -107,7 +107,7 @@ element_again Byte tokens words e short last = plain_again tokens _ (Quoted (cod
 element_again Short tokens words e short last = plain_again tokens _ (Quoted (codes "short")) words refl e
 element_again Char tokens words e short last = plain_again tokens _ (Quoted (codes "char")) words refl e
 element_again (Class first others) tokens words e short last =
-    let none : plain_type tokens ≡ None = plain_at tokens (element_spelled (Class first others) ++ words) e in
+    let none : plain_type tokens ≡ None = plain_at tokens (element_encoded (Class first others) ++ words) e in
     let got = class_type_again first others tokens words e short last in
     record { rest = got.rest; is = rw none got.is; left = got.left }
 
@@ -124,12 +124,12 @@ dimension_parts = record {
   leads = λ one words. tt;
   long = λ one. omega arith;
   step = λ brackets one next tokens words goes e last.
-      passes _ (behind_again (codes "[") tokens (Quoted (codes "]") ∷ words) e) λ opened first.
-      passes _ (behind_again (codes "]") opened words first) λ rest second.
+      passes _ (after_again (codes "[") tokens (Quoted (codes "]") ∷ words) e) λ opened first.
+      passes _ (after_again (codes "]") opened words first) λ rest second.
       ended_as (brackets ++ 91 ∷ []) next rest (sym goes) second;
 }
 
-pairs : (n : ℕ) → brackets_spelled n ≡ flat_map bracket_pair (replicate n tt)
+pairs : (n : ℕ) → brackets_encoded n ≡ flat_map bracket_pair (replicate n tt)
 pairs zero = refl
 pairs (suc n) = ap (λ (w : List Lexeme). Quoted (codes "[") ∷ Quoted (codes "]") ∷ w) (pairs n)
 
@@ -143,16 +143,16 @@ pub record EndsType (words : List Lexeme) : Type 0 where
   pub no_dot : heads (codes ".") words ≡ false
   pub no_bracket : heads (codes "[") words ≡ false
 
-no_dot_behind : (n : ℕ) (words : List Lexeme) → EndsType words → heads (codes ".") (brackets_spelled n ++ words) ≡ false
-no_dot_behind zero words last = last.no_dot
-no_dot_behind (suc n) words last = refl
+no_dot_after : (n : ℕ) (words : List Lexeme) → EndsType words → heads (codes ".") (brackets_encoded n ++ words) ≡ false
+no_dot_after zero words last = last.no_dot
+no_dot_after (suc n) words last = refl
 
-pub type_again : (type : WrittenType) (tokens : List Token) (words : List Lexeme) → lexemes tokens ≡ type_spelled type ++ words → AreShort (element_names type.element) → EndsType words
+pub type_again : (type : WrittenType) (tokens : List Token) (words : List Lexeme) → lexemes tokens ≡ type_encoded type ++ words → AreShort (element_names type.element) → EndsType words
     → Got (type_at true tokens) (type_named (type_desc type) (type_kind type)) words
 unfolding type_at
 type_again type tokens words e short last =
-    gets _ (element_again type.element tokens (brackets_spelled type.dimensions ++ words) (e ∙ append_assoc (element_spelled type.element) (brackets_spelled type.dimensions) words) short
-    (no_dot_behind type.dimensions words last)) λ rest left.
+    gets _ (element_again type.element tokens (brackets_encoded type.dimensions ++ words) (e ∙ append_assoc (element_encoded type.element) (brackets_encoded type.dimensions) words) short
+    (no_dot_after type.dimensions words last)) λ rest left.
     gets _ (each_again (is_next (codes "[")) dimension_at bracket_pair Always AddsBracket dimension_parts (replicate type.dimensions tt) [] (replicate type.dimensions 91) rest words
     (brackets_path type.dimensions []) (left ∙ ap (λ (w : List Lexeme). w ++ words) (pairs type.dimensions)) tt (stops_at (codes "[") words last.no_bracket)) λ end all.
     ended_as (array_of (replicate type.dimensions 91) (type_named (element_desc type.element) (element_kind type.element))) (type_named (type_desc type) (type_kind type)) end
@@ -181,7 +181,7 @@ given_again vars params name tokens words e free =
     holds (not true || is_short name) (Limit (front_at tokens)) _ free.2 (
     ended name rest left))
 
-parameter_name_again : (vars : List Var) (params : List Param) (name : Option (List ℕ)) (tokens : List Token) (words : List Lexeme) → lexemes tokens ≡ name_spelled name ++ words
+parameter_name_again : (vars : List Var) (params : List Param) (name : Option (List ℕ)) (tokens : List Token) (words : List Lexeme) → lexemes tokens ≡ name_encoded name ++ words
     → IsFree vars params name → head_name words ≡ None → Got (parameter_name_at true vars params tokens) name words
 parameter_name_again vars params None tokens words e free last =
     on_false (is_name tokens) _ _ (is_name_here tokens words e ∙ ap is_some last) (ended None tokens e)
@@ -190,7 +190,7 @@ parameter_name_again vars params (Some name) tokens words e free last =
     gets _ (given_again vars params name tokens words e free) λ rest left.
     ended (Some name) rest left)
 
-name_ends_type : (name : Option (List ℕ)) (words : List Lexeme) → EndsType words → EndsType (name_spelled name ++ words)
+name_ends_type : (name : Option (List ℕ)) (words : List Lexeme) → EndsType words → EndsType (name_encoded name ++ words)
 name_ends_type None words last = last
 name_ends_type (Some name) words last = record { no_dot = refl; no_bracket = refl }
 
@@ -200,44 +200,44 @@ pub record IsNext (vars : List Var) (params : List Param) (written : WrittenPara
   pub short : AreShort (element_names written.type.element)
   pub free : IsFree vars params written.name
 
-parameter_again : (vars : List Var) (params : List Param) (written : WrittenParam) (param : Param) (tokens : List Token) (words : List Lexeme) → lexemes tokens ≡ param_spelled written ++ words
+parameter_again : (vars : List Var) (params : List Param) (written : WrittenParam) (param : Param) (tokens : List Token) (words : List Lexeme) → lexemes tokens ≡ param_encoded written ++ words
     → IsNext vars params written param → EndsParam words → Got (parameter_at true vars params tokens) (params ++ param ∷ []) words
 unfolding parameter_at
 parameter_again vars params written param tokens words e next last =
-    gets _ (type_again written.type tokens (name_spelled written.name ++ words) (e ∙ append_assoc (type_spelled written.type) (name_spelled written.name) words) next.short
+    gets _ (type_again written.type tokens (name_encoded written.name ++ words) (e ∙ append_assoc (type_encoded written.type) (name_encoded written.name) words) next.short
     (name_ends_type written.name words last.type)) λ rest one.
     gets _ (parameter_name_again vars params written.name rest words one next.free last.no_name) λ end two.
     ended_as (params ++ param_of written ∷ []) (params ++ param ∷ []) end (ap (λ (p : Param). params ++ p ∷ []) (sym next.is)) two
 
-param_parts : (vars : List Var) → Parts (is_next (codes ",")) (next_parameter true vars) (λ (p : WrittenParam). Quoted (codes ",") ∷ param_spelled p) EndsParam (Grows (IsNext vars))
+param_parts : (vars : List Var) → Parts (is_next (codes ",")) (next_parameter true vars) (λ (p : WrittenParam). Quoted (codes ",") ∷ param_encoded p) EndsParam (Grows (IsNext vars))
 unfolding next_parameter
 param_parts vars = record {
-  begins = λ p words tokens e. next_quoted (codes ",") tokens (param_spelled p ++ words) e;
+  begins = λ p words tokens e. next_quoted (codes ",") tokens (param_encoded p ++ words) e;
   leads = λ p words. record { type = record { no_dot = refl; no_bracket = refl }; no_name = refl };
   long = λ p. omega arith;
   step = λ params p next tokens words goes e last.
-      passes _ (behind_again (codes ",") tokens (param_spelled p ++ words) e) λ rest one.
+      passes _ (after_again (codes ",") tokens (param_encoded p ++ words) e) λ rest one.
       subst (λ (end : List Param). Got (parameter_at true vars params rest) end words) (sym goes.1) (parameter_again vars params p goes.0 rest words one goes.2 last);
 }
 
-some_again : (vars : List Var) (first : WrittenParam) (others : List WrittenParam) (tokens : List Token) (words : List Lexeme) → lexemes tokens ≡ params_spelled (first ∷ others) ++ words
+some_again : (vars : List Var) (first : WrittenParam) (others : List WrittenParam) (tokens : List Token) (words : List Lexeme) → lexemes tokens ≡ params_encoded (first ∷ others) ++ words
     → Steps (IsNext vars) [] (first ∷ others) (map param_of (first ∷ others)) → EndsParam words → heads (codes ",") words ≡ false
     → Got (some_parameters true vars tokens) (map param_of (first ∷ others)) words
 unfolding some_parameters
 some_again vars first others tokens words e steps last none =
-    let spell = λ (p : WrittenParam). Quoted (codes ",") ∷ param_spelled p in
-    gets _ (parameter_again vars [] first (param_of first) tokens (flat_map spell others ++ words) (e ∙ append_assoc (param_spelled first) (flat_map spell others) words) steps.0
+    let encode = λ (p : WrittenParam). Quoted (codes ",") ∷ param_encoded p in
+    gets _ (parameter_again vars [] first (param_of first) tokens (flat_map encode others ++ words) (e ∙ append_assoc (param_encoded first) (flat_map encode others) words) steps.0
     (param_follows others words last)) λ rest left.
-    each_again (is_next (codes ",")) (next_parameter true vars) spell EndsParam (Grows (IsNext vars)) (param_parts vars) others (param_of first ∷ []) (map param_of (first ∷ others)) rest words
+    each_again (is_next (codes ",")) (next_parameter true vars) encode EndsParam (Grows (IsNext vars)) (param_parts vars) others (param_of first ∷ []) (map param_of (first ∷ others)) rest words
     (grows (IsNext vars) (param_of first ∷ []) others (map param_of others) steps.1) left last (stops_at (codes ",") words none)
   where
-    param_follows : (others : List WrittenParam) (words : List Lexeme) → EndsParam words → EndsParam (flat_map (λ (p : WrittenParam). Quoted (codes ",") ∷ param_spelled p) others ++ words)
+    param_follows : (others : List WrittenParam) (words : List Lexeme) → EndsParam words → EndsParam (flat_map (λ (p : WrittenParam). Quoted (codes ",") ∷ param_encoded p) others ++ words)
     param_follows [] words last = last
     param_follows (p ∷ others) words last = record { type = record { no_dot = refl; no_bracket = refl }; no_name = refl }
 
-no_closing : (first : WrittenParam) (others : List WrittenParam) (words : List Lexeme) → heads (codes ")") (params_spelled (first ∷ others) ++ words) ≡ false
+no_closing : (first : WrittenParam) (others : List WrittenParam) (words : List Lexeme) → heads (codes ")") (params_encoded (first ∷ others) ++ words) ≡ false
 no_closing first others words = by first.type.element where
-  by : (e : Element) → heads (codes ")") ((((element_spelled e ++ brackets_spelled first.type.dimensions) ++ name_spelled first.name) ++ led (codes ",") param_spelled others) ++ words) ≡ false
+  by : (e : Element) → heads (codes ")") ((((element_encoded e ++ brackets_encoded first.type.dimensions) ++ name_encoded first.name) ++ led (codes ",") param_encoded others) ++ words) ≡ false
   by Void = refl
   by Int = refl
   by Boolean = refl
@@ -246,7 +246,7 @@ no_closing first others words = by first.type.element where
   by Char = refl
   by (Class name names) = refl
 
-pub parameters_again : (vars : List Var) (written : List WrittenParam) (tokens : List Token) (words : List Lexeme) → lexemes tokens ≡ params_spelled written ++ Quoted (codes ")") ∷ words
+pub parameters_again : (vars : List Var) (written : List WrittenParam) (tokens : List Token) (words : List Lexeme) → lexemes tokens ≡ params_encoded written ++ Quoted (codes ")") ∷ words
     → Steps (IsNext vars) [] written (map param_of written) → Got (parameters_at true vars tokens) (map param_of written) (Quoted (codes ")") ∷ words)
 parameters_again vars [] tokens words e steps =
     on_true (is_next (codes ")") tokens) _ _ (next_quoted (codes ")") tokens words e) (ended [] tokens e)

@@ -1,4 +1,4 @@
--- What is spelled is read: guards and updates.
+-- What is encoded is read: guards and updates.
 use Rattle.std.proofs.Common.{◌≡◌, ◌≢◌, ℕ, ◌+◌, ◌<◌, ◌≤◌, ℤ, pos, neg_ℤ, Bool, true, false, cond, List, [], ◌∷◌, ◌++◌, length, drop, Option, Some, None, refl, sym, ap, subst, ◌∙◌, arith, append_assoc, length-append}
 use Rattle.std.specs.Prelude.{is_some, ◌≤ℤ◌, not, codes, bytes_eq, nat_lt, nat_le, int_le, AllPairs, ◌||◌, ◌&&◌, ◌==◌}
 use Rattle.std.specs.List.{AllByRecursion, flat_map}
@@ -27,11 +27,11 @@ use Rattle.conspec_parse.specs.Guards.{next_rel, truth_value, negative_at, posit
 use Rattle.conspec_tree.specs.Kinds.{is_equality}
 use Rattle.conspec_tree.specs.Updates.{target, is_updated, range_atoms, all_range_atoms}
 use Rattle.conspec_parse.specs.Updates.{set_at, next_sign, signed, sum_at, right_at, update_at, block_at}
-use Rattle.conspec_parse.specs.Written.{Constant, WrittenAtom, Right, WrittenUpdate, rel_spelled, constant_spelled, atom_spelled, conj_spelled, sign_spelled, right_spelled, update_spelled}
+use Rattle.conspec_parse.specs.Written.{Constant, WrittenAtom, Right, WrittenUpdate, rel_encoded, constant_encoded, atom_encoded, conj_encoded, sign_encoded, right_encoded, update_encoded}
 use Rattle.conspec_parse.specs.Written.Constant.{Truth, Natural, Minus}
 use Rattle.conspec_parse.specs.Written.Right.{Value, Sum}
 use Rattle.conspec_parse.specs.Meaning.{EachIs, value_of, IsConstant, IsAtom, IsSet, IsSum, IsRight, IsUpdate, lexemes}
-use Rattle.conspec_parse.proofs.Got.{Got, ended, ended_as, gets, passes, holds, there, on_true, on_false, heads, head_name, next_at, is_name_here, drop_one, same_bytes, next_quoted, behind_again, taken_again, name_again, number_again, Parts, each_again, Steps, Grows, grows}
+use Rattle.conspec_parse.proofs.Got.{Got, ended, ended_as, gets, passes, holds, there, on_true, on_false, heads, head_name, next_at, is_name_here, drop_one, same_bytes, next_quoted, after_again, taken_again, name_again, number_again, Parts, each_again, Steps, Grows, grows}
 use Rattle.conspec_parse.proofs.Again.{Always, stops_at}
 use Rattle.conspec_parse.proofs.AgainMethods.{apart_before}
 
@@ -59,7 +59,7 @@ positive_again n tokens words low e =
     holds (nat_lt n 2147483648) (Range (front_at tokens)) _ (lt-ltb _ _ (omega arith)) (
     ended (pos n) rest left)
 
-constant_again : (truth : Bool) (c : Constant) (tokens : List Token) (words : List Lexeme) → IsConstant truth c → lexemes tokens ≡ constant_spelled c ++ words
+constant_again : (truth : Bool) (c : Constant) (tokens : List Token) (words : List Lexeme) → IsConstant truth c → lexemes tokens ≡ constant_encoded c ++ words
     → Got (constant_at truth tokens) (value_of c) words
 constant_again true (Truth true) tokens words fits e =
     on_true (is_next (codes "true") tokens) _ _ (next_at (codes "true") tokens _ e) (true_again true tokens words refl e)
@@ -97,7 +97,7 @@ rel_at tokens words e =
     let g = next_at (codes ">=") tokens words e in
     rw (a, b, c, d, f, g) refl
 
-rel_first : (rel : Rel) (words : List Lexeme) → rel_words (rel_spelled rel ∷ words) ≡ Some rel
+rel_first : (rel : Rel) (words : List Lexeme) → rel_words (rel_encoded rel ∷ words) ≡ Some rel
 rel_first rels.Eq words = refl
 rel_first rels.Ne words = refl
 rel_first rels.Lt words = refl
@@ -105,10 +105,10 @@ rel_first rels.Le words = refl
 rel_first rels.Gt words = refl
 rel_first rels.Ge words = refl
 
-rel_again : (rel : Rel) (tokens : List Token) (words : List Lexeme) → lexemes tokens ≡ rel_spelled rel ∷ words → Got (taken (next_rel tokens) tokens) rel words
-rel_again rel tokens words e = taken_again (next_rel tokens) rel tokens (rel_spelled rel) words (rel_at tokens _ e ∙ rel_first rel words) e
+rel_again : (rel : Rel) (tokens : List Token) (words : List Lexeme) → lexemes tokens ≡ rel_encoded rel ∷ words → Got (taken (next_rel tokens) tokens) rel words
+rel_again rel tokens words e = taken_again (next_rel tokens) rel tokens (rel_encoded rel) words (rel_at tokens _ e ∙ rel_first rel words) e
 
-sign_again : (minus : Bool) (tokens : List Token) (words : List Lexeme) → lexemes tokens ≡ sign_spelled minus ∷ words → Got (taken (next_sign tokens) tokens) minus words
+sign_again : (minus : Bool) (tokens : List Token) (words : List Lexeme) → lexemes tokens ≡ sign_encoded minus ∷ words → Got (taken (next_sign tokens) tokens) minus words
 sign_again false tokens words e =
     let a = next_at (codes "+") tokens _ e in
     taken_again (next_sign tokens) false tokens (Quoted (codes "+")) words (rw a refl) e
@@ -130,15 +130,15 @@ atom_is written atom rel value =
     ∙ ap (λ (v : ℤ). record { base = atom.base; rel = atom.rel; value = v }) (sym value)
 
 atom_again : (scope : Scope) (room : Bool) (written : WrittenAtom) (atom : Atom) (tokens : List Token) (words : List Lexeme) → room ≡ true → IsAtom scope written atom
-    → lexemes tokens ≡ atom_spelled written ++ words → Got (atom_at scope room tokens) atom words
+    → lexemes tokens ≡ atom_encoded written ++ words → Got (atom_at scope room tokens) atom words
 unfolding atom_at
 atom_again scope room written atom tokens words free is e =
     let found : Base × Kind = (atom.base, is.kind) in
-    gets _ (name_again written.name tokens (rel_spelled written.rel ∷ (constant_spelled written.constant ++ words)) e) λ rest one.
+    gets _ (name_again written.name tokens (rel_encoded written.rel ∷ (constant_encoded written.constant ++ words)) e) λ rest one.
     there (base_named scope written.name) found (WrongName (front_at tokens)) _ is.named (
     holds (is_number is.kind) (WrongKind (front_at tokens)) _ is.asked (
     holds room (Limit (front_at tokens)) _ free (
-    gets _ (rel_again written.rel rest (constant_spelled written.constant ++ words) one) λ value two.
+    gets _ (rel_again written.rel rest (constant_encoded written.constant ++ words) one) λ value two.
     holds (not (is_truth is.kind) || is_equality written.rel) (WrongKind (front_at rest)) _ (equal_is (is_truth is.kind) (is_equality written.rel) is.equal) (
     gets _ (constant_again (is_truth is.kind) written.constant value words is.fits two) λ end three.
     ended_as (record { base = atom.base; rel = written.rel; value = value_of written.constant }) atom end (atom_is written atom is.related is.value) three))))
@@ -147,14 +147,14 @@ pub record IsNextAtom (scope : Scope) (before : List Atom) (written : WrittenAto
   pub is : IsAtom scope written atom
   pub room : length before < 16
 
-atom_parts : (scope : Scope) → Parts (is_next (codes "&&")) (next_atom scope) (λ (a : WrittenAtom). Quoted (codes "&&") ∷ atom_spelled a) Always (Grows (IsNextAtom scope))
+atom_parts : (scope : Scope) → Parts (is_next (codes "&&")) (next_atom scope) (λ (a : WrittenAtom). Quoted (codes "&&") ∷ atom_encoded a) Always (Grows (IsNextAtom scope))
 unfolding next_atom
 atom_parts scope = record {
-  begins = λ a words tokens e. next_quoted (codes "&&") tokens (atom_spelled a ++ words) e;
+  begins = λ a words tokens e. next_quoted (codes "&&") tokens (atom_encoded a ++ words) e;
   leads = λ a words. tt;
   long = λ a. omega arith;
   step = λ atoms a next tokens words goes e last.
-      passes _ (behind_again (codes "&&") tokens (atom_spelled a ++ words) e) λ rest one.
+      passes _ (after_again (codes "&&") tokens (atom_encoded a ++ words) e) λ rest one.
       gets _ (atom_again scope (nat_lt (length atoms) 16) a goes.0 rest words (lt-ltb _ _ goes.2.room) goes.2.is one) λ end two.
       ended_as (atoms ++ goes.0 ∷ []) next end (sym goes.1) two;
 }
@@ -169,10 +169,10 @@ atom_steps scope before (w ∷ written) (a ∷ atoms) are few =
     (record { is = are.0; room = omega arith }, atom_steps scope (before ++ a ∷ []) written atoms are.1 (omega arith))
 
 abbrev and_atom : WrittenAtom → List Lexeme
-and_atom a = Quoted (codes "&&") ∷ atom_spelled a
+and_atom a = Quoted (codes "&&") ∷ atom_encoded a
 
 conj_again : (scope : Scope) (room : Bool) (written : List WrittenAtom) (conj : List Atom) (tokens : List Token) (words : List Lexeme) → room ≡ true → EachIs (IsAtom scope) written conj → length conj ≤ 16
-    → lexemes tokens ≡ conj_spelled written ++ words → heads (codes "&&") words ≡ false → Got (conj_at scope room tokens) conj words
+    → lexemes tokens ≡ conj_encoded written ++ words → heads (codes "&&") words ≡ false → Got (conj_at scope room tokens) conj words
 unfolding no_atoms atoms_at
 conj_again scope room [] [] tokens words free are few e last =
     on_true (is_next (codes "true") tokens) _ _ (next_at (codes "true") tokens _ e) (
@@ -181,7 +181,7 @@ conj_again scope room [] (a ∷ conj) tokens words free are few e last = absurd 
 conj_again scope room (w ∷ written) [] tokens words free are few e last = absurd are
 conj_again scope room (w ∷ written) (a ∷ conj) tokens words free are few e last =
     on_false (is_next (codes "true") tokens) _ _ (next_at (codes "true") tokens _ e) (
-    gets _ (atom_again scope room w a tokens (flat_map and_atom written ++ words) free are.0 (e ∙ append_assoc (atom_spelled w) (flat_map and_atom written) words)) λ rest one.
+    gets _ (atom_again scope room w a tokens (flat_map and_atom written ++ words) free are.0 (e ∙ append_assoc (atom_encoded w) (flat_map and_atom written) words)) λ rest one.
     each_again (is_next (codes "&&")) (next_atom scope) and_atom Always (Grows (IsNextAtom scope)) (atom_parts scope) written (a ∷ []) (a ∷ conj) rest words
     (grows (IsNextAtom scope) (a ∷ []) written conj (atom_steps scope (a ∷ []) written conj are.1 (omega arith))) one tt (stops_at (codes "&&") words last))
 
@@ -191,7 +191,7 @@ pub record IsNextConj (scope : Scope) (size : ℕ) (before : List (List Atom)) (
   pub room : size + length before < 64
 
 abbrev pub or_conj : List WrittenAtom → List Lexeme
-or_conj c = Quoted (codes "||") ∷ conj_spelled c
+or_conj c = Quoted (codes "||") ∷ conj_encoded c
 
 abbrev pub NoAnd : List Lexeme → Type 0
 NoAnd words = heads (codes "&&") words ≡ false
@@ -199,11 +199,11 @@ NoAnd words = heads (codes "&&") words ≡ false
 conj_parts : (scope : Scope) (size : ℕ) → Parts (is_next (codes "||")) (next_conj scope size) or_conj NoAnd (Grows (IsNextConj scope size))
 unfolding next_conj
 conj_parts scope size = record {
-  begins = λ c words tokens e. next_quoted (codes "||") tokens (conj_spelled c ++ words) e;
+  begins = λ c words tokens e. next_quoted (codes "||") tokens (conj_encoded c ++ words) e;
   leads = λ c words. refl;
   long = λ c. omega arith;
   step = λ conjs c next tokens words goes e last.
-      passes _ (behind_again (codes "||") tokens (conj_spelled c ++ words) e) λ rest one.
+      passes _ (after_again (codes "||") tokens (conj_encoded c ++ words) e) λ rest one.
       gets _ (conj_again scope (nat_lt (size + length conjs) 64) c goes.0 rest words (lt-ltb _ _ goes.2.room) goes.2.is goes.2.few one last) λ end two.
       ended_as (conjs ++ goes.0 ∷ []) next end (sym goes.1) two;
 }
@@ -223,12 +223,12 @@ no_and (c ∷ others) words last = refl
 
 pub conjs_again : (scope : Scope) (size : ℕ) (first : List WrittenAtom) (others : List (List WrittenAtom)) (conjs : List (List Atom)) (tokens : List Token) (words : List Lexeme)
     → EachIs (EachIs (IsAtom scope)) (first ∷ others) conjs → AllByRecursion (λ (c : List Atom). length c ≤ 16) conjs → size + length conjs ≤ 64
-    → lexemes tokens ≡ (conj_spelled first ++ flat_map or_conj others) ++ words → NoAnd words → heads (codes "||") words ≡ false → Got (conjs_at scope size tokens) conjs words
+    → lexemes tokens ≡ (conj_encoded first ++ flat_map or_conj others) ++ words → NoAnd words → heads (codes "||") words ≡ false → Got (conjs_at scope size tokens) conjs words
 unfolding conjs_at
 conjs_again scope size first others [] tokens words are short few e last none = absurd are
 conjs_again scope size first others (c ∷ conjs) tokens words are short few e last none =
     gets _ (conj_again scope (nat_lt size 64) first c tokens (flat_map or_conj others ++ words) (lt-ltb _ _ (omega arith)) are.0 short.0
-    (e ∙ append_assoc (conj_spelled first) (flat_map or_conj others) words) (no_and others words last)) λ rest one.
+    (e ∙ append_assoc (conj_encoded first) (flat_map or_conj others) words) (no_and others words last)) λ rest one.
     each_again (is_next (codes "||")) (next_conj scope size) or_conj NoAnd (Grows (IsNextConj scope size)) (conj_parts scope size) others (c ∷ []) (c ∷ conjs) rest words
     (grows (IsNextConj scope size) (c ∷ []) others conjs (conj_steps scope size (c ∷ []) others conjs are.1 short.1 (omega arith))) one last (stops_at (codes "||") words none)
 
@@ -244,7 +244,7 @@ pub int_test : (a b : ℤ) → a ≤ℤ b → int_le a b ≡ true
 int_test a b h = grind (arith, ints)
 
 set_again : (maxint : ℤ) (name : List ℕ) (var : ℕ) (truth : Bool) (c : Constant) (value : ℤ) (tokens : List Token) (words : List Lexeme) → IsSet maxint truth c value
-    → lexemes tokens ≡ constant_spelled c ++ words → Got (set_at maxint var truth tokens) (Set var value) words
+    → lexemes tokens ≡ constant_encoded c ++ words → Got (set_at maxint var truth tokens) (Set var value) words
 unfolding set_at
 set_again maxint name var truth c value tokens words is e =
     let low : int_le (pos 0) (value_of c) ≡ true = subst (λ (v : ℤ). int_le (pos 0) v ≡ true) is.value_is (int_test (pos 0) value is.low) in
@@ -277,11 +277,11 @@ sum_room var minus n false few =
     rw is refl
 
 sum_again : (maxint : ℤ) (name : List ℕ) (var : ℕ) (truth room minus : Bool) (other : List ℕ) (n : ℕ) (by : ℤ) (tokens : List Token) (words : List Lexeme)
-    → IsSum name other truth minus n by → (room ≡ false → range_atoms (Add var by) ≡ 0) → lexemes tokens ≡ Name other ∷ sign_spelled minus ∷ Number n ∷ words
+    → IsSum name other truth minus n by → (room ≡ false → range_atoms (Add var by) ≡ 0) → lexemes tokens ≡ Name other ∷ sign_encoded minus ∷ Number n ∷ words
     → Got (sum_at room name var truth tokens) (Add var by) words
 unfolding sum_at
 sum_again maxint name var truth room minus other n by tokens words is few e =
-    gets _ (name_again other tokens (sign_spelled minus ∷ Number n ∷ words) e) λ signs one.
+    gets _ (name_again other tokens (sign_encoded minus ∷ Number n ∷ words) e) λ signs one.
     holds (bytes_eq other name) (WrongName (front_at tokens)) _ (ap (λ (o : List ℕ). bytes_eq o name) is.own ∙ same_bytes name) (
     gets _ (sign_again minus signs (Number n ∷ words) one) λ addend two.
     holds (not truth) (WrongKind (front_at signs)) _ (ap not is.number) (
@@ -290,14 +290,14 @@ sum_again maxint name var truth room minus other n by tokens words is few e =
     holds (n == 0 || room) (Limit (front_at addend)) _ (sum_room var minus n room (λ none. ap (λ (z : ℤ). range_atoms (Add var z)) (sym is.by_is) ∙ few none)) (
     ended_as (Add var (signed minus n)) (Add var by) rest (ap (λ (z : ℤ). Add var z) (sym is.by_is)) three))))
 
-constant_is_no_name : (c : Constant) (words : List Lexeme) → is_some (head_name (constant_spelled c ++ words)) ≡ false
+constant_is_no_name : (c : Constant) (words : List Lexeme) → is_some (head_name (constant_encoded c ++ words)) ≡ false
 constant_is_no_name (Truth true) words = refl
 constant_is_no_name (Truth false) words = refl
 constant_is_no_name (Natural n) words = refl
 constant_is_no_name (Minus n) words = refl
 
 right_again : (maxint : ℤ) (name : List ℕ) (var : ℕ × Bool) (room : Bool) (written : Right) (update : Update) (tokens : List Token) (words : List Lexeme)
-    → IsRightOf maxint name var.0 var.1 room written update → lexemes tokens ≡ right_spelled written ++ words → Got (right_at maxint room name var tokens) update words
+    → IsRightOf maxint name var.0 var.1 room written update → lexemes tokens ≡ right_encoded written ++ words → Got (right_at maxint room name var tokens) update words
 right_again maxint name var room (Value c) (Set v value) tokens words is e =
     on_false (is_name tokens) _ _ (is_name_here tokens _ e ∙ constant_is_no_name c words) (
     subst (λ (i : ℕ). Got (set_at maxint var.0 var.1 tokens) (Set i value) words) (sym is.of) (set_again maxint name var.0 var.1 c value tokens words is.right e))
@@ -312,7 +312,7 @@ pub record IsNextUpdate (vars : List Var) (maxint : ℤ) (atoms : ℕ) (before :
   pub new : is_updated before (target update) ≡ false
   pub few : nat_lt (atoms + all_range_atoms before) 16 ≡ false → range_atoms update ≡ 0
 
-update_parts : (vars : List Var) (maxint : ℤ) (atoms : ℕ) → Parts is_name (update_at vars maxint atoms) update_spelled Always (Grows (IsNextUpdate vars maxint atoms))
+update_parts : (vars : List Var) (maxint : ℤ) (atoms : ℕ) → Parts is_name (update_at vars maxint atoms) update_encoded Always (Grows (IsNextUpdate vars maxint atoms))
 unfolding update_at
 update_parts vars maxint atoms = record {
   begins = λ u words tokens e. is_name_here tokens _ e;
@@ -322,14 +322,14 @@ update_parts vars maxint atoms = record {
       let update = goes.0 in
       let is = goes.2.is in
       let var : ℕ × Bool = (target update, is.truth) in
-      let right = right_spelled u.right in
+      let right = right_encoded u.right in
       gets _ (name_again u.name tokens (Quoted (codes "=") ∷ ((right ++ Quoted (codes ";") ∷ []) ++ words)) e) λ equals one.
       there (variable_from 0 vars u.name) var (WrongName (front_at tokens)) _ is.named (
       holds (not (is_updated updates (target update))) (Twice (front_at tokens)) _ (ap not goes.2.new) (
-      passes _ (behind_again (codes "=") equals ((right ++ Quoted (codes ";") ∷ []) ++ words) one) λ start two.
+      passes _ (after_again (codes "=") equals ((right ++ Quoted (codes ";") ∷ []) ++ words) one) λ start two.
       gets _ (right_again maxint u.name var (nat_lt (atoms + all_range_atoms updates) 16) u.right update start (Quoted (codes ";") ∷ words)
       (record { of = refl; right = is.right; few = goes.2.few }) (two ∙ append_assoc right (Quoted (codes ";") ∷ []) words)) λ end three.
-      passes _ (behind_again (codes ";") end words three) λ rest four.
+      passes _ (after_again (codes ";") end words three) λ rest four.
       ended_as (updates ++ update ∷ []) next rest (sym goes.1) four));
 }
 
@@ -366,17 +366,17 @@ update_steps vars maxint atoms before (w ∷ written) (u ∷ updates) are once f
     )
 
 abbrev pub braces : List WrittenUpdate → List Lexeme
-braces updates = Quoted (codes "{") ∷ (flat_map update_spelled updates ++ Quoted (codes "}") ∷ [])
+braces updates = Quoted (codes "{") ∷ (flat_map update_encoded updates ++ Quoted (codes "}") ∷ [])
 
 pub block_again : (vars : List Var) (maxint : ℤ) (atoms : ℕ) (written : List WrittenUpdate) (updates : List Update) (tokens : List Token) (words : List Lexeme)
     → EachIs (IsUpdate vars maxint) written updates → AllPairs (λ u w. target u ≢ target w) updates → atoms + all_range_atoms updates ≤ 16
     → lexemes tokens ≡ braces written ++ words → Got (block_at vars maxint atoms tokens) updates words
 unfolding block_at
 block_again vars maxint atoms written updates tokens words are once few e =
-    let parts : lexemes tokens ≡ Quoted (codes "{") ∷ (flat_map update_spelled written ++ Quoted (codes "}") ∷ words) =
-    e ∙ ap (λ (w : List Lexeme). Quoted (codes "{") ∷ w) (append_assoc (flat_map update_spelled written) (Quoted (codes "}") ∷ []) words) in
-    passes _ (behind_again (codes "{") tokens (flat_map update_spelled written ++ Quoted (codes "}") ∷ words) parts) λ start one.
-    gets _ (each_again is_name (update_at vars maxint atoms) update_spelled Always (Grows (IsNextUpdate vars maxint atoms)) (update_parts vars maxint atoms) written [] updates start (Quoted (codes "}") ∷ words)
+    let parts : lexemes tokens ≡ Quoted (codes "{") ∷ (flat_map update_encoded written ++ Quoted (codes "}") ∷ words) =
+    e ∙ ap (λ (w : List Lexeme). Quoted (codes "{") ∷ w) (append_assoc (flat_map update_encoded written) (Quoted (codes "}") ∷ []) words) in
+    passes _ (after_again (codes "{") tokens (flat_map update_encoded written ++ Quoted (codes "}") ∷ words) parts) λ start one.
+    gets _ (each_again is_name (update_at vars maxint atoms) update_encoded Always (Grows (IsNextUpdate vars maxint atoms)) (update_parts vars maxint atoms) written [] updates start (Quoted (codes "}") ∷ words)
     (grows (IsNextUpdate vars maxint atoms) [] written updates (update_steps vars maxint atoms [] written updates are once few)) one tt (λ left e. is_name_here left _ e)) λ end two.
-    passes _ (behind_again (codes "}") end words two) λ rest three.
+    passes _ (after_again (codes "}") end words two) λ rest three.
     ended updates rest three

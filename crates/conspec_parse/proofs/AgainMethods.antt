@@ -1,4 +1,4 @@
--- What is spelled is read: parameters of a written method, its path, and which method it is.
+-- What is encoded is read: parameters of a written method, its path, and which method it is.
 use Rattle.std.proofs.Common.{◌≡◌, ◌≢◌, ℕ, suc, ◌≤◌, Bool, true, false, List, [], ◌∷◌, ◌++◌, length, map, drop, get_or, Option, Some, None, Ok, refl, sym, ap, subst, ◌∙◌, arith, append_assoc, length-append}
 use Rattle.std.specs.Prelude.{not, codes, bytes_eq, nat_le, AllPairs, IsTrue, ◌||◌}
 use Rattle.std.specs.List.{AllByRecursion, flat_map}
@@ -24,12 +24,12 @@ use Rattle.conspec_parse.specs.Forms.{is_short}
 use Rattle.conspec_tree.specs.Variables.{is_variable}
 use Rattle.conspec_parse.specs.Methods.{is_named, is_parameter, init, part_at, class_under, next_step, path_at, signature_at, desc_of, index_at, method_at}
 use Rattle.conspec_tree.specs.Clauses.{has_clause}
-use Rattle.conspec_parse.specs.Written.{WrittenParam, MethodName, dotted, method_spelled, path_spelled, params_spelled, signature_spelled}
+use Rattle.conspec_parse.specs.Written.{WrittenParam, MethodName, dotted, method_encoded, path_encoded, params_encoded, signature_encoded}
 use Rattle.conspec_parse.specs.Written.MethodName.{Constructor, Plain}
 use Rattle.conspec_parse.specs.Meaning.{AreShort, below, joined, param_of, element_names, optional, names_of_param, param_names, AreParams, method_bytes, method_names, IsMethodIn, lexemes}
 use Rattle.conspec_parse.proofs.Loose.{signature_loose}
 use Rattle.conspec_parse.proofs.FoundMethods.{is_constructor}
-use Rattle.conspec_parse.proofs.Got.{Got, ended, ended_as, gets, passes, holds, on_true, on_false, heads, next_at, next_quoted, drop_one, behind_again, Path, Parts, each_again, Steps}
+use Rattle.conspec_parse.proofs.Got.{Got, ended, ended_as, gets, passes, holds, on_true, on_false, heads, next_at, next_quoted, drop_one, after_again, Path, Parts, each_again, Steps}
 use Rattle.conspec_parse.proofs.Again.{Always, judged_again, stops_at, IsFree, IsNext, parameters_again}
 
 -- ---- lists
@@ -109,33 +109,33 @@ params_steps vars before (p ∷ written) are =
 -- ---- the class and the name
 
 abbrev one_item : MethodName → List Lexeme
-one_item m = Quoted (codes ".") ∷ method_spelled m ∷ []
+one_item m = Quoted (codes ".") ∷ method_encoded m ∷ []
 
 pub record AddsPart (parts : PathParts) (m : MethodName) (next : PathParts) : Type 0 where
   pub below : parts.is_last ≡ false
   pub is : next ≡ record { class = Some (class_under parts.class parts.name); name = method_bytes m; is_last = is_constructor m }
   pub short : AreShort (method_names m)
 
-part_again : (m : MethodName) (tokens : List Token) (words : List Lexeme) → lexemes tokens ≡ method_spelled m ∷ words → AreShort (method_names m)
+part_again : (m : MethodName) (tokens : List Token) (words : List Lexeme) → lexemes tokens ≡ method_encoded m ∷ words → AreShort (method_names m)
     → Got (part_at true tokens) (method_bytes m) words
 part_again Constructor tokens words e short =
     on_true (is_next init tokens) _ _ (next_quoted init tokens words e) (ended init (drop 1 tokens) (drop_one tokens (Quoted init) words e))
 part_again (Plain name) tokens words e short =
     on_false (is_next init tokens) _ _ (next_at init tokens (Name name ∷ words) e) (judged_again name tokens words e short.0)
 
-last_is : (m : MethodName) (tokens : List Token) (words : List Lexeme) → lexemes tokens ≡ method_spelled m ∷ words → is_next init tokens ≡ is_constructor m
+last_is : (m : MethodName) (tokens : List Token) (words : List Lexeme) → lexemes tokens ≡ method_encoded m ∷ words → is_next init tokens ≡ is_constructor m
 last_is Constructor tokens words e = next_quoted init tokens words e
 last_is (Plain name) tokens words e = next_at init tokens (Name name ∷ words) e
 
 item_parts : Parts (is_next (codes ".")) (next_step true) one_item Always AddsPart
 unfolding next_step
 item_parts = record {
-  begins = λ m words tokens e. next_quoted (codes ".") tokens (method_spelled m ∷ words) e;
+  begins = λ m words tokens e. next_quoted (codes ".") tokens (method_encoded m ∷ words) e;
   leads = λ m words. tt;
   long = λ m. omega arith;
   step = λ parts m next tokens words goes e last.
       holds (not parts.is_last) (Syntax (front_at tokens)) _ (ap not goes.below) (
-      passes _ (behind_again (codes ".") tokens (method_spelled m ∷ words) e) λ dot one.
+      passes _ (after_again (codes ".") tokens (method_encoded m ∷ words) e) λ dot one.
       gets _ (part_again m dot words one goes.short) λ rest two.
       ended_as (record { class = Some (class_under parts.class parts.name); name = method_bytes m; is_last = is_next init dot }) next rest
       (ap (λ (b : Bool). record { class = Some (class_under parts.class parts.name); name = method_bytes m; is_last = b }) (last_is m dot words one) ∙ sym goes.is) two);
@@ -144,9 +144,9 @@ item_parts = record {
 abbrev items : List (List ℕ) → MethodName → List MethodName
 items class m = map Plain class ++ m ∷ []
 
-items_spelled : (class : List (List ℕ)) (m : MethodName) → Quoted (codes ".") ∷ (flat_map dotted class ++ method_spelled m ∷ []) ≡ flat_map one_item (items class m)
-items_spelled [] m = refl
-items_spelled (name ∷ class) m = ap (λ (w : List Lexeme). Quoted (codes ".") ∷ Name name ∷ w) (items_spelled class m)
+items_encoded : (class : List (List ℕ)) (m : MethodName) → Quoted (codes ".") ∷ (flat_map dotted class ++ method_encoded m ∷ []) ≡ flat_map one_item (items class m)
+items_encoded [] m = refl
+items_encoded (name ∷ class) m = ap (λ (w : List Lexeme). Quoted (codes ".") ∷ Name name ∷ w) (items_encoded class m)
 
 abbrev made_parts : List ℕ → MethodName → PathParts
 made_parts class m = record { class = Some class; name = method_bytes m; is_last = is_constructor m }
@@ -162,32 +162,32 @@ items_path (n ∷ names) m class name short_names short = (
       (append_assoc (class_under class name) (47 ∷ n) (flat_map below names)) (items_path names m (Some (class_under class name)) n short_names.1 short),
 )
 
-path_again : (first : List ℕ) (others : List (List ℕ)) (m : MethodName) (tokens : List Token) (words : List Lexeme) → lexemes tokens ≡ path_spelled (first ∷ others) m ++ words
+path_again : (first : List ℕ) (others : List (List ℕ)) (m : MethodName) (tokens : List Token) (words : List Lexeme) → lexemes tokens ≡ path_encoded (first ∷ others) m ++ words
     → AreShort (first ∷ others) → AreShort (method_names m) → heads (codes ".") words ≡ false
     → Got (path_at true tokens) (record { class = joined (first ∷ others); name = method_bytes m }) words
 unfolding path_at
 path_again first others m tokens words e short_class short last =
-    let all : lexemes tokens ≡ Name first ∷ (flat_map one_item (items others m) ++ words) = e ∙ ap (λ (w : List Lexeme). Name first ∷ (w ++ words)) (items_spelled others m) in
+    let all : lexemes tokens ≡ Name first ∷ (flat_map one_item (items others m) ++ words) = e ∙ ap (λ (w : List Lexeme). Name first ∷ (w ++ words)) (items_encoded others m) in
     gets _ (judged_again first tokens (flat_map one_item (items others m) ++ words) all short_class.0) λ rest one.
     gets _ (each_again (is_next (codes ".")) (next_step true) one_item Always AddsPart item_parts (items others m) (record { class = None; name = first; is_last = false })
     (made_parts (joined (first ∷ others)) m) rest words (items_path others m None first short_class.1 short) one tt (stops_at (codes ".") words last)) λ end two.
     ended (record { class = joined (first ∷ others); name = method_bytes m }) end two
 
 signature_again : (vars : List Var) (class : List (List ℕ)) (m : MethodName) (params : List WrittenParam) (tokens : List Token) (words : List Lexeme)
-    → lexemes tokens ≡ signature_spelled class m params ++ words → class ≢ [] → AreShort class → AreShort (method_names m) → AreParams vars params
+    → lexemes tokens ≡ signature_encoded class m params ++ words → class ≢ [] → AreShort class → AreShort (method_names m) → AreParams vars params
     → Got (signature_at true vars tokens) (record { path = record { class = joined class; name = method_bytes m }; params = map param_of params }) words
 unfolding signature_at
 signature_again vars [] m params tokens words e within short_class short are = absurd (within refl)
 signature_again vars (first ∷ others) m params tokens words e within short_class short are =
     let close = Quoted (codes ")") ∷ words in
-    let inner : List Lexeme = params_spelled params ++ Quoted (codes ")") ∷ [] in
-    let split : lexemes tokens ≡ path_spelled (first ∷ others) m ++ Quoted (codes "(") ∷ (inner ++ words) =
-    e ∙ append_assoc (path_spelled (first ∷ others) m) (Quoted (codes "(") ∷ inner) words in
-    let behind_params : inner ++ words ≡ params_spelled params ++ close = append_assoc (params_spelled params) (Quoted (codes ")") ∷ []) words in
+    let inner : List Lexeme = params_encoded params ++ Quoted (codes ")") ∷ [] in
+    let split : lexemes tokens ≡ path_encoded (first ∷ others) m ++ Quoted (codes "(") ∷ (inner ++ words) =
+    e ∙ append_assoc (path_encoded (first ∷ others) m) (Quoted (codes "(") ∷ inner) words in
+    let after_params : inner ++ words ≡ params_encoded params ++ close = append_assoc (params_encoded params) (Quoted (codes ")") ∷ []) words in
     gets _ (path_again first others m tokens (Quoted (codes "(") ∷ (inner ++ words)) split short_class short refl) λ opened one.
-    passes _ (behind_again (codes "(") opened (inner ++ words) one) λ start two.
-    gets _ (parameters_again vars params start words (two ∙ behind_params) (params_steps vars [] params are)) λ closed three.
-    passes _ (behind_again (codes ")") closed words three) λ rest four.
+    passes _ (after_again (codes "(") opened (inner ++ words) one) λ start two.
+    gets _ (parameters_again vars params start words (two ∙ after_params) (params_steps vars [] params are)) λ closed three.
+    passes _ (after_again (codes ")") closed words three) λ rest four.
     ended (record { path = record { class = joined (first ∷ others); name = method_bytes m }; params = map param_of params }) rest four
 
 -- ---- the method
@@ -208,7 +208,7 @@ method_of_is methods vars clauses phase result tokens rest signature method stri
     rw (loose, index, strict) refl
 
 pub method_again : (methods : List ListedMethod) (vars : List Var) (clauses : List TreeClause) (phase : Phase) (result : List ℕ) (class : List (List ℕ)) (m : MethodName) (params : List WrittenParam)
-    (method : ℕ) (tokens : List Token) (words : List Lexeme) → lexemes tokens ≡ signature_spelled class m params ++ words
+    (method : ℕ) (tokens : List Token) (words : List Lexeme) → lexemes tokens ≡ signature_encoded class m params ++ words
     → IsMethodIn methods class m params result method → AreShort class → AreShort (method_names m) → AreParams vars params → has_clause clauses phase method ≡ false
     → Got (method_at methods vars clauses phase result tokens) (method, map param_of params) words
 method_again methods vars clauses phase result class m params method tokens words e is short_class short are once =

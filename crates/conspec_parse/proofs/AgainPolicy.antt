@@ -1,4 +1,4 @@
--- What is spelled is read: clauses, variables and the whole.
+-- What is encoded is read: clauses, variables and the whole.
 use Rattle.std.proofs.Common.{◌≡◌, ◌≢◌, ℕ, zero, suc, ◌+◌, ◌<◌, ◌≤◌, ℤ, pos, Bool, true, false, List, [], ◌∷◌, ◌++◌, length, map, drop, Option, Some, None, Ok, Err, refl, sym, ap, subst, ◌∙◌, arith, append_assoc, length-append}
 use Rattle.std.specs.Prelude.{max, is_some, not, codes, nat_lt, nat_le, int_le, AllPairs, MatchResult, ◌||◌, ◌&&◌, ◌==◌}
 use Rattle.std.specs.List.{AllByRecursion, flat_map}
@@ -37,9 +37,9 @@ use Rattle.conspec_parse.specs.Clauses.{begins_guard, guard_of, guard_at, last_g
 use Rattle.conspec_tree.specs.Clauses.{is_after}
 use Rattle.conspec_parse.specs.Policy.{policy_at, reading}
 use Rattle.conspec_tree.specs.Tree.{Differ}
-use Rattle.conspec_parse.specs.Written.{WrittenAtom, WrittenUpdate, WrittenGuard, WrittenParam, MethodName, WrittenClause, WrittenVar, Written, led, conj_spelled, block_spelled, guard_spelled, else_spelled, body_spelled, type_spelled, phase_spelled, result_spelled, signature_spelled, clause_spelled, first_spelled, variable_word, variable_spelled, header_spelled, policy_spelled}
-use Rattle.conspec_parse.specs.Meaning.{EachIs, type_desc, type_kind, param_of, IsAtom, IsBlock, IsGuard, IsOtherwise, AreGuards, IsResult, MayName, IsClause, IsFirst, IsVar, IsPolicy, lexemes, SpellsPolicy}
-use Rattle.conspec_parse.proofs.Got.{Got, ended, ended_as, gets, passes, holds, there, on_true, on_false, heads, head_name, next_at, is_name_here, drop_one, behind_again, name_again, number_again, Stops, Parts, each_again, Steps, Grows, grows}
+use Rattle.conspec_parse.specs.Written.{WrittenAtom, WrittenUpdate, WrittenGuard, WrittenParam, MethodName, WrittenClause, WrittenVar, Written, led, conj_encoded, block_encoded, guard_encoded, else_encoded, body_encoded, type_encoded, phase_encoded, result_encoded, signature_encoded, clause_encoded, first_encoded, variable_word, variable_encoded, header_encoded, policy_encoded}
+use Rattle.conspec_parse.specs.Meaning.{EachIs, type_desc, type_kind, param_of, IsAtom, IsBlock, IsGuard, IsOtherwise, AreGuards, IsResult, MayName, IsClause, IsFirst, IsVar, IsPolicy, lexemes, EncodesPolicy}
+use Rattle.conspec_parse.proofs.Got.{Got, ended, ended_as, gets, passes, holds, there, on_true, on_false, heads, head_name, next_at, is_name_here, drop_one, after_again, name_again, number_again, Stops, Parts, each_again, Steps, Grows, grows}
 use Rattle.conspec_parse.proofs.Again.{Always, EndsType, type_again}
 use Rattle.conspec_parse.proofs.AgainMethods.{apart_before, bytes_differ, method_again}
 use Rattle.conspec_parse.proofs.AgainGuards.{braces, conjs_again, block_again, int_test}
@@ -70,9 +70,9 @@ pub record IsNextGuard (scope : Scope) (maxint : ℤ) (before : List Guard) (wri
 regroup : (a b c d : List Lexeme) → (a ++ (b ++ c)) ++ d ≡ (a ++ b) ++ (c ++ d)
 regroup a b c d = simp append_assoc
 
-guard_begins : (w : WrittenGuard) (words : List Lexeme) (tokens : List Token) → lexemes tokens ≡ guard_spelled w ++ words → begins_guard tokens ≡ true
+guard_begins : (w : WrittenGuard) (words : List Lexeme) (tokens : List Token) → lexemes tokens ≡ guard_encoded w ++ words → begins_guard tokens ≡ true
 guard_begins w words tokens e = by w.first e where
-  by : (first : List WrittenAtom) → lexemes tokens ≡ (conj_spelled first ++ (led (codes "||") conj_spelled w.others ++ block_spelled w.updates)) ++ words → begins_guard tokens ≡ true
+  by : (first : List WrittenAtom) → lexemes tokens ≡ (conj_encoded first ++ (led (codes "||") conj_encoded w.others ++ block_encoded w.updates)) ++ words → begins_guard tokens ≡ true
   by [] e =
       let a = next_at (codes "true") tokens _ e in
       rw a refl
@@ -81,13 +81,13 @@ guard_begins w words tokens e = by w.first e where
       let b = is_name_here tokens _ e in
       rw (a, b) refl
 
-guard_long : (w : WrittenGuard) → 1 ≤ length (guard_spelled w)
+guard_long : (w : WrittenGuard) → 1 ≤ length (guard_encoded w)
 guard_long w = by w.first where
-  by : (first : List WrittenAtom) → 1 ≤ length (conj_spelled first ++ (led (codes "||") conj_spelled w.others ++ block_spelled w.updates))
+  by : (first : List WrittenAtom) → 1 ≤ length (conj_encoded first ++ (led (codes "||") conj_encoded w.others ++ block_encoded w.updates))
   by [] = omega arith
   by (atom ∷ first) = omega arith
 
-guard_parts : (scope : Scope) (maxint : ℤ) → Parts begins_guard (guard_at scope maxint) guard_spelled Always (Grows (IsNextGuard scope maxint))
+guard_parts : (scope : Scope) (maxint : ℤ) → Parts begins_guard (guard_at scope maxint) guard_encoded Always (Grows (IsNextGuard scope maxint))
 unfolding guard_at guard_of
 guard_parts scope maxint = record {
   begins = guard_begins;
@@ -98,9 +98,9 @@ guard_parts scope maxint = record {
       let is = goes.2.is in
       let block = is.block in
       let low = longest_first (all_range_atoms g.updates) w.others w.first scope g.conjs is.conjs block.short in
-      gets _ (conjs_again scope (branches guards) w.first w.others g.conjs tokens (block_spelled w.updates ++ words) is.conjs (each_short (all_range_atoms g.updates) g.conjs block.short) goes.2.few
-      (e ∙ regroup (conj_spelled w.first) (led (codes "||") conj_spelled w.others) (block_spelled w.updates) words) refl refl) λ arrow one.
-      passes _ (behind_again (codes "->") arrow (braces w.updates ++ words) one) λ start two.
+      gets _ (conjs_again scope (branches guards) w.first w.others g.conjs tokens (block_encoded w.updates ++ words) is.conjs (each_short (all_range_atoms g.updates) g.conjs block.short) goes.2.few
+      (e ∙ regroup (conj_encoded w.first) (led (codes "||") conj_encoded w.others) (block_encoded w.updates) words) refl refl) λ arrow one.
+      passes _ (after_again (codes "->") arrow (braces w.updates ++ words) one) λ start two.
       gets _ (block_again scope.vars maxint (longest g.conjs) w.updates g.updates start words block.updates block.once low two) λ rest three.
       ended_as (guards ++ (record { conjs = g.conjs; updates = g.updates }) ∷ []) next rest (sym goes.1) three;
 }
@@ -132,24 +132,24 @@ body_stops words none = λ tokens e.
     let b = is_name_here tokens words e in
     rw (a, b) none
 
-else_stops : (otherwise : Option (List WrittenUpdate)) (words : List Lexeme) → EndsBody words → Stops begins_guard (else_spelled otherwise ++ words)
+else_stops : (otherwise : Option (List WrittenUpdate)) (words : List Lexeme) → EndsBody words → Stops begins_guard (else_encoded otherwise ++ words)
 else_stops None words last = body_stops words last.no_guard
-else_stops (Some updates) words last = body_stops (else_spelled (Some updates) ++ words) refl
+else_stops (Some updates) words last = body_stops (else_encoded (Some updates) ++ words) refl
 
 last_guard_again : (scope : Scope) (maxint : ℤ) (guards : List Guard) (written : List WrittenUpdate) (g : Guard) (tokens : List Token) (words : List Lexeme)
-    → g.conjs ≡ [] ∷ [] → IsBlock scope.vars maxint written g → branches guards < 64 → lexemes tokens ≡ else_spelled (Some written) ++ words
+    → g.conjs ≡ [] ∷ [] → IsBlock scope.vars maxint written g → branches guards < 64 → lexemes tokens ≡ else_encoded (Some written) ++ words
     → Got (last_guard scope maxint guards tokens) (guards ++ g ∷ []) words
 unfolding last_guard guard_of
 last_guard_again scope maxint guards written g tokens words empty block few e =
     let short : AllByRecursion (λ (c : List Atom). length c + all_range_atoms g.updates ≤ 16) ([] ∷ []) = subst (λ (cs : List (List Atom)). AllByRecursion (λ (c : List Atom). length c + all_range_atoms g.updates ≤ 16) cs) empty block.short in
     holds (nat_lt (branches guards) 64) (Limit (front_at tokens)) _ (lt-ltb _ _ few) (
-    passes _ (behind_again (codes "->") (drop 1 tokens) (braces written ++ words) (drop_one tokens (Quoted (codes "ELSE")) (block_spelled written ++ words) e)) λ start one.
+    passes _ (after_again (codes "->") (drop 1 tokens) (braces written ++ words) (drop_one tokens (Quoted (codes "ELSE")) (block_encoded written ++ words) e)) λ start one.
     gets _ (block_again scope.vars maxint 0 written g.updates start words block.updates block.once short.0 one) λ rest two.
     ended_as (guards ++ (record { conjs = [] ∷ []; updates = g.updates }) ∷ []) (guards ++ g ∷ []) rest
     (ap (λ (cs : List (List Atom)). guards ++ (record { conjs = cs; updates = g.updates }) ∷ []) (sym empty)) two)
 
 else_again : (scope : Scope) (maxint : ℤ) (asking last : List Guard) (otherwise : Option (List WrittenUpdate)) (tokens : List Token) (words : List Lexeme)
-    → IsOtherwise scope.vars maxint otherwise last → branches (asking ++ last) ≤ 64 → lexemes tokens ≡ else_spelled otherwise ++ words → heads (codes "ELSE") words ≡ false
+    → IsOtherwise scope.vars maxint otherwise last → branches (asking ++ last) ≤ 64 → lexemes tokens ≡ else_encoded otherwise ++ words → heads (codes "ELSE") words ≡ false
     → Got (with_else scope maxint asking tokens) (asking ++ last) words
 else_again scope maxint asking last None tokens words other few e none =
     on_false (is_next (codes "ELSE") tokens) _ _ (next_at (codes "ELSE") tokens words e ∙ none) (
@@ -163,18 +163,18 @@ else_again scope maxint asking (g ∷ last) (Some updates) tokens words other fe
     (last_guard_again scope maxint asking updates g tokens words other.1.0 other.1.1 (omega arith) e))
 
 body_again : (scope : Scope) (maxint : ℤ) (written : List WrittenGuard) (otherwise : Option (List WrittenUpdate)) (guards : List Guard) (tokens : List Token) (words : List Lexeme)
-    → AreGuards scope maxint written otherwise guards → lexemes tokens ≡ body_spelled written otherwise ++ words → EndsBody words → Got (body_at scope maxint tokens) guards words
+    → AreGuards scope maxint written otherwise guards → lexemes tokens ≡ body_encoded written otherwise ++ words → EndsBody words → Got (body_at scope maxint tokens) guards words
 unfolding body_at
 body_again scope maxint written otherwise guards tokens words are e last =
     let few : branches (are.asking ++ are.last) ≤ 64 = subst (λ (gs : List Guard). branches gs ≤ 64) are.parts are.few in
-    let split : lexemes tokens ≡ flat_map guard_spelled written ++ (else_spelled otherwise ++ words) = e ∙ append_assoc (flat_map guard_spelled written) (else_spelled otherwise) words in
-    gets _ (each_again begins_guard (guard_at scope maxint) guard_spelled Always (Grows (IsNextGuard scope maxint)) (guard_parts scope maxint) written [] are.asking tokens (else_spelled otherwise ++ words)
+    let split : lexemes tokens ≡ flat_map guard_encoded written ++ (else_encoded otherwise ++ words) = e ∙ append_assoc (flat_map guard_encoded written) (else_encoded otherwise) words in
+    gets _ (each_again begins_guard (guard_at scope maxint) guard_encoded Always (Grows (IsNextGuard scope maxint)) (guard_parts scope maxint) written [] are.asking tokens (else_encoded otherwise ++ words)
     (grows (IsNextGuard scope maxint) [] written are.asking (guard_steps scope maxint [] written are.asking are.last are.guarded few)) split tt (else_stops otherwise words last)) λ rest one.
     subst (λ (gs : List Guard). Got (with_else scope maxint are.asking rest) gs words) (sym are.parts) (else_again scope maxint are.asking are.last otherwise rest words are.other few one last.no_else)
 
 -- ---- the parts of a clause
 
-phase_again : (phase : Phase) (tokens : List Token) (words : List Lexeme) → lexemes tokens ≡ phase_spelled phase ∷ words → next_phase tokens ≡ Some phase
+phase_again : (phase : Phase) (tokens : List Token) (words : List Lexeme) → lexemes tokens ≡ phase_encoded phase ∷ words → next_phase tokens ≡ Some phase
 phase_again Before tokens words e =
     let a = next_at (codes "BEFORE") tokens _ e in
     rw a refl
@@ -188,7 +188,7 @@ phase_again Exceptional tokens words e =
     let c = next_at (codes "EXCEPTIONAL") tokens _ e in
     rw (a, b, c) refl
 
-begins_method : (class : List (List ℕ)) (m : MethodName) (params : List WrittenParam) (words : List Lexeme) → class ≢ [] → (first : List ℕ) × (others : List Lexeme) × (signature_spelled class m params ++ words ≡ Name first ∷ Quoted (codes ".") ∷ others)
+begins_method : (class : List (List ℕ)) (m : MethodName) (params : List WrittenParam) (words : List Lexeme) → class ≢ [] → (first : List ℕ) × (others : List Lexeme) × (signature_encoded class m params ++ words ≡ Name first ∷ Quoted (codes ".") ∷ others)
 begins_method [] m params words within = absurd (within refl)
 begins_method (first ∷ class) m params words within = (first, _, refl)
 
@@ -204,7 +204,7 @@ given_again vars phase kind name tokens words is e =
     holds (is_some kind) (WrongKind (front_at tokens)) _ (given_kind kind is.given) (
     holds (not (is_variable vars name)) (Twice (front_at tokens)) _ (ap not is.own) (
     holds (is_short name) (Limit (front_at tokens)) _ is.short (
-    passes _ (behind_again (codes "=") equals words one) λ rest two.
+    passes _ (after_again (codes "=") equals words one) λ rest two.
     ended name rest two)))
 
 and_false : (a : Bool) → (a && false) ≡ false
@@ -212,7 +212,7 @@ and_false true = refl
 and_false false = refl
 
 result_again : (vars : List Var) (phase : Phase) (kind : Option Kind) (result : Option (List ℕ)) (first : List ℕ) (others : List Lexeme) (tokens : List Token) → MayName vars phase kind result
-    → lexemes tokens ≡ result_spelled result ++ Name first ∷ Quoted (codes ".") ∷ others → Got (result_name_at vars phase kind tokens) result (Name first ∷ Quoted (codes ".") ∷ others)
+    → lexemes tokens ≡ result_encoded result ++ Name first ∷ Quoted (codes ".") ∷ others → Got (result_name_at vars phase kind tokens) result (Name first ∷ Quoted (codes ".") ∷ others)
 result_again vars phase kind None first others tokens may e =
     let named = is_name_here tokens _ e in
     let dot = next_at (codes "=") (drop 1 tokens) _ (drop_one tokens (Name first) (Quoted (codes ".") ∷ others) e) in
@@ -227,7 +227,7 @@ result_again vars phase kind (Some name) first others tokens may e =
     gets _ (given_again vars phase kind name tokens (Name first ∷ Quoted (codes ".") ∷ others) may e) λ rest left.
     ended (Some name) rest left)
 
-result_ends_type : (result : Option (List ℕ)) (first : List ℕ) (words : List Lexeme) → EndsType (result_spelled result ++ Name first ∷ words)
+result_ends_type : (result : Option (List ℕ)) (first : List ℕ) (words : List Lexeme) → EndsType (result_encoded result ++ Name first ∷ words)
 result_ends_type None first words = record { no_dot = refl; no_bracket = refl }
 result_ends_type (Some name) first words = record { no_dot = refl; no_bracket = refl }
 
@@ -263,37 +263,37 @@ five : (a b c d e : List Lexeme) (l : Lexeme) → (a ++ (b ++ (c ++ l ∷ d))) +
 five a b c d e l = simp append_assoc
 
 clause_again : (methods : List ListedMethod) (vars : List Var) (maxint : ℤ) (clauses : List TreeClause) (w : WrittenClause) (c : TreeClause) (tokens : List Token) (words : List Lexeme)
-    → IsNextClause methods vars maxint clauses w c → lexemes tokens ≡ clause_spelled w ++ words → EndsBody words → Got (clause_at methods vars maxint clauses tokens) (clauses ++ c ∷ []) words
+    → IsNextClause methods vars maxint clauses w c → lexemes tokens ≡ clause_encoded w ++ words → EndsBody words → Got (clause_at methods vars maxint clauses tokens) (clauses ++ c ∷ []) words
 unfolding clause_at clause_of_type clause_of_method
 clause_again methods vars maxint clauses w c tokens words next e last =
     let is = next.is in
-    let body = body_spelled w.guards w.otherwise in
-    let signature = signature_spelled w.class w.method w.params in
+    let body = body_encoded w.guards w.otherwise in
+    let signature = signature_encoded w.class w.method w.params in
     let performs : List Lexeme = Quoted (codes "PERFORM") ∷ (body ++ words) in
-    let all : lexemes tokens ≡ phase_spelled w.phase ∷ (type_spelled w.type ++ (result_spelled w.result ++ (signature ++ performs))) =
-    e ∙ ap (λ (ws : List Lexeme). phase_spelled w.phase ∷ ws) (five (type_spelled w.type) (result_spelled w.result) signature body words (Quoted (codes "PERFORM"))) in
+    let all : lexemes tokens ≡ phase_encoded w.phase ∷ (type_encoded w.type ++ (result_encoded w.result ++ (signature ++ performs))) =
+    e ∙ ap (λ (ws : List Lexeme). phase_encoded w.phase ∷ ws) (five (type_encoded w.type) (result_encoded w.result) signature body words (Quoted (codes "PERFORM"))) in
     let begun = begins_method w.class w.method w.params performs is.method.within in
     let phase_is : c.phase ≡ w.phase = ap (λ (x : TreeClause). x.phase) is.is in
     let new : has_clause clauses w.phase c.method ≡ false = subst (λ (p : Phase). has_clause clauses p c.method ≡ false) phase_is next.new in
     holds (nat_lt (length clauses) 64) (Limit (front_at tokens)) _ (lt-ltb _ _ next.room) (
     there (next_phase tokens) w.phase (Syntax (front_at tokens)) _ (phase_again w.phase tokens _ all) (
-    gets _ (type_again w.type (drop 1 tokens) (result_spelled w.result ++ (signature ++ performs)) (drop_one tokens (phase_spelled w.phase) _ all) is.short_type
-    (subst (λ (ws : List Lexeme). EndsType (result_spelled w.result ++ ws)) (sym begun.2) (result_ends_type w.result begun.0 (Quoted (codes ".") ∷ begun.1)))) λ left one.
-    gets _ (result_again vars w.phase (type_kind w.type) w.result begun.0 begun.1 left is.result (one ∙ ap (λ (ws : List Lexeme). result_spelled w.result ++ ws) begun.2)) λ method two.
+    gets _ (type_again w.type (drop 1 tokens) (result_encoded w.result ++ (signature ++ performs)) (drop_one tokens (phase_encoded w.phase) _ all) is.short_type
+    (subst (λ (ws : List Lexeme). EndsType (result_encoded w.result ++ ws)) (sym begun.2) (result_ends_type w.result begun.0 (Quoted (codes ".") ∷ begun.1)))) λ left one.
+    gets _ (result_again vars w.phase (type_kind w.type) w.result begun.0 begun.1 left is.result (one ∙ ap (λ (ws : List Lexeme). result_encoded w.result ++ ws) begun.2)) λ method two.
     gets _ (method_again methods vars clauses w.phase (type_desc w.type) w.class w.method w.params c.method method performs (two ∙ sym begun.2) is.method is.short_class is.short_method is.params new) λ perform three.
-    passes _ (behind_again (codes "PERFORM") perform (body ++ words) three) λ start four.
+    passes _ (after_again (codes "PERFORM") perform (body ++ words) three) λ start four.
     gets _ (body_again (scope_of vars w.phase (map param_of w.params) w.result (type_kind w.type)) maxint w.guards w.otherwise c.guards start words is.guards four last) λ rest five_left.
     ended_as (clauses ++ clause_of c.method w.phase (map param_of w.params) (type_kind w.type) c.guards ∷ []) (clauses ++ c ∷ []) rest (ap (λ (x : TreeClause). clauses ++ x ∷ []) (sym is.is)) five_left))
 
-clause_begins : (w : WrittenClause) (words : List Lexeme) (tokens : List Token) → lexemes tokens ≡ clause_spelled w ++ words → begins_clause tokens ≡ true
+clause_begins : (w : WrittenClause) (words : List Lexeme) (tokens : List Token) → lexemes tokens ≡ clause_encoded w ++ words → begins_clause tokens ≡ true
 clause_begins w words tokens e = ap is_some (phase_again w.phase tokens _ e)
 
-phase_ends_body : (phase : Phase) (words : List Lexeme) → EndsBody (phase_spelled phase ∷ words)
+phase_ends_body : (phase : Phase) (words : List Lexeme) → EndsBody (phase_encoded phase ∷ words)
 phase_ends_body Before words = record { no_guard = refl; no_else = refl }
 phase_ends_body After words = record { no_guard = refl; no_else = refl }
 phase_ends_body Exceptional words = record { no_guard = refl; no_else = refl }
 
-clause_parts : (methods : List ListedMethod) (vars : List Var) (maxint : ℤ) → Parts begins_clause (clause_at methods vars maxint) clause_spelled EndsBody (Grows (IsNextClause methods vars maxint))
+clause_parts : (methods : List ListedMethod) (vars : List Var) (maxint : ℤ) → Parts begins_clause (clause_at methods vars maxint) clause_encoded EndsBody (Grows (IsNextClause methods vars maxint))
 clause_parts methods vars maxint = record {
   begins = clause_begins;
   leads = λ w words. phase_ends_body w.phase _;
@@ -316,7 +316,7 @@ clause_steps methods vars maxint before (w ∷ written) (c ∷ clauses) are once
 
 -- ---- variables
 
-first_again : (maxint : ℤ) (is_bool : Bool) (n : ℕ) (tokens : List Token) (words : List Lexeme) → IsFirst maxint is_bool n → lexemes tokens ≡ first_spelled is_bool n ∷ words
+first_again : (maxint : ℤ) (is_bool : Bool) (n : ℕ) (tokens : List Token) (words : List Lexeme) → IsFirst maxint is_bool n → lexemes tokens ≡ first_encoded is_bool n ∷ words
     → Got (first_at maxint is_bool tokens) (pos n) words
 unfolding truth_at count_at
 first_again maxint false n tokens words fits e =
@@ -334,9 +334,9 @@ bool_word : (is_bool : Bool) (tokens : List Token) (words : List Lexeme) → lex
 bool_word true tokens words e = next_at (codes "bool") tokens _ e
 bool_word false tokens words e = next_at (codes "bool") tokens _ e
 
-variable_begins : (w : WrittenVar) (words : List Lexeme) (tokens : List Token) → lexemes tokens ≡ variable_spelled w ++ words → begins_variable tokens ≡ true
+variable_begins : (w : WrittenVar) (words : List Lexeme) (tokens : List Token) → lexemes tokens ≡ variable_encoded w ++ words → begins_variable tokens ≡ true
 variable_begins w words tokens e = by w.is_bool e where
-  by : (b : Bool) → lexemes tokens ≡ variable_word b ∷ (Name w.name ∷ Quoted (codes "=") ∷ first_spelled w.is_bool w.first ∷ Quoted (codes ";") ∷ words) → begins_variable tokens ≡ true
+  by : (b : Bool) → lexemes tokens ≡ variable_word b ∷ (Name w.name ∷ Quoted (codes "=") ∷ first_encoded w.is_bool w.first ∷ Quoted (codes ";") ∷ words) → begins_variable tokens ≡ true
   by true e =
       let a = next_at (codes "int") tokens _ e in
       let b = next_at (codes "bool") tokens _ e in
@@ -350,23 +350,23 @@ pub record IsNextVar (maxint : ℤ) (before : List Var) (written : WrittenVar) (
   pub room : length before < 16
   pub new : is_variable before written.name ≡ false
 
-variable_again : (maxint : ℤ) (vars : List Var) (w : WrittenVar) (v : Var) (tokens : List Token) (words : List Lexeme) → IsNextVar maxint vars w v → lexemes tokens ≡ variable_spelled w ++ words
+variable_again : (maxint : ℤ) (vars : List Var) (w : WrittenVar) (v : Var) (tokens : List Token) (words : List Lexeme) → IsNextVar maxint vars w v → lexemes tokens ≡ variable_encoded w ++ words
     → Got (variable_at maxint vars tokens) (vars ++ v ∷ []) words
 unfolding variable_at
 variable_again maxint vars w v tokens words next e =
-    let first = first_spelled w.is_bool w.first in
+    let first = first_encoded w.is_bool w.first in
     let kind : is_next (codes "bool") tokens ≡ w.is_bool = bool_word w.is_bool tokens _ e in
     holds (nat_lt (length vars) 16) (Limit (front_at tokens)) _ (lt-ltb _ _ next.room) (
     gets _ (name_again w.name (drop 1 tokens) (Quoted (codes "=") ∷ first ∷ Quoted (codes ";") ∷ words) (drop_one tokens (variable_word w.is_bool) _ e)) λ equals one.
     holds (not (is_variable vars w.name)) (Twice (front_at (drop 1 tokens))) _ (ap not next.new) (
     holds (is_short w.name) (Limit (front_at (drop 1 tokens))) _ next.is.short (
-    passes _ (behind_again (codes "=") equals (first ∷ Quoted (codes ";") ∷ words) one) λ start two.
+    passes _ (after_again (codes "=") equals (first ∷ Quoted (codes ";") ∷ words) one) λ start two.
     gets _ (subst (λ (b : Bool). Got (first_at maxint b start) (pos w.first) (Quoted (codes ";") ∷ words)) (sym kind) (first_again maxint w.is_bool w.first start (Quoted (codes ";") ∷ words) next.is.ranged two)) λ end three.
-    passes _ (behind_again (codes ";") end words three) λ rest four.
+    passes _ (after_again (codes ";") end words three) λ rest four.
     ended_as (vars ++ (record { name = w.name; is_bool = is_next (codes "bool") tokens; first = pos w.first }) ∷ []) (vars ++ v ∷ []) rest
     (ap (λ (b : Bool). vars ++ (record { name = w.name; is_bool = b; first = pos w.first }) ∷ []) kind ∙ ap (λ (x : Var). vars ++ x ∷ []) (sym next.is.is)) four)))
 
-variable_parts : (maxint : ℤ) → Parts begins_variable (variable_at maxint) variable_spelled Always (Grows (IsNextVar maxint))
+variable_parts : (maxint : ℤ) → Parts begins_variable (variable_at maxint) variable_encoded Always (Grows (IsNextVar maxint))
 variable_parts maxint = record {
   begins = variable_begins;
   leads = λ w words. tt;
@@ -398,24 +398,24 @@ variable_steps maxint before (w ∷ written) (v ∷ vars) are once few =
 
 -- ---- the whole
 
-header_again : (n : ℕ) (tokens : List Token) (words : List Lexeme) → 1 ≤ n → n ≤ 1000000000 → lexemes tokens ≡ header_spelled n ++ words → Got (header_at tokens) (pos n) words
+header_again : (n : ℕ) (tokens : List Token) (words : List Lexeme) → 1 ≤ n → n ≤ 1000000000 → lexemes tokens ≡ header_encoded n ++ words → Got (header_at tokens) (pos n) words
 unfolding header_at
 header_again n tokens words low high e =
     let l : nat_le 1 n ≡ true = le-leb _ _ low in
     let h : nat_le n 1000000000 ≡ true = le-leb _ _ high in
-    passes _ (behind_again (codes "MAXINT") tokens _ e) λ number a.
+    passes _ (after_again (codes "MAXINT") tokens _ e) λ number a.
     gets _ (number_again n number _ a) λ scope b.
     holds (nat_le 1 n && nat_le n 1000000000) (Range (front_at number)) _ (rw (l, h) refl) (
-    passes _ (behind_again (codes "SCOPE") scope _ b) λ session c.
-    passes _ (behind_again (codes "Session") session _ c) λ security d.
-    passes _ (behind_again (codes "SECURITY") security _ d) λ state f.
-    passes _ (behind_again (codes "STATE") state words f) λ rest g.
+    passes _ (after_again (codes "SCOPE") scope _ b) λ session c.
+    passes _ (after_again (codes "Session") session _ c) λ security d.
+    passes _ (after_again (codes "SECURITY") security _ d) λ state f.
+    passes _ (after_again (codes "STATE") state words f) λ rest g.
     ended (pos n) rest g)
 
-no_variable_word : (clauses : List WrittenClause) → (heads (codes "int") (flat_map clause_spelled clauses ++ End ∷ []) || heads (codes "bool") (flat_map clause_spelled clauses ++ End ∷ [])) ≡ false
+no_variable_word : (clauses : List WrittenClause) → (heads (codes "int") (flat_map clause_encoded clauses ++ End ∷ []) || heads (codes "bool") (flat_map clause_encoded clauses ++ End ∷ [])) ≡ false
 no_variable_word [] = refl
 no_variable_word (c ∷ clauses) = by c.phase where
-  by : (phase : Phase) → (heads (codes "int") (phase_spelled phase ∷ []) || heads (codes "bool") (phase_spelled phase ∷ [])) ≡ false
+  by : (phase : Phase) → (heads (codes "int") (phase_encoded phase ∷ []) || heads (codes "bool") (phase_encoded phase ∷ [])) ≡ false
   by Before = refl
   by After = refl
   by Exceptional = refl
@@ -437,7 +437,7 @@ ends_here : (tokens : List Token) (words : List Lexeme) → lexemes tokens ≡ E
 ends_here [] words e = absurd cc
 ends_here (t ∷ tokens) words e = let is : t.lexeme ≡ End = cc in rw is refl
 
-whole_again : (listing : Listing) (written : Written) (tree : PolicyTree) (tokens : List Token) → lexemes tokens ≡ policy_spelled written → IsPolicy listing written tree
+whole_again : (listing : Listing) (written : Written) (tree : PolicyTree) (tokens : List Token) → lexemes tokens ≡ policy_encoded written → IsPolicy listing written tree
     → policy_at listing.methods tokens ≡ Ok tree
 unfolding policy_at
 whole_again listing written tree tokens e is =
@@ -445,14 +445,14 @@ whole_again listing written tree tokens e is =
     let few_vars = is.few_vars in
     let few_clauses = is.few_clauses in
     let same : tree.maxint ≡ m = is.maxint in
-    let clause_words : List Lexeme = flat_map clause_spelled written.clauses ++ End ∷ [] in
-    let head = header_again written.maxint tokens (flat_map variable_spelled written.vars ++ clause_words) is.low is.high e in
+    let clause_words : List Lexeme = flat_map clause_encoded written.clauses ++ End ∷ [] in
+    let head = header_again written.maxint tokens (flat_map variable_encoded written.vars ++ clause_words) is.low is.high e in
     let vars_are : EachIs (IsVar m) written.vars tree.vars = subst (λ (z : ℤ). EachIs (IsVar z) written.vars tree.vars) same is.vars in
     let clauses_are : EachIs (IsClause listing.methods tree.vars m) written.clauses tree.clauses = subst (λ (z : ℤ). EachIs (IsClause listing.methods tree.vars z) written.clauses tree.clauses) same is.clauses in
-    let vars = each_again begins_variable (variable_at m) variable_spelled Always (Grows (IsNextVar m)) (variable_parts m) written.vars [] tree.vars head.rest clause_words
+    let vars = each_again begins_variable (variable_at m) variable_encoded Always (Grows (IsNextVar m)) (variable_parts m) written.vars [] tree.vars head.rest clause_words
     (grows (IsNextVar m) [] written.vars tree.vars (variable_steps m [] written.vars tree.vars vars_are is.var_names (omega arith))) head.left tt
     (variables_stop clause_words (no_variable_word written.clauses)) in
-    let clauses = each_again begins_clause (clause_at listing.methods tree.vars m) clause_spelled EndsBody (Grows (IsNextClause listing.methods tree.vars m)) (clause_parts listing.methods tree.vars m)
+    let clauses = each_again begins_clause (clause_at listing.methods tree.vars m) clause_encoded EndsBody (Grows (IsNextClause listing.methods tree.vars m)) (clause_parts listing.methods tree.vars m)
     written.clauses [] tree.clauses vars.rest (End ∷ [])
     (grows (IsNextClause listing.methods tree.vars m) [] written.clauses tree.clauses (clause_steps listing.methods tree.vars m [] written.clauses tree.clauses clauses_are is.once (omega arith)))
     vars.left (record { no_guard = refl; no_else = refl }) clauses_stop in
@@ -462,9 +462,9 @@ whole_again listing written tree tokens e is =
     let end_is = ends_here clauses.rest [] clauses.left in
     rw (head_is, vars_is, clauses_is, end_is) (ap (λ (z : ℤ). Ok (record { maxint = z; vars = tree.vars; clauses = tree.clauses })) (sym same))
 
--- Every policy that a text spells is read.
-pub policy_again : (text : List ℕ) (listing : Listing) (tree : PolicyTree) → SpellsPolicy text listing tree → reading text listing ≡ Ok tree
-policy_again text listing tree spelled = whole_again listing spelled.written tree (tokens_of text) spelled.tokens spelled.says
+-- Every policy that a text encodes is read.
+pub policy_again : (text : List ℕ) (listing : Listing) (tree : PolicyTree) → EncodesPolicy text listing tree → reading text listing ≡ Ok tree
+policy_again text listing tree encoded = whole_again listing encoded.written tree (tokens_of text) encoded.tokens encoded.says
 
 -- A call that answers as the reading does gives what is read, unless memory runs out.
 pub answers : {X : Type 0} (result read : Judged X) (x : X) → Answers faults.Memory result read → read ≡ Ok x → MatchResult result (λ r. r ≡ x) (λ e. e ≡ faults.Memory)

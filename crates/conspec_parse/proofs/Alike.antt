@@ -12,7 +12,7 @@ use Rattle.conspec_tokens.specs.declared.token.Token.{Token}
 use Rattle.conspec_parse.specs.declared.fault.PolicyFault.{PolicyFault}
 use Rattle.conspec_parse.specs.declared.fault.PolicyFault.TheVariants as faults
 use Rattle.conspec_parse.specs.Fault.{Judged}
-use Rattle.conspec_parse.specs.Forms.{Parsed, behind, name_at, number_at, taken, repeated, each}
+use Rattle.conspec_parse.specs.Forms.{Parsed, following, name_at, number_at, taken, repeated, each}
 use Rattle.conspec_tokens.specs.Front.{front_at, quotes, is_next, names, next_name, counts, next_number}
 use Rattle.conspec_parse.specs.Deciding.{is_open}
 
@@ -46,7 +46,7 @@ pub record Pair : Type 0 where
   pub agree : (c : ℕ) → c < agreed → Shares (drop c one) (drop c other)
   pub ends : (c : ℕ) → goes_on (drop c one) ≡ true → c + 1 < length one
 
--- what is left of both behind so many tokens
+-- what is left of both after so many tokens
 pub record Here (p : Pair) (c : ℕ) (t u : List Token) : Type 0 where
   pub one : t ≡ drop c p.one
   pub other : u ≡ drop c p.other
@@ -56,9 +56,9 @@ pub record Here (p : Pair) (c : ℕ) (t u : List Token) : Type 0 where
 abbrev pub NoClose : Pair → ℕ → ℕ → Type 0
 NoClose p from to = (j : ℕ) → from ≤ j → j < to → is_next (codes ")") (drop j p.one) ≡ false
 
-abbrev pub Quiet : Bool → Pair → ℕ → ℕ → Type 0
-Quiet true p from to = NoClose p from to
-Quiet false p from to = Unit {0}
+abbrev pub Unclosed : Bool → Pair → ℕ → ℕ → Type 0
+Unclosed true p from to = NoClose p from to
+Unclosed false p from to = Unit {0}
 
 -- ---- faults
 
@@ -73,7 +73,7 @@ place (faults.Limit at) = at
 place (faults.Builtin at) = at
 place faults.Memory = 0
 
--- how many tokens behind its own a fault may hang on
+-- how many tokens after its own a fault may hang on
 abbrev pub ahead : PolicyFault → ℕ
 ahead (faults.Syntax at) = 0
 ahead (faults.Name at) = 0
@@ -108,37 +108,37 @@ Stands false p f n = IsNear p f n ⊎ IsInMethod p f n
 
 -- ---- readings
 
--- Both readings, behind c tokens, go on behind more; the other does if the tokens are agreed that far.
-pub record GoesOn {X : Type 0} (p : Pair) (quiet : Bool) (c least : ℕ) (a b : Parsed X) : Type 0 where
+-- Both readings, after c tokens, go on after more; the other does if the tokens are agreed that far.
+pub record GoesOn {X : Type 0} (p : Pair) (unclosed : Bool) (c least : ℕ) (a b : Parsed X) : Type 0 where
   pub value : X
-  pub behind : ℕ
+  pub following : ℕ
   pub left : List Token
   pub rest : List Token
-  pub here : Here p behind left rest
-  pub further : c ≤ behind
-  pub enough : least ≤ behind
-  pub no_close : Quiet quiet p c behind
+  pub here : Here p following left rest
+  pub further : c ≤ following
+  pub enough : least ≤ following
+  pub no_close : Unclosed unclosed p c following
   pub is : a ≡ Ok (value, left)
-  pub same : behind < p.agreed → b ≡ Ok (value, rest)
+  pub same : following < p.agreed → b ≡ Ok (value, rest)
 
 -- Both have the same fault; the other has it if the tokens that decide it are agreed.
-pub record Stops {X : Type 0} (p : Pair) (quiet : Bool) (c : ℕ) (a b : Judged X) : Type 0 where
+pub record Stops {X : Type 0} (p : Pair) (unclosed : Bool) (c : ℕ) (a b : Judged X) : Type 0 where
   pub fault : PolicyFault
   pub decided : ℕ
   pub further : c < decided
-  pub no_close : Quiet quiet p c (decided - 1)
-  pub stands : Stands quiet p fault decided
+  pub no_close : Unclosed unclosed p c (decided - 1)
+  pub stands : Stands unclosed p fault decided
   pub is : a ≡ Err fault
   pub same : decided ≤ p.agreed → b ≡ Err fault
 
 abbrev pub Alike : {X : Type 0} → Pair → Bool → ℕ → ℕ → Parsed X → Parsed X → Type 0
-Alike p quiet c least a b = GoesOn p quiet c least a b ⊎ Stops p quiet c a b
+Alike p unclosed c least a b = GoesOn p unclosed c least a b ⊎ Stops p unclosed c a b
 
-near : (quiet : Bool) (p : Pair) (f : PolicyFault) (n : ℕ) → IsNear p f n → Stands quiet p f n
+near : (unclosed : Bool) (p : Pair) (f : PolicyFault) (n : ℕ) → IsNear p f n → Stands unclosed p f n
 near true p f n is = is
 near false p f n is = inl is
 
-anywhere : (quiet : Bool) (p : Pair) (f : PolicyFault) (n : ℕ) → Stands quiet p f n → Stands false p f n
+anywhere : (unclosed : Bool) (p : Pair) (f : PolicyFault) (n : ℕ) → Stands unclosed p f n → Stands false p f n
 anywhere true p f n stands = inl stands
 anywhere false p f n stands = stands
 
@@ -150,13 +150,13 @@ within c k = by (nat_lt c k) refl where
   by true e = inl (ltb-true _ _ e)
   by false e = inr (grind (arith, nat_tests))
 
-pub none : (quiet : Bool) (p : Pair) (from to : ℕ) → to ≤ from → Quiet quiet p from to
+pub none : (unclosed : Bool) (p : Pair) (from to : ℕ) → to ≤ from → Unclosed unclosed p from to
 none true p from to le = λ j low high. absurd (omega arith)
 none false p from to le = tt
 
-pub both_quiet : (quiet : Bool) (p : Pair) (from mid to : ℕ) → Quiet quiet p from mid → Quiet quiet p mid to → Quiet quiet p from to
-both_quiet true p from mid to a b = λ j low high. ⊎_elim (λ lt. a j low lt) (λ le. b j le high) (within j mid)
-both_quiet false p from mid to a b = tt
+pub both_unclosed : (unclosed : Bool) (p : Pair) (from mid to : ℕ) → Unclosed unclosed p from mid → Unclosed unclosed p mid to → Unclosed unclosed p from to
+both_unclosed true p from mid to a b = λ j low high. ⊎_elim (λ lt. a j low lt) (λ le. b j le high) (within j mid)
+both_unclosed false p from mid to a b = tt
 
 -- ---- tokens
 
@@ -203,12 +203,12 @@ next_goes_on text (x ∷ t) e = quotes_word text x.lexeme e
 -- ---- the forms
 
 -- Nothing is said of the other where too few tokens are agreed.
-pub unsaid : {X : Type 0} {p : Pair} {quiet : Bool} {c least : ℕ} {a b : Parsed X} (other : Parsed X) → p.agreed ≤ c → Alike p quiet c least a b → Alike p quiet c least a other
+pub unsaid : {X : Type 0} {p : Pair} {unclosed : Bool} {c least : ℕ} {a b : Parsed X} (other : Parsed X) → p.agreed ≤ c → Alike p unclosed c least a b → Alike p unclosed c least a other
 unsaid other low (inl on) =
     let further = on.further in
     inl (record {
       value = on.value;
-      behind = on.behind;
+      following = on.following;
       left = on.left;
       rest = on.rest;
       here = on.here;
@@ -231,61 +231,61 @@ unsaid other low (inr stop) =
     })
 
 -- Less is said of it.
-pub loosened : {X : Type 0} {p : Pair} {quiet : Bool} {c least : ℕ} {a b : Parsed X} → Alike p quiet c least a b → Alike p quiet c c a b
-loosened (inl on) = inl (record { value = on.value; behind = on.behind; left = on.left; rest = on.rest; here = on.here; further = on.further; enough = on.further; no_close = on.no_close; is = on.is; same = on.same })
+pub loosened : {X : Type 0} {p : Pair} {unclosed : Bool} {c least : ℕ} {a b : Parsed X} → Alike p unclosed c least a b → Alike p unclosed c c a b
+loosened (inl on) = inl (record { value = on.value; following = on.following; left = on.left; rest = on.rest; here = on.here; further = on.further; enough = on.further; no_close = on.no_close; is = on.is; same = on.same })
 loosened (inr stop) = inr stop
 
-pub lessened : {X : Type 0} {p : Pair} {quiet : Bool} {c least more : ℕ} {a b : Parsed X} → least ≤ more → Alike p quiet c more a b → Alike p quiet c least a b
+pub lessened : {X : Type 0} {p : Pair} {unclosed : Bool} {c least more : ℕ} {a b : Parsed X} → least ≤ more → Alike p unclosed c more a b → Alike p unclosed c least a b
 lessened le (inl on) =
     let enough = on.enough in
-    inl (record { value = on.value; behind = on.behind; left = on.left; rest = on.rest; here = on.here; further = on.further; enough = omega arith; no_close = on.no_close; is = on.is; same = on.same })
+    inl (record { value = on.value; following = on.following; left = on.left; rest = on.rest; here = on.here; further = on.further; enough = omega arith; no_close = on.no_close; is = on.is; same = on.same })
 lessened le (inr stop) = inr stop
 
-pub noisy : {X : Type 0} {p : Pair} {quiet : Bool} {c least : ℕ} {a b : Parsed X} → Alike p quiet c least a b → Alike p false c least a b
-noisy (inl on) = inl (record { value = on.value; behind = on.behind; left = on.left; rest = on.rest; here = on.here; further = on.further; enough = on.enough; no_close = tt; is = on.is; same = on.same })
-noisy {p = p} {quiet = quiet} (inr stop) = inr (record {
+pub noisy : {X : Type 0} {p : Pair} {unclosed : Bool} {c least : ℕ} {a b : Parsed X} → Alike p unclosed c least a b → Alike p false c least a b
+noisy (inl on) = inl (record { value = on.value; following = on.following; left = on.left; rest = on.rest; here = on.here; further = on.further; enough = on.enough; no_close = tt; is = on.is; same = on.same })
+noisy {p = p} {unclosed = unclosed} (inr stop) = inr (record {
   fault = stop.fault;
   decided = stop.decided;
   further = stop.further;
   no_close = tt;
-  stands = anywhere quiet p stop.fault stop.decided stop.stands;
+  stands = anywhere unclosed p stop.fault stop.decided stop.stands;
   is = stop.is;
   same = stop.same;
 })
 
 -- from fewer tokens on
-pub onward : {X : Type 0} {p : Pair} {quiet : Bool} {c d least : ℕ} {a b : Parsed X} → c ≤ d → Quiet quiet p c d → Alike p quiet d least a b → Alike p quiet c least a b
-onward {p = p} {quiet = quiet} {c = c} {d = d} le no_close (inl on) =
+pub onward : {X : Type 0} {p : Pair} {unclosed : Bool} {c d least : ℕ} {a b : Parsed X} → c ≤ d → Unclosed unclosed p c d → Alike p unclosed d least a b → Alike p unclosed c least a b
+onward {p = p} {unclosed = unclosed} {c = c} {d = d} le no_close (inl on) =
     let further = on.further in
     inl (record {
       value = on.value;
-      behind = on.behind;
+      following = on.following;
       left = on.left;
       rest = on.rest;
       here = on.here;
       further = omega arith;
       enough = on.enough;
-      no_close = both_quiet quiet p c d on.behind no_close on.no_close;
+      no_close = both_unclosed unclosed p c d on.following no_close on.no_close;
       is = on.is;
       same = on.same;
     })
-onward {p = p} {quiet = quiet} {c = c} {d = d} le no_close (inr stop) =
+onward {p = p} {unclosed = unclosed} {c = c} {d = d} le no_close (inr stop) =
     let further = stop.further in
     inr (record {
       fault = stop.fault;
       decided = stop.decided;
       further = omega arith;
-      no_close = both_quiet quiet p c d (stop.decided - 1) no_close stop.no_close;
+      no_close = both_unclosed unclosed p c d (stop.decided - 1) no_close stop.no_close;
       stands = stop.stands;
       is = stop.is;
       same = stop.same;
     })
 
-pub reached : {X : Type 0} {p : Pair} {quiet : Bool} {c d least : ℕ} {t u : List Token} (x : X) → Here p d t u → c ≤ d → least ≤ d → Quiet quiet p c d
-    → Alike p quiet c least (Ok (x, t)) (Ok (x, u))
+pub reached : {X : Type 0} {p : Pair} {unclosed : Bool} {c d least : ℕ} {t u : List Token} (x : X) → Here p d t u → c ≤ d → least ≤ d → Unclosed unclosed p c d
+    → Alike p unclosed c least (Ok (x, t)) (Ok (x, u))
 reached {d = d} {t = t} {u = u} x here further enough no_close = inl (record {
   value = x;
-  behind = d;
+  following = d;
   left = t;
   rest = u;
   here = here;
@@ -296,33 +296,33 @@ reached {d = d} {t = t} {u = u} x here further enough no_close = inl (record {
   same = λ lt. refl;
 })
 
-pub ended : {X : Type 0} {p : Pair} {quiet : Bool} {c : ℕ} {t u : List Token} (x : X) → Here p c t u → Alike p quiet c c (Ok (x, t)) (Ok (x, u))
-ended {p = p} {quiet = quiet} {c = c} x here = reached x here (omega arith) (omega arith) (none quiet p c c (omega arith))
+pub ended : {X : Type 0} {p : Pair} {unclosed : Bool} {c : ℕ} {t u : List Token} (x : X) → Here p c t u → Alike p unclosed c c (Ok (x, t)) (Ok (x, u))
+ended {p = p} {unclosed = unclosed} {c = c} x here = reached x here (omega arith) (omega arith) (none unclosed p c c (omega arith))
 
 bind_joined : {A B C : Type 0} (a : Judged A) (f : A → Judged B) (g : B → Judged C) → (a >>= f) >>= g ≡ a >>= (λ x. f x >>= g)
 bind_joined (Ok x) f g = refl
 bind_joined (Err e) f g = refl
 
 -- parts of a part
-pub joined : {A B Y : Type 0} {p : Pair} {quiet : Bool} {c least : ℕ} (a b : Judged A) (f g : A → Judged B) (h k : B → Parsed Y)
-    → Alike p quiet c least (a >>= (λ x. f x >>= h)) (b >>= (λ x. g x >>= k)) → Alike p quiet c least ((a >>= f) >>= h) ((b >>= g) >>= k)
+pub joined : {A B Y : Type 0} {p : Pair} {unclosed : Bool} {c least : ℕ} (a b : Judged A) (f g : A → Judged B) (h k : B → Parsed Y)
+    → Alike p unclosed c least (a >>= (λ x. f x >>= h)) (b >>= (λ x. g x >>= k)) → Alike p unclosed c least ((a >>= f) >>= h) ((b >>= g) >>= k)
 joined a b f g h k alike = rw (bind_joined a f h, bind_joined b g k) alike
 
 -- a fault of one kind, told with its place
-pub record Teller (fault : ℕ → PolicyFault) (behind : ℕ) : Type 0 where
+pub record Teller (fault : ℕ → PolicyFault) (following : ℕ) : Type 0 where
   pub place_is : (at : ℕ) → place (fault at) ≡ at
-  pub ahead_is : (at : ℕ) → ahead (fault at) ≡ behind
+  pub ahead_is : (at : ℕ) → ahead (fault at) ≡ following
 
-pub told : {X : Type 0} {p : Pair} {quiet : Bool} {c least i l : ℕ} {t u : List Token} (fault : ℕ → PolicyFault) → Teller fault l → Here p i t u → c ≤ i + l
-    → Quiet quiet p c (i + l) → Alike {X = X} p quiet c least (Err (fault (front_at t))) (Err (fault (front_at u)))
-told {p = p} {quiet = quiet} {c = c} {i = i} {l = l} {t = t} {u = u} fault teller here low no_close =
+pub told : {X : Type 0} {p : Pair} {unclosed : Bool} {c least i l : ℕ} {t u : List Token} (fault : ℕ → PolicyFault) → Teller fault l → Here p i t u → c ≤ i + l
+    → Unclosed unclosed p c (i + l) → Alike {X = X} p unclosed c least (Err (fault (front_at t))) (Err (fault (front_at u)))
+told {p = p} {unclosed = unclosed} {c = c} {i = i} {l = l} {t = t} {u = u} fault teller here low no_close =
     let count : i + 1 + l - 1 ≡ i + l = omega arith in
     inr (record {
       fault = fault (front_at t);
       decided = i + 1 + l;
       further = omega arith;
-      no_close = subst (λ (n : ℕ). Quiet quiet p c n) (sym count) no_close;
-      stands = near quiet p (fault (front_at t)) (i + 1 + l) (record {
+      no_close = subst (λ (n : ℕ). Unclosed unclosed p c n) (sym count) no_close;
+      stands = near unclosed p (fault (front_at t)) (i + 1 + l) (record {
         index = i;
         inside = here.inside;
         at = teller.place_is (front_at t) ∙ ap front_at here.one;
@@ -332,7 +332,7 @@ told {p = p} {quiet = quiet} {c = c} {i = i} {l = l} {t = t} {u = u} fault telle
       same = λ le. ap (λ (at : ℕ). Err (fault at)) (sym (front_same here (omega arith)));
     })
 
-stopped : {X Y : Type 0} {p : Pair} {quiet : Bool} {c : ℕ} {a b : Judged X} (f g : X → Judged Y) → Stops p quiet c a b → Stops p quiet c (a >>= f) (b >>= g)
+stopped : {X Y : Type 0} {p : Pair} {unclosed : Bool} {c : ℕ} {a b : Judged X} (f g : X → Judged Y) → Stops p unclosed c a b → Stops p unclosed c (a >>= f) (b >>= g)
 stopped f g stop = record {
   fault = stop.fault;
   decided = stop.decided;
@@ -343,25 +343,25 @@ stopped f g stop = record {
   same = λ le. rw (stop.same le) refl;
 }
 
-gone_on : {X Y : Type 0} {p : Pair} {quiet : Bool} {c least : ℕ} {a b : Parsed X} (f g : X × List Token → Parsed Y) (on : GoesOn p quiet c least a b)
-    → Alike p quiet on.behind on.behind (f (on.value, on.left)) (g (on.value, on.rest)) → Alike p quiet c least (a >>= f) (b >>= g)
-gone_on {p = p} {quiet = quiet} {c = c} {b = b} f g on (inl more) =
+gone_on : {X Y : Type 0} {p : Pair} {unclosed : Bool} {c least : ℕ} {a b : Parsed X} (f g : X × List Token → Parsed Y) (on : GoesOn p unclosed c least a b)
+    → Alike p unclosed on.following on.following (f (on.value, on.left)) (g (on.value, on.rest)) → Alike p unclosed c least (a >>= f) (b >>= g)
+gone_on {p = p} {unclosed = unclosed} {c = c} {b = b} f g on (inl more) =
     let first = on.further in
     let enough = on.enough in
     let second = more.further in
     inl (record {
       value = more.value;
-      behind = more.behind;
+      following = more.following;
       left = more.left;
       rest = more.rest;
       here = more.here;
       further = omega arith;
       enough = omega arith;
-      no_close = both_quiet quiet p c on.behind more.behind on.no_close more.no_close;
+      no_close = both_unclosed unclosed p c on.following more.following on.no_close more.no_close;
       is = rw on.is more.is;
       same = λ lt. rw (on.same (omega arith)) (more.same lt);
     })
-gone_on {p = p} {quiet = quiet} {c = c} {b = b} f g on (inr stop) =
+gone_on {p = p} {unclosed = unclosed} {c = c} {b = b} f g on (inr stop) =
     let first = on.further in
     let second = stop.further in
     let reached : stop.decided ≤ p.agreed → b ≡ Ok (on.value, on.rest) = λ le. on.same (omega arith) in
@@ -369,18 +369,18 @@ gone_on {p = p} {quiet = quiet} {c = c} {b = b} f g on (inr stop) =
       fault = stop.fault;
       decided = stop.decided;
       further = omega arith;
-      no_close = both_quiet quiet p c on.behind (stop.decided - 1) on.no_close stop.no_close;
+      no_close = both_unclosed unclosed p c on.following (stop.decided - 1) on.no_close stop.no_close;
       stands = stop.stands;
       is = rw on.is stop.is;
       same = λ le. rw (reached le) (stop.same le);
     })
 
 -- a part of some tokens, and then the others
-pub then_some : {X Y : Type 0} {p : Pair} {quiet : Bool} {c least : ℕ} {a b : Parsed X} (f g : X × List Token → Parsed Y) → Alike p quiet c least a b
-    → ((x : X) (d : ℕ) (t u : List Token) → least ≤ d → Here p d t u → Alike p quiet d d (f (x, t)) (g (x, u)))
-    → Alike p quiet c least (a >>= f) (b >>= g)
+pub then_some : {X Y : Type 0} {p : Pair} {unclosed : Bool} {c least : ℕ} {a b : Parsed X} (f g : X × List Token → Parsed Y) → Alike p unclosed c least a b
+    → ((x : X) (d : ℕ) (t u : List Token) → least ≤ d → Here p d t u → Alike p unclosed d d (f (x, t)) (g (x, u)))
+    → Alike p unclosed c least (a >>= f) (b >>= g)
 then_some f g (inr stop) rest = inr (stopped f g stop)
-then_some f g (inl on) rest = gone_on f g on (rest on.value on.behind on.left on.rest on.enough on.here)
+then_some f g (inl on) rest = gone_on f g on (rest on.value on.following on.left on.rest on.enough on.here)
 
 -- a part in which no `)` stands, and then others in which one may
 pub then_open : {X Y : Type 0} {p : Pair} {c least : ℕ} {a b : Parsed X} (f g : X × List Token → Parsed Y) → Alike p true c least a b
@@ -388,51 +388,51 @@ pub then_open : {X Y : Type 0} {p : Pair} {c least : ℕ} {a b : Parsed X} (f g 
     → Alike p false c least (a >>= f) (b >>= g)
 then_open f g (inr stop) rest = noisy (inr (stopped f g stop))
 then_open f g (inl on) rest =
-    gone_on f g (record { value = on.value; behind = on.behind; left = on.left; rest = on.rest; here = on.here; further = on.further; enough = on.enough; no_close = tt; is = on.is; same = on.same })
-    (rest on.value on.behind on.left on.rest on.further on.enough on.no_close on.here)
+    gone_on f g (record { value = on.value; following = on.following; left = on.left; rest = on.rest; here = on.here; further = on.further; enough = on.enough; no_close = tt; is = on.is; same = on.same })
+    (rest on.value on.following on.left on.rest on.further on.enough on.no_close on.here)
 
 -- a part, and then the others
-pub then : {X Y : Type 0} {p : Pair} {quiet : Bool} {c least : ℕ} {a b : Parsed X} (f g : X × List Token → Parsed Y) → Alike p quiet c least a b
-    → ((x : X) (d : ℕ) (t u : List Token) → least ≤ d → Here p d t u → Alike p quiet d d (f (x, t)) (g (x, u)))
-    → Alike p quiet c c (a >>= f) (b >>= g)
+pub then : {X Y : Type 0} {p : Pair} {unclosed : Bool} {c least : ℕ} {a b : Parsed X} (f g : X × List Token → Parsed Y) → Alike p unclosed c least a b
+    → ((x : X) (d : ℕ) (t u : List Token) → least ≤ d → Here p d t u → Alike p unclosed d d (f (x, t)) (g (x, u)))
+    → Alike p unclosed c c (a >>= f) (b >>= g)
 then f g part rest = loosened (then_some f g part rest)
 
 -- a test that both pass or fail, and then the others
-pub tested : {Y : Type 0} {p : Pair} {quiet : Bool} {c least : ℕ} (test : Bool) (a b : PolicyFault) (f g : Unit {0} → Parsed Y)
-    → Alike {X = Y} p quiet c least (Err a) (Err b) → (test ≡ true → Alike p quiet c least (f tt) (g tt))
-    → Alike p quiet c least (need test a >>= f) (need test b >>= g)
+pub tested : {Y : Type 0} {p : Pair} {unclosed : Bool} {c least : ℕ} (test : Bool) (a b : PolicyFault) (f g : Unit {0} → Parsed Y)
+    → Alike {X = Y} p unclosed c least (Err a) (Err b) → (test ≡ true → Alike p unclosed c least (f tt) (g tt))
+    → Alike p unclosed c least (need test a >>= f) (need test b >>= g)
 tested true a b f g fails rest = rest refl
 tested false a b f g fails rest = fails
 
 -- what is found by both, and then the others
-pub given : {V Y : Type 0} {p : Pair} {quiet : Bool} {c least : ℕ} (found : Option V) (a b : PolicyFault) (f g : V → Parsed Y)
-    → Alike {X = Y} p quiet c least (Err a) (Err b) → ((v : V) → found ≡ Some v → Alike p quiet c least (f v) (g v))
-    → Alike p quiet c least (ok_or found a >>= f) (ok_or found b >>= g)
+pub given : {V Y : Type 0} {p : Pair} {unclosed : Bool} {c least : ℕ} (found : Option V) (a b : PolicyFault) (f g : V → Parsed Y)
+    → Alike {X = Y} p unclosed c least (Err a) (Err b) → ((v : V) → found ≡ Some v → Alike p unclosed c least (f v) (g v))
+    → Alike p unclosed c least (ok_or found a >>= f) (ok_or found b >>= g)
 given (Some v) a b f g fails rest = rest v refl
 given None a b f g fails rest = fails
 
 -- what both do by what they see of the next token
-pub peeked : {V Y : Type 0} {p : Pair} {quiet : Bool} {c least : ℕ} {t u : List Token} (see : List Token → V) (f g : V → Parsed Y) → IsOfFirst see → Here p c t u
-    → ((v : V) → see t ≡ v → Alike p quiet c least (f v) (g v)) → Alike p quiet c least (f (see t)) (g (see u))
-peeked {V = V} {Y = Y} {p = p} {quiet = quiet} {c = c} {least = least} {t = t} {u = u} see f g first here alike = ⊎_elim
-    (λ lt. subst (λ (v : V). Alike p quiet c least (f (see t)) (g v)) (seen_same see first here lt) (alike (see t) refl))
+pub peeked : {V Y : Type 0} {p : Pair} {unclosed : Bool} {c least : ℕ} {t u : List Token} (see : List Token → V) (f g : V → Parsed Y) → IsOfFirst see → Here p c t u
+    → ((v : V) → see t ≡ v → Alike p unclosed c least (f v) (g v)) → Alike p unclosed c least (f (see t)) (g (see u))
+peeked {V = V} {Y = Y} {p = p} {unclosed = unclosed} {c = c} {least = least} {t = t} {u = u} see f g first here alike = ⊎_elim
+    (λ lt. subst (λ (v : V). Alike p unclosed c least (f (see t)) (g v)) (seen_same see first here lt) (alike (see t) refl))
     (λ low. unsaid (g (see u)) low (alike (see t) refl))
     (within c p.agreed)
 
-pub either : {Y : Type 0} {p : Pair} {quiet : Bool} {c least : ℕ} {t u : List Token} (see : List Token → Bool) (a x b y : Parsed Y) → IsOfFirst see → Here p c t u
-    → (see t ≡ true → Alike p quiet c least a b) → (see t ≡ false → Alike p quiet c least x y) → Alike p quiet c least (cond (see t) a x) (cond (see u) b y)
-either {Y = Y} {p = p} {quiet = quiet} {c = c} {least = least} {t = t} see a x b y first here on_true on_false =
+pub either : {Y : Type 0} {p : Pair} {unclosed : Bool} {c least : ℕ} {t u : List Token} (see : List Token → Bool) (a x b y : Parsed Y) → IsOfFirst see → Here p c t u
+    → (see t ≡ true → Alike p unclosed c least a b) → (see t ≡ false → Alike p unclosed c least x y) → Alike p unclosed c least (cond (see t) a x) (cond (see u) b y)
+either {Y = Y} {p = p} {unclosed = unclosed} {c = c} {least = least} {t = t} see a x b y first here on_true on_false =
     peeked see (λ v. cond v a x) (λ v. cond v b y) first here by where
-      by : (v : Bool) → see t ≡ v → Alike p quiet c least (cond v a x) (cond v b y)
+      by : (v : Bool) → see t ≡ v → Alike p unclosed c least (cond v a x) (cond v b y)
       by true e = on_true e
       by false e = on_false e
 
-pub either_then : {X Y : Type 0} {p : Pair} {quiet : Bool} {c least : ℕ} {t u : List Token} (see : List Token → Bool) (a x b y : Parsed X) (f g : X × List Token → Parsed Y)
-    → IsOfFirst see → Here p c t u → (see t ≡ true → Alike p quiet c least (a >>= f) (b >>= g)) → (see t ≡ false → Alike p quiet c least (x >>= f) (y >>= g))
-    → Alike p quiet c least (cond (see t) a x >>= f) (cond (see u) b y >>= g)
-either_then {X = X} {Y = Y} {p = p} {quiet = quiet} {c = c} {least = least} {t = t} see a x b y f g first here on_true on_false =
+pub either_then : {X Y : Type 0} {p : Pair} {unclosed : Bool} {c least : ℕ} {t u : List Token} (see : List Token → Bool) (a x b y : Parsed X) (f g : X × List Token → Parsed Y)
+    → IsOfFirst see → Here p c t u → (see t ≡ true → Alike p unclosed c least (a >>= f) (b >>= g)) → (see t ≡ false → Alike p unclosed c least (x >>= f) (y >>= g))
+    → Alike p unclosed c least (cond (see t) a x >>= f) (cond (see u) b y >>= g)
+either_then {X = X} {Y = Y} {p = p} {unclosed = unclosed} {c = c} {least = least} {t = t} see a x b y f g first here on_true on_false =
     peeked see (λ v. cond v a x >>= f) (λ v. cond v b y >>= g) first here by where
-      by : (v : Bool) → see t ≡ v → Alike p quiet c least (cond v a x >>= f) (cond v b y >>= g)
+      by : (v : Bool) → see t ≡ v → Alike p unclosed c least (cond v a x >>= f) (cond v b y >>= g)
       by true e = on_true e
       by false e = on_false e
 
@@ -461,8 +461,8 @@ abbrev pub IsApart : Bool → List ℕ → Type 0
 IsApart true text = bytes_eq text (codes ")") ≡ false
 IsApart false text = Unit {0}
 
-pub one_quiet : {p : Pair} {c : ℕ} {t u : List Token} → Here p c t u → is_next (codes ")") t ≡ false → NoClose p c (c + 1)
-one_quiet {p = p} {c = c} here e = λ j low high.
+pub one_unclosed : {p : Pair} {c : ℕ} {t u : List Token} → Here p c t u → is_next (codes ")") t ≡ false → NoClose p c (c + 1)
+one_unclosed {p = p} {c = c} here e = λ j low high.
     let same : c ≡ j = omega arith in
     subst (λ (i : ℕ). is_next (codes ")") (drop i p.one) ≡ false) same (subst (λ (x : List Token). is_next (codes ")") x ≡ false) here.one e)
 
@@ -477,32 +477,32 @@ no_close_next : (text : List ℕ) (t : List Token) → bytes_eq text (codes ")")
 no_close_next text [] apart e = refl
 no_close_next text (x ∷ t) apart e = no_close_quoted text x.lexeme apart e
 
-pub apart_quiet : {p : Pair} {c : ℕ} {t u : List Token} (quiet : Bool) (text : List ℕ) → IsApart quiet text → Here p c t u → is_next text t ≡ true → Quiet quiet p c (c + 1)
-apart_quiet {t = t} true text apart here e = one_quiet here (no_close_next text t apart e)
-apart_quiet false text apart here e = tt
+pub apart_unclosed : {p : Pair} {c : ℕ} {t u : List Token} (unclosed : Bool) (text : List ℕ) → IsApart unclosed text → Here p c t u → is_next text t ≡ true → Unclosed unclosed p c (c + 1)
+apart_unclosed {t = t} true text apart here e = one_unclosed here (no_close_next text t apart e)
+apart_unclosed false text apart here e = tt
 
 -- a keyword or a sign, and then the others
-pub after : {Y : Type 0} {p : Pair} {quiet : Bool} {c least : ℕ} {t u : List Token} (text : List ℕ) (f g : List Token → Parsed Y) → IsApart quiet text → Here p c t u
-    → (Here p (c + 1) (drop 1 t) (drop 1 u) → Alike p quiet (c + 1) least (f (drop 1 t)) (g (drop 1 u)))
-    → Alike p quiet c least (behind text t >>= f) (behind text u >>= g)
-after {Y = Y} {p = p} {quiet = quiet} {c = c} {least = least} {t = t} {u = u} text f g apart here rest =
+pub after : {Y : Type 0} {p : Pair} {unclosed : Bool} {c least : ℕ} {t u : List Token} (text : List ℕ) (f g : List Token → Parsed Y) → IsApart unclosed text → Here p c t u
+    → (Here p (c + 1) (drop 1 t) (drop 1 u) → Alike p unclosed (c + 1) least (f (drop 1 t)) (g (drop 1 u)))
+    → Alike p unclosed c least (following text t >>= f) (following text u >>= g)
+after {Y = Y} {p = p} {unclosed = unclosed} {c = c} {least = least} {t = t} {u = u} text f g apart here rest =
     peeked (is_next text) (λ v. cond v (Ok (drop 1 t)) (Err (faults.Syntax (front_at t))) >>= f)
     (λ v. cond v (Ok (drop 1 u)) (Err (faults.Syntax (front_at u))) >>= g) (λ x t u. refl) here by where
       by : (v : Bool) → is_next text t ≡ v
-          → Alike {X = Y} p quiet c least (cond v (Ok (drop 1 t)) (Err (faults.Syntax (front_at t))) >>= f) (cond v (Ok (drop 1 u)) (Err (faults.Syntax (front_at u))) >>= g)
-      by true e = onward (omega arith) (apart_quiet quiet text apart here e) (rest (next here (next_goes_on text t e)))
-      by false e = told faults.Syntax syntax here (omega arith) (none quiet p c (c + 0) (omega arith))
+          → Alike {X = Y} p unclosed c least (cond v (Ok (drop 1 t)) (Err (faults.Syntax (front_at t))) >>= f) (cond v (Ok (drop 1 u)) (Err (faults.Syntax (front_at u))) >>= g)
+      by true e = onward (omega arith) (apart_unclosed unclosed text apart here e) (rest (next here (next_goes_on text t e)))
+      by false e = told faults.Syntax syntax here (omega arith) (none unclosed p c (c + 0) (omega arith))
 
 -- what the next token is, and then the others
-pub taking : {V Y : Type 0} {p : Pair} {quiet : Bool} {c least : ℕ} {t u : List Token} (see : List Token → Option V) (f g : V × List Token → Parsed Y) → IsOfFirst see
+pub taking : {V Y : Type 0} {p : Pair} {unclosed : Bool} {c least : ℕ} {t u : List Token} (see : List Token → Option V) (f g : V × List Token → Parsed Y) → IsOfFirst see
     → ((v : V) → see t ≡ Some v → goes_on t ≡ true) → Here p c t u
-    → ((v : V) → see t ≡ Some v → Here p (c + 1) (drop 1 t) (drop 1 u) → Alike p quiet c least (f (v, drop 1 t)) (g (v, drop 1 u)))
-    → Alike p quiet c least (taken (see t) t >>= f) (taken (see u) u >>= g)
-taking {V = V} {Y = Y} {p = p} {quiet = quiet} {c = c} {least = least} {t = t} {u = u} see f g first goes here rest =
+    → ((v : V) → see t ≡ Some v → Here p (c + 1) (drop 1 t) (drop 1 u) → Alike p unclosed c least (f (v, drop 1 t)) (g (v, drop 1 u)))
+    → Alike p unclosed c least (taken (see t) t >>= f) (taken (see u) u >>= g)
+taking {V = V} {Y = Y} {p = p} {unclosed = unclosed} {c = c} {least = least} {t = t} {u = u} see f g first goes here rest =
     peeked see (λ v. taken v t >>= f) (λ v. taken v u >>= g) first here by where
-      by : (v : Option V) → see t ≡ v → Alike {X = Y} p quiet c least (taken v t >>= f) (taken v u >>= g)
+      by : (v : Option V) → see t ≡ v → Alike {X = Y} p unclosed c least (taken v t >>= f) (taken v u >>= g)
       by (Some v) e = rest v e (next here (goes v e))
-      by None e = told faults.Syntax syntax here (omega arith) (none quiet p c (c + 0) (omega arith))
+      by None e = told faults.Syntax syntax here (omega arith) (none unclosed p c (c + 0) (omega arith))
 
 names_word : (l : Lexeme) (name : List ℕ) → names l ≡ Some name → is_word l ≡ true
 names_word (Quoted word) name e = refl
@@ -526,9 +526,9 @@ name_no_close : (t : List Token) (name : List ℕ) → next_name t ≡ Some name
 name_no_close [] name e = absurd cc
 name_no_close (x ∷ t) name e = names_no_close x.lexeme name e
 
-pub name_quiet : {p : Pair} {c : ℕ} {t u : List Token} (quiet : Bool) (name : List ℕ) → Here p c t u → next_name t ≡ Some name → Quiet quiet p c (c + 1)
-name_quiet {t = t} true name here e = one_quiet here (name_no_close t name e)
-name_quiet false name here e = tt
+pub name_unclosed : {p : Pair} {c : ℕ} {t u : List Token} (unclosed : Bool) (name : List ℕ) → Here p c t u → next_name t ≡ Some name → Unclosed unclosed p c (c + 1)
+name_unclosed {t = t} true name here e = one_unclosed here (name_no_close t name e)
+name_unclosed false name here e = tt
 
 counts_word : (l : Lexeme) (n : ℕ) → counts l ≡ Some n → is_word l ≡ true
 counts_word (Quoted word) n e = refl
@@ -542,17 +542,17 @@ number_goes_on [] n e = absurd cc
 number_goes_on (x ∷ t) n e = counts_word x.lexeme n e
 
 -- a name that may yet be judged at its own place
-pub naming : {Y : Type 0} {p : Pair} {quiet : Bool} {c least : ℕ} {t u : List Token} (f g : List ℕ × List Token → Parsed Y) → Here p c t u
-    → ((name : List ℕ) → Here p (c + 1) (drop 1 t) (drop 1 u) → Alike p quiet c least (f (name, drop 1 t)) (g (name, drop 1 u)))
-    → Alike p quiet c least (name_at t >>= f) (name_at u >>= g)
+pub naming : {Y : Type 0} {p : Pair} {unclosed : Bool} {c least : ℕ} {t u : List Token} (f g : List ℕ × List Token → Parsed Y) → Here p c t u
+    → ((name : List ℕ) → Here p (c + 1) (drop 1 t) (drop 1 u) → Alike p unclosed c least (f (name, drop 1 t)) (g (name, drop 1 u)))
+    → Alike p unclosed c least (name_at t >>= f) (name_at u >>= g)
 naming {t = t} f g here rest = taking next_name f g (λ x t u. refl) (name_goes_on t) here (λ name e more. rest name more)
 
 -- a name, and then the others
-pub named : {Y : Type 0} {p : Pair} {quiet : Bool} {c least : ℕ} {t u : List Token} (f g : List ℕ × List Token → Parsed Y) → Here p c t u
-    → ((name : List ℕ) → Here p (c + 1) (drop 1 t) (drop 1 u) → Alike p quiet (c + 1) least (f (name, drop 1 t)) (g (name, drop 1 u)))
-    → Alike p quiet c least (name_at t >>= f) (name_at u >>= g)
-named {quiet = quiet} {t = t} f g here rest = taking next_name f g (λ x t u. refl) (name_goes_on t) here
-    (λ name e more. onward (omega arith) (name_quiet quiet name here e) (rest name more))
+pub named : {Y : Type 0} {p : Pair} {unclosed : Bool} {c least : ℕ} {t u : List Token} (f g : List ℕ × List Token → Parsed Y) → Here p c t u
+    → ((name : List ℕ) → Here p (c + 1) (drop 1 t) (drop 1 u) → Alike p unclosed (c + 1) least (f (name, drop 1 t)) (g (name, drop 1 u)))
+    → Alike p unclosed c least (name_at t >>= f) (name_at u >>= g)
+named {unclosed = unclosed} {t = t} f g here rest = taking next_name f g (λ x t u. refl) (name_goes_on t) here
+    (λ name e more. onward (omega arith) (name_unclosed unclosed name here e) (rest name more))
 
 -- a number, and then the others
 pub numbered : {Y : Type 0} {p : Pair} {c least : ℕ} {t u : List Token} (f g : ℕ × List Token → Parsed Y) → Here p c t u
@@ -562,17 +562,17 @@ numbered {t = t} f g here rest = taking next_number f g (λ x t u. refl) (number
     (λ n e more. onward (omega arith) tt (rest n more))
 
 -- a name that is known to stand in both
-pub knowing : {Y : Type 0} {p : Pair} {quiet : Bool} {c d least : ℕ} {t u : List Token} (name : List ℕ) (f g : List ℕ × List Token → Parsed Y) → Here p c t u
-    → next_name t ≡ Some name → c < p.agreed → (Here p (c + 1) (drop 1 t) (drop 1 u) → Alike p quiet d least (f (name, drop 1 t)) (g (name, drop 1 u)))
-    → Alike p quiet d least (name_at t >>= f) (name_at u >>= g)
+pub knowing : {Y : Type 0} {p : Pair} {unclosed : Bool} {c d least : ℕ} {t u : List Token} (name : List ℕ) (f g : List ℕ × List Token → Parsed Y) → Here p c t u
+    → next_name t ≡ Some name → c < p.agreed → (Here p (c + 1) (drop 1 t) (drop 1 u) → Alike p unclosed d least (f (name, drop 1 t)) (g (name, drop 1 u)))
+    → Alike p unclosed d least (name_at t >>= f) (name_at u >>= g)
 knowing {t = t} {u = u} name f g here is lt rest =
     let other : next_name u ≡ Some name = sym (seen_same next_name (λ x t u. refl) here lt) ∙ is in
     rw (is, other) (rest (next here (name_goes_on t name is)))
 
 -- a number that may yet be judged with what stands before it
-pub numbering : {Y : Type 0} {p : Pair} {quiet : Bool} {c least : ℕ} {t u : List Token} (f g : ℕ × List Token → Parsed Y) → Here p c t u
-    → ((n : ℕ) → Here p (c + 1) (drop 1 t) (drop 1 u) → Alike p quiet c least (f (n, drop 1 t)) (g (n, drop 1 u)))
-    → Alike p quiet c least (number_at t >>= f) (number_at u >>= g)
+pub numbering : {Y : Type 0} {p : Pair} {unclosed : Bool} {c least : ℕ} {t u : List Token} (f g : ℕ × List Token → Parsed Y) → Here p c t u
+    → ((n : ℕ) → Here p (c + 1) (drop 1 t) (drop 1 u) → Alike p unclosed c least (f (n, drop 1 t)) (g (n, drop 1 u)))
+    → Alike p unclosed c least (number_at t >>= f) (number_at u >>= g)
 numbering {t = t} f g here rest = taking next_number f g (λ x t u. refl) (number_goes_on t) here (λ n e more. rest n more)
 
 -- ---- repetitions
@@ -595,29 +595,29 @@ some_left {p = p} {c = c} {t = t} here =
     let inside = here.inside in
     omega arith
 
-module _ {S : Type 0} {p : Pair} {quiet : Bool} (more : List Token → Bool) (part : S → List Token → Parsed S) (first : IsOfFirst more)
-    (step : (s : S) (c : ℕ) (t u : List Token) → Here p c t u → more t ≡ true → Alike p quiet c (c + 1) (part s t) (part s u)) where
+module _ {S : Type 0} {p : Pair} {unclosed : Bool} (more : List Token → Bool) (part : S → List Token → Parsed S) (first : IsOfFirst more)
+    (step : (s : S) (c : ℕ) (t u : List Token) → Here p c t u → more t ≡ true → Alike p unclosed c (c + 1) (part s t) (part s u)) where
   abbrev Later : ℕ → Type 0
   Later n = (m : ℕ) (next : S) (d : ℕ) (x y : List Token) → Here p d x y → length x ≤ n → length y ≤ m
-      → Alike p quiet d d (repeated more part n next x) (repeated more part m next y)
+      → Alike p unclosed d d (repeated more part n next x) (repeated more part m next y)
 
   repeated_alike : (n m : ℕ) (s : S) (c : ℕ) (t u : List Token) → Here p c t u → length t ≤ n → length u ≤ m
-      → Alike p quiet c c (repeated more part n s t) (repeated more part m s u)
+      → Alike p unclosed c c (repeated more part n s t) (repeated more part m s u)
   unfolding repeated
   repeated_alike zero m s c t u here few others = absurd (let some = some_left here in omega arith)
   repeated_alike (suc n) m s c t u here few others = by (λ m next d x y there enough low. repeated_alike n m next d x y there enough low) m others where
-    both : Later n → (m : ℕ) → length u ≤ suc m → Alike p quiet c c (repeated more part (suc n) s t) (repeated more part (suc m) s u)
+    both : Later n → (m : ℕ) → length u ≤ suc m → Alike p unclosed c c (repeated more part (suc n) s t) (repeated more part (suc m) s u)
     both later m others = either more _ _ _ _ first here
         (λ goes. loosened (then_some (λ r. repeated more part n r.0 r.1) (λ r. repeated more part m r.0 r.1) (step s c t u here goes)
         (λ next d x y enough there. later m next d x y there (left_of here there enough few) (rest_of here there enough others))))
         (λ stops. ended s here)
 
-    by : Later n → (m : ℕ) → length u ≤ m → Alike p quiet c c (repeated more part (suc n) s t) (repeated more part m s u)
+    by : Later n → (m : ℕ) → length u ≤ m → Alike p unclosed c c (repeated more part (suc n) s t) (repeated more part m s u)
     by later zero others = ⊎_elim
         (λ lt. let s = shared here lt in let e = ap length s.other in absurd (omega arith))
         (λ low. unsaid (repeated more part zero s u) low (both later zero (omega arith)))
         (within c p.agreed)
     by later (suc m) others = both later m others
 
-  pub each_alike : (s : S) (c : ℕ) (t u : List Token) → Here p c t u → Alike p quiet c c (each more part s t) (each more part s u)
+  pub each_alike : (s : S) (c : ℕ) (t u : List Token) → Here p c t u → Alike p unclosed c c (each more part s t) (each more part s u)
   each_alike s c t u here = repeated_alike (length t) (length u) s c t u here (omega arith) (omega arith)

@@ -15,13 +15,13 @@ use Rattle.conspec_parse.specs.declared.signature.Signature.{Signature}
 use Rattle.conspec_parse.specs.declared.fault.PolicyFault.{PolicyFault}
 use Rattle.conspec_parse.specs.declared.fault.PolicyFault.TheVariants as faults
 use Rattle.conspec_parse.specs.Fault.{Judged}
-use Rattle.conspec_parse.specs.Forms.{Parsed, behind}
+use Rattle.conspec_parse.specs.Forms.{Parsed, following}
 use Rattle.conspec_tokens.specs.Front.{front_at, is_next}
 use Rattle.conspec_parse.specs.Types.{judged_name}
 use Rattle.conspec_parse.specs.Methods.{next_step, path_at, parameters_at, signature_at, desc_of, index_at, method_at}
 use Rattle.conspec_tree.specs.Clauses.{has_clause}
 use Rattle.conspec_parse.specs.Deciding.{is_open}
-use Rattle.conspec_parse.proofs.Alike.{Pair, Here, Alike, Stops, NoClose, place, ahead, is_of_method, within, none, both_quiet, next, next_goes_on, seen_same, front_same, ended, told, then, loosened, given, after, each_alike, syntax}
+use Rattle.conspec_parse.proofs.Alike.{Pair, Here, Alike, Stops, NoClose, place, ahead, is_of_method, within, none, both_unclosed, next, next_goes_on, seen_same, front_same, ended, told, then, loosened, given, after, each_alike, syntax}
 use Rattle.conspec_parse.proofs.AlikeTypes.{step_alike, parameters_alike}
 use Rattle.conspec_parse.proofs.Loose.{Loosens, is_of_name, signature_loose}
 
@@ -32,31 +32,31 @@ Headed = Path × List Param
 
 abbrev until_close : Bool → List Var → List Token → Parsed Headed
 until_close judged vars tokens =
-    path_at judged tokens >>= λ path. behind (codes "(") path.1 >>= λ opened. parameters_at judged vars opened >>= λ params. Ok ((path.0, params.0), params.1)
+    path_at judged tokens >>= λ path. following (codes "(") path.1 >>= λ opened. parameters_at judged vars opened >>= λ params. Ok ((path.0, params.0), params.1)
 
 -- the `)`, and the method
 abbrev closing : Headed × List Token → Parsed Signature
-closing read = behind (codes ")") read.1 >>= λ closed. Ok (record { path = read.0.0; params = read.0.1 }, closed)
+closing read = following (codes ")") read.1 >>= λ closed. Ok (record { path = read.0.0; params = read.0.1 }, closed)
 
 signature_is : (judged : Bool) (vars : List Var) (tokens : List Token) → signature_at judged vars tokens ≡ until_close judged vars tokens >>= closing
 unfolding signature_at
 signature_is judged vars tokens = by_path (path_at judged tokens) where
   by_params : (path : Path) (read : Parsed (List Param))
-      → (read >>= λ params. behind (codes ")") params.1 >>= λ closed. Ok (record { path = path; params = params.0 }, closed))
+      → (read >>= λ params. following (codes ")") params.1 >>= λ closed. Ok (record { path = path; params = params.0 }, closed))
       ≡ ((read >>= λ params. Ok ((path, params.0), params.1)) >>= closing)
   by_params path (Ok read) = refl
   by_params path (Err e) = refl
 
   by_open : (path : Path) (read : Judged (List Token))
-      → (read >>= λ opened. parameters_at judged vars opened >>= λ params. behind (codes ")") params.1 >>= λ closed. Ok (record { path = path; params = params.0 }, closed))
+      → (read >>= λ opened. parameters_at judged vars opened >>= λ params. following (codes ")") params.1 >>= λ closed. Ok (record { path = path; params = params.0 }, closed))
       ≡ ((read >>= λ opened. parameters_at judged vars opened >>= λ params. Ok ((path, params.0), params.1)) >>= closing)
   by_open path (Ok opened) = by_params path (parameters_at judged vars opened)
   by_open path (Err e) = refl
 
   by_path : (read : Parsed Path)
-      → (read >>= λ path. behind (codes "(") path.1 >>= λ opened. parameters_at judged vars opened >>= λ params. behind (codes ")") params.1 >>= λ closed. Ok (record { path = path.0; params = params.0 }, closed))
-      ≡ ((read >>= λ path. behind (codes "(") path.1 >>= λ opened. parameters_at judged vars opened >>= λ params. Ok ((path.0, params.0), params.1)) >>= closing)
-  by_path (Ok path) = by_open path.0 (behind (codes "(") path.1)
+      → (read >>= λ path. following (codes "(") path.1 >>= λ opened. parameters_at judged vars opened >>= λ params. following (codes ")") params.1 >>= λ closed. Ok (record { path = path.0; params = params.0 }, closed))
+      ≡ ((read >>= λ path. following (codes "(") path.1 >>= λ opened. parameters_at judged vars opened >>= λ params. Ok ((path.0, params.0), params.1)) >>= closing)
+  by_path (Ok path) = by_open path.0 (following (codes "(") path.1)
   by_path (Err e) = refl
 
 -- The first names are alike from b tokens on.
@@ -79,7 +79,7 @@ until_alike judged vars heads =
     then _ _ (parameters_alike judged vars opened) λ params e v w last after_it.
     ended (path, params) after_it)
 
--- Both read a method, whose `)` stands behind so many tokens.
+-- Both read a method, whose `)` stands after so many tokens.
 record Closes (p : Pair) (b : ℕ) (one other : Parsed Signature) : Type 0 where
   signature : Signature
   close : ℕ
@@ -103,13 +103,13 @@ closes (inr stop) = inr (record {
   same = λ le. rw (stop.same le) refl;
 })
 closes {p = p} {b = b} {one = one} {other = other} (inl on) = by (is_next (codes ")") on.left) refl where
-  seen : on.behind < p.agreed → is_next (codes ")") on.rest ≡ is_next (codes ")") on.left
+  seen : on.following < p.agreed → is_next (codes ")") on.rest ≡ is_next (codes ")") on.left
   seen lt = sym (seen_same (is_next (codes ")")) (λ x t u. refl) on.here lt)
 
   by : (v : Bool) → is_next (codes ")") on.left ≡ v → Closes p b (one >>= closing) (other >>= closing) ⊎ Stops p true b (one >>= closing) (other >>= closing)
   by true e = inl (record {
     signature = record { path = on.value.0; params = on.value.1 };
-    close = on.behind;
+    close = on.following;
     left = on.left;
     rest = on.rest;
     here = on.here;
@@ -122,16 +122,16 @@ closes {p = p} {b = b} {one = one} {other = other} (inl on) = by (is_next (codes
   by false e =
       let further = on.further in
       let here = on.here in
-      let count : on.behind + 1 - 1 ≡ on.behind = omega arith in
+      let count : on.following + 1 - 1 ≡ on.following = omega arith in
       inr (record {
         fault = faults.Syntax (front_at on.left);
-        decided = on.behind + 1;
+        decided = on.following + 1;
         further = omega arith;
         no_close = subst (λ (n : ℕ). NoClose p b n) (sym count) on.no_close;
-        stands = record { index = on.behind; inside = here.inside; at = ap front_at here.one; decided = omega arith };
+        stands = record { index = on.following; inside = here.inside; at = ap front_at here.one; decided = omega arith };
         is = rw (on.is, e) refl;
         same = λ le.
-            let lt : on.behind < p.agreed = omega arith in
+            let lt : on.following < p.agreed = omega arith in
             let last : is_next (codes ")") on.rest ≡ false = seen lt ∙ e in
             let at : front_at on.rest ≡ front_at on.left = sym (front_same on.here lt) in
             rw (on.same lt, last, at) refl;
@@ -206,7 +206,7 @@ larger m n = ⊎_elim
     (λ le. record { most = m; one = omega arith; other = omega arith; below = λ k low. inl low })
     (within m n)
 
--- A method that begins behind c tokens is still to be ended behind more, as long as no `)` stands among these.
+-- A method that begins after c tokens is still to be ended after more, as long as no `)` stands among these.
 abbrev pub Unended : Pair → ℕ → Type 0
 Unended p c = (k : ℕ) → c ≤ k → NoClose p c k → is_open (take k p.one) ≡ true
 
@@ -218,9 +218,9 @@ module _ (methods : List ListedMethod) (vars : List Var) (clauses : List TreeCla
   strict_other : Loosens (signature_at true vars u) (signature_at false vars u)
   strict_other = signature_loose vars u
 
-  quiet_to : (d k : ℕ) → NoClose p b d → k ≤ d → c ≤ k → is_open (take k p.one) ≡ true
-  quiet_to d k no_close le from =
-      unended k from (λ j over under. both_quiet true p c b d before no_close j over (omega arith))
+  unclosed_to : (d k : ℕ) → NoClose p b d → k ≤ d → c ≤ k → is_open (take k p.one) ≡ true
+  unclosed_to d k no_close le from =
+      unended k from (λ j over under. both_unclosed true p c b d before no_close j over (omega arith))
 
   abbrev Method : Type 0
   Method = Alike p false b (c + 1) (method_at methods vars clauses phase result t) (method_at methods vars clauses phase result u)
@@ -246,7 +246,7 @@ module _ (methods : List ListedMethod) (vars : List Var) (clauses : List TreeCla
           index = c;
           inside = here.inside;
           at = blame.there ∙ ap front_at here.one;
-          unended = λ k over under. quiet_to close k no_close (omega arith) (omega arith);
+          unended = λ k over under. unclosed_to close k no_close (omega arith) (omega arith);
         });
         is = rw (is, index) refl;
         same = λ le.
@@ -279,7 +279,7 @@ module _ (methods : List ListedMethod) (vars : List Var) (clauses : List TreeCla
           at = near.at;
           unended = λ k over under. ⊎_elim
               (λ lt. until k (omega arith) lt)
-              (λ lt. quiet_to (stop.decided - 1) k stop.no_close (omega arith) (omega arith))
+              (λ lt. unclosed_to (stop.decided - 1) k stop.no_close (omega arith) (omega arith))
               (max.below k under);
         });
         is = is;
@@ -301,7 +301,7 @@ module _ (methods : List ListedMethod) (vars : List Var) (clauses : List TreeCla
         let further = read.further in
         inl (record {
           value = (method, read.signature.params);
-          behind = read.close + 1;
+          following = read.close + 1;
           left = drop 1 read.left;
           rest = drop 1 read.rest;
           here = next read.here (next_goes_on (codes ")") read.left read.ends);
@@ -340,14 +340,14 @@ module _ (methods : List ListedMethod) (vars : List Var) (clauses : List TreeCla
     by (Err fault) e = refused read.signature read.close (drop 1 read.left) (drop 1 read.rest) fault read.further read.no_close read.is read.same e
     by (Ok method) e =
         let further = read.further in
-        misnamed (read.close + 1) stop naming (λ k over under. quiet_to read.close k read.no_close (omega arith) over)
+        misnamed (read.close + 1) stop naming (λ k over under. unclosed_to read.close k read.no_close (omega arith) over)
         (rw (read.is, e, stop.is) refl)
         (λ le all.
         let same : index_of u read.signature ≡ Ok method = index_same read.signature (omega arith) ∙ e in
         rw (read.same (omega arith), same, stop.same all) refl)
   ill_named stop naming (inr loose) =
       let further = loose.further in
-      misnamed loose.decided stop naming (λ k over under. quiet_to (loose.decided - 1) k loose.no_close (omega arith) over)
+      misnamed loose.decided stop naming (λ k over under. unclosed_to (loose.decided - 1) k loose.no_close (omega arith) over)
       (rw (loose.is, stop.is) refl)
       (λ le all. rw (loose.same le, stop.same all) refl)
 

@@ -13,7 +13,7 @@ use Rattle.conspec_tree.specs.declared.types.TreeClause.{TreeClause}
 use Rattle.conspec_tree.specs.declared.types.Var.{Var}
 use Rattle.conspec_parse.specs.declared.type_name.TypeName.{TypeName}
 use Rattle.conspec_parse.specs.declared.fault.PolicyFault.TheVariants as faults
-use Rattle.conspec_parse.specs.Forms.{Parsed, is_short, behind, name_at, each}
+use Rattle.conspec_parse.specs.Forms.{Parsed, is_short, following, name_at, each}
 use Rattle.conspec_tokens.specs.Front.{front_at, quotes, is_next, next_name, is_name}
 use Rattle.conspec_parse.specs.Head.{begins_variable, first_at, variable_at, variables_at}
 use Rattle.conspec_tree.specs.Variables.{is_variable}
@@ -22,7 +22,7 @@ use Rattle.conspec_parse.specs.Methods.{method_at}
 use Rattle.conspec_parse.specs.Clauses.{is_assigned, given_result_at, some_result_at, result_name_at, next_phase, begins_clause, scope_of, clause_of, clause_of_method, clause_of_type, clause_at, body_at}
 use Rattle.conspec_tree.specs.Clauses.{is_after}
 use Rattle.conspec_parse.specs.Deciding.{opened_by, is_open_from}
-use Rattle.conspec_parse.proofs.Alike.{Pair, Here, Alike, NoClose, is_word, goes_on, within, none, both_quiet, next, next_goes_on, name_goes_on, name_quiet, seen_same, ended, told, onward, loosened, lessened, unsaid, joined, then, then_open, tested, peeked, after, named, knowing, each_alike, of_kind, syntax, twice, limit}
+use Rattle.conspec_parse.proofs.Alike.{Pair, Here, Alike, NoClose, is_word, goes_on, within, none, both_unclosed, next, next_goes_on, name_goes_on, name_unclosed, seen_same, ended, told, onward, loosened, lessened, unsaid, joined, then, then_open, tested, peeked, after, named, knowing, each_alike, of_kind, syntax, twice, limit}
 use Rattle.conspec_parse.proofs.AlikeTypes.{judged_alike, type_alike}
 use Rattle.conspec_parse.proofs.AlikeGuards.{first_alike, body_alike}
 use Rattle.conspec_parse.proofs.AlikeMethods.{Heads, Unended, method_alike}
@@ -36,9 +36,9 @@ rest_of_variable maxint vars tokens is_bool = do
   name ← name_at (drop 1 tokens)
   once ← need (not (is_variable vars name.0)) (faults.Twice (front_at (drop 1 tokens)))
   short ← need (is_short name.0) (faults.Limit (front_at (drop 1 tokens)))
-  equals ← behind (codes "=") name.1
+  equals ← following (codes "=") name.1
   first ← first_at maxint is_bool equals
-  ended ← behind (codes ";") first.1
+  ended ← following (codes ";") first.1
   Ok (vars ++ (record { name = name.0; is_bool = is_bool; first = first.0 }) ∷ [], ended)
 
 rest_of_variable_alike : {p : Pair} {c : ℕ} {t u : List Token} (maxint : ℤ) (vars : List Var) (is_bool : Bool) → Here p c t u → goes_on t ≡ true
@@ -74,7 +74,7 @@ variables_alike maxint here =
 
 -- ---- the head of a clause
 
--- a method is open behind a keyword that begins a clause
+-- a method is open after a keyword that begins a clause
 phase_opens : (now : Bool) (x : Token) → begins_clause (x ∷ []) ≡ true → opened_by now x ≡ true
 phase_opens now x begins = by x.lexeme begins where
   by : (l : Lexeme) → begins_clause (record { at = x.at; lexeme = l } ∷ []) ≡ true → opened_by now (record { at = x.at; lexeme = l }) ≡ true
@@ -101,19 +101,19 @@ stays_open x e = by (begins_clause (x ∷ [])) refl where
 
 open_on : (now : Bool) (tokens : List Token) (from to : ℕ) → is_open_from now (take from tokens) ≡ true → from ≤ to
     → ((j : ℕ) → from ≤ j → j < to → is_next (codes ")") (drop j tokens) ≡ false) → is_open_from now (take to tokens) ≡ true
-open_on now [] zero zero is le quiet = is
-open_on now [] zero (suc to) is le quiet = is
-open_on now [] (suc from) zero is le quiet = is
-open_on now [] (suc from) (suc to) is le quiet = is
-open_on now (x ∷ tokens) zero zero is le quiet = is
-open_on now (x ∷ tokens) zero (suc to) is le quiet =
-    let first : opened_by now x ≡ true = rw is (stays_open x (quiet 0 (omega arith) (omega arith))) in
-    open_on (opened_by now x) tokens zero to first (omega arith) (λ j low high. quiet (suc j) (omega arith) (omega arith))
-open_on now (x ∷ tokens) (suc from) zero is le quiet = absurd (omega arith)
-open_on now (x ∷ tokens) (suc from) (suc to) is le quiet =
-    open_on (opened_by now x) tokens from to is (omega arith) (λ j low high. quiet (suc j) (omega arith) (omega arith))
+open_on now [] zero zero is le unclosed = is
+open_on now [] zero (suc to) is le unclosed = is
+open_on now [] (suc from) zero is le unclosed = is
+open_on now [] (suc from) (suc to) is le unclosed = is
+open_on now (x ∷ tokens) zero zero is le unclosed = is
+open_on now (x ∷ tokens) zero (suc to) is le unclosed =
+    let first : opened_by now x ≡ true = rw is (stays_open x (unclosed 0 (omega arith) (omega arith))) in
+    open_on (opened_by now x) tokens zero to first (omega arith) (λ j low high. unclosed (suc j) (omega arith) (omega arith))
+open_on now (x ∷ tokens) (suc from) zero is le unclosed = absurd (omega arith)
+open_on now (x ∷ tokens) (suc from) (suc to) is le unclosed =
+    open_on (opened_by now x) tokens from to is (omega arith) (λ j low high. unclosed (suc j) (omega arith) (omega arith))
 
--- Behind a keyword that begins a clause its method is open, until `)`.
+-- After a keyword that begins a clause its method is open, until `)`.
 unended : {p : Pair} {c : ℕ} {t u : List Token} → Here p c t u → begins_clause t ≡ true → Unended p (c + 1)
 unended {p = p} {c = c} here begins = λ k over no_close.
     let first : begins_clause (drop c p.one) ≡ true = rw here.one at begins in
@@ -121,7 +121,7 @@ unended {p = p} {c = c} here begins = λ k over no_close.
     open_on false p.one (c + 1) k (rw next_one (opened false p.one c first)) over no_close
 
 moved : (p : Pair) {c d : ℕ} → c ≤ d → NoClose p c d → Unended p c → Unended p d
-moved p {c = c} {d = d} le no_close unended = λ k over more. unended k (omega arith) (both_quiet true p c d k no_close more)
+moved p {c = c} {d = d} le no_close unended = λ k over more. unended k (omega arith) (both_unclosed true p c d k no_close more)
 
 -- ---- the result's name
 
@@ -158,17 +158,17 @@ known_name {p = p} {c = c} name here is lt judged =
 -- ---- clauses
 
 module _ (methods : List ListedMethod) (vars : List Var) (maxint : ℤ) (clauses : List TreeClause) (phase : Phase) (type : TypeName) where
-  -- the clause behind the name of the result
+  -- the clause after the name of the result
   abbrev from_method : Option (List ℕ) × List Token → Parsed (List TreeClause)
   from_method result = do
     method ← method_at methods vars clauses phase type.desc result.1
-    performs ← behind (codes "PERFORM") method.1
+    performs ← following (codes "PERFORM") method.1
     guards ← body_at (scope_of vars phase method.0.1 result.0 type.kind) maxint performs
     Ok (clauses ++ clause_of method.0.0 phase method.0.1 type.kind guards.0 ∷ [], guards.1)
 
-  -- what is read behind the type, where the result has a name or not
-  abbrev behind_type : List Token → Bool → Parsed (List TreeClause)
-  behind_type tokens has_name = cond has_name (some_result_at vars type.kind tokens) (Ok (None, tokens)) >>= from_method
+  -- what is read after the type, where the result has a name or not
+  abbrev after_type : List Token → Bool → Parsed (List TreeClause)
+  after_type tokens has_name = cond has_name (some_result_at vars type.kind tokens) (Ok (None, tokens)) >>= from_method
 
   abbrev is_given : List Token → Bool
   is_given tokens = is_after phase && is_assigned tokens
@@ -193,21 +193,21 @@ module _ (methods : List ListedMethod) (vars : List Var) (maxint : ℤ) (clauses
         from_method_alike None here (omega arith) (omega arith) (none true p c c (omega arith)) unended (record { of = λ judged. judged_alike judged here })
 
     named_alike : {b c : ℕ} (t u : List Token) → c ≤ b → NoClose p c b → Unended p c → Alike p true b (c + 1) (given_result_at vars type.kind t) (given_result_at vars type.kind u)
-        → Alike p false b b (behind_type t true) (behind_type u true)
+        → Alike p false b b (after_type t true) (after_type u true)
     named_alike {b = b} {c = c} t u low before unended result =
         joined (given_result_at vars type.kind t) (given_result_at vars type.kind u) _ _ _ _ (
         loosened (then_open _ _ result λ name d x y further enough no_close more.
-        from_method_alike (Some name) more (omega arith) (omega arith) (none true p d d (omega arith)) (moved p (omega arith) (both_quiet true p c b d before no_close) unended)
+        from_method_alike (Some name) more (omega arith) (omega arith) (none true p d d (omega arith)) (moved p (omega arith) (both_unclosed true p c b d before no_close) unended)
         (record { of = λ judged. judged_alike judged more })))
 
     known_alike : {c : ℕ} {t u : List Token} (name : List ℕ) (given : Bool) → Here p c t u → next_name t ≡ Some name → c < p.agreed → Unended p c
-        → Alike p false (c + 1) (c + 1) (behind_type t given) (behind_type u given)
+        → Alike p false (c + 1) (c + 1) (after_type t given) (after_type u given)
     known_alike {c = c} name true here is lt unended =
-        named_alike _ _ (omega arith) (name_quiet true name here is) unended (known_given name vars type.kind here is lt)
+        named_alike _ _ (omega arith) (name_unclosed true name here is) unended (known_given name vars type.kind here is lt)
     known_alike {c = c} name false here is lt unended =
-        from_method_alike None here (omega arith) (omega arith) (name_quiet true name here is) unended (record { of = known_name name here is lt })
+        from_method_alike None here (omega arith) (omega arith) (name_unclosed true name here is) unended (record { of = known_name name here is lt })
 
-    same_alike : {c : ℕ} {t u : List Token} (given : Bool) → Here p c t u → Unended p c → Alike p false c c (behind_type t given) (behind_type u given)
+    same_alike : {c : ℕ} {t u : List Token} (given : Bool) → Here p c t u → Unended p c → Alike p false c c (after_type t given) (after_type u given)
     same_alike {c = c} true here unended = named_alike _ _ (omega arith) (none true p c c (omega arith)) unended (given_alike vars type.kind here)
     same_alike false here unended = unnamed_alike here unended
 
@@ -218,9 +218,9 @@ module _ (methods : List ListedMethod) (vars : List Var) (maxint : ℤ) (clauses
         let two : is_next (codes "=") (drop 1 t) ≡ is_next (codes "=") (drop 1 u) = seen_same (is_next (codes "=")) (λ x t u. refl) (next here (name_goes_on t name is)) lt in
         rw (one, two) refl
 
-    behind_type_alike : {c : ℕ} {t u : List Token} → Here p c t u → Unended p c → Alike p false c c (behind_type t (is_given t)) (behind_type u (is_given u))
-    behind_type_alike {c = c} {t = t} {u = u} here unended = ⊎_elim (λ lt. agreed lt (next_name t) refl) (λ low. unsaid _ low (same_alike (is_given t) here unended)) (within c p.agreed) where
-      agreed : c < p.agreed → (name : Option (List ℕ)) → next_name t ≡ name → Alike p false c c (behind_type t (is_given t)) (behind_type u (is_given u))
+    after_type_alike : {c : ℕ} {t u : List Token} → Here p c t u → Unended p c → Alike p false c c (after_type t (is_given t)) (after_type u (is_given u))
+    after_type_alike {c = c} {t = t} {u = u} here unended = ⊎_elim (λ lt. agreed lt (next_name t) refl) (λ low. unsaid _ low (same_alike (is_given t) here unended)) (within c p.agreed) where
+      agreed : c < p.agreed → (name : Option (List ℕ)) → next_name t ≡ name → Alike p false c c (after_type t (is_given t)) (after_type u (is_given u))
       agreed lt None is =
           let other : next_name u ≡ None = sym (seen_same next_name (λ x t u. refl) here lt) ∙ is in
           rw (not_named t is, not_named u other) (unnamed_alike here unended)
@@ -242,33 +242,33 @@ pub phase_goes_on : (t : List Token) (phase : Phase) → next_phase t ≡ Some p
 phase_goes_on [] phase e = absurd cc
 phase_goes_on (x ∷ t) phase e = phase_word x t phase e
 
-abbrev behind_phase : List ListedMethod → List Var → ℤ → List TreeClause → List Token → Option Phase → Parsed (List TreeClause)
-behind_phase methods vars maxint clauses tokens found = do
+abbrev after_phase : List ListedMethod → List Var → ℤ → List TreeClause → List Token → Option Phase → Parsed (List TreeClause)
+after_phase methods vars maxint clauses tokens found = do
   phase ← ok_or found (faults.Syntax (front_at tokens))
   type ← type_at true (drop 1 tokens)
   result ← result_name_at vars phase type.0.kind type.1
   method ← method_at methods vars clauses phase type.0.desc result.1
-  performs ← behind (codes "PERFORM") method.1
+  performs ← following (codes "PERFORM") method.1
   guards ← body_at (scope_of vars phase method.0.1 result.0 type.0.kind) maxint performs
   Ok (clauses ++ clause_of method.0.0 phase method.0.1 type.0.kind guards.0 ∷ [], guards.1)
 
-behind_phase_alike : {p : Pair} {c : ℕ} {t u : List Token} (methods : List ListedMethod) (vars : List Var) (maxint : ℤ) (clauses : List TreeClause) (found : Option Phase)
-    → Here p c t u → next_phase t ≡ found → Alike p false c (c + 1) (behind_phase methods vars maxint clauses t found) (behind_phase methods vars maxint clauses u found)
-behind_phase_alike methods vars maxint clauses None here e = told faults.Syntax syntax here (omega arith) tt
-behind_phase_alike {p = p} {c = c} {t = t} methods vars maxint clauses (Some phase) here e =
+after_phase_alike : {p : Pair} {c : ℕ} {t u : List Token} (methods : List ListedMethod) (vars : List Var) (maxint : ℤ) (clauses : List TreeClause) (found : Option Phase)
+    → Here p c t u → next_phase t ≡ found → Alike p false c (c + 1) (after_phase methods vars maxint clauses t found) (after_phase methods vars maxint clauses u found)
+after_phase_alike methods vars maxint clauses None here e = told faults.Syntax syntax here (omega arith) tt
+after_phase_alike {p = p} {c = c} {t = t} methods vars maxint clauses (Some phase) here e =
     let word = next here (phase_goes_on t phase e) in
     let begins : begins_clause t ≡ true = rw e refl in
     lessened (omega arith) (onward (omega arith) tt (
     then_open _ _ (type_alike true word) λ type d x y further enough no_close more.
-    behind_type_alike methods vars maxint clauses phase type more (moved p further no_close (unended here begins))))
+    after_type_alike methods vars maxint clauses phase type more (moved p further no_close (unended here begins))))
 
 clause_alike : {p : Pair} {c : ℕ} {t u : List Token} (methods : List ListedMethod) (vars : List Var) (maxint : ℤ) (clauses : List TreeClause) → Here p c t u
     → Alike p false c (c + 1) (clause_at methods vars maxint clauses t) (clause_at methods vars maxint clauses u)
 unfolding clause_at clause_of_type clause_of_method
 clause_alike {t = t} {u = u} methods vars maxint clauses here =
     tested (nat_lt (length clauses) 64) _ _ _ _ (told faults.Limit limit here (omega arith) tt) λ few.
-    peeked next_phase (behind_phase methods vars maxint clauses t) (behind_phase methods vars maxint clauses u) (λ x t u. refl) here
-    λ found e. behind_phase_alike methods vars maxint clauses found here e
+    peeked next_phase (after_phase methods vars maxint clauses t) (after_phase methods vars maxint clauses u) (λ x t u. refl) here
+    λ found e. after_phase_alike methods vars maxint clauses found here e
 
 pub clauses_alike : {p : Pair} {c : ℕ} {t u : List Token} (methods : List ListedMethod) (vars : List Var) (maxint : ℤ) → Here p c t u
     → Alike p false c c (each begins_clause (clause_at methods vars maxint) [] t) (each begins_clause (clause_at methods vars maxint) [] u)

@@ -2,7 +2,7 @@
 use Rattle.std.proofs.Common.{◌≡◌, ℕ, ◌+◌, Bool, true, false, List, [], ◌∷◌, ◌++◌, drop, Option, Some, None, Ok, refl, arith}
 use Rattle.std.specs.Prelude.{not, codes, ◌||◌}
 use Rattle.std.proofs.lemmas.Slice.Eq.{bytes_eq-Decides}
-use Rattle.api_listing.specs.Descriptor.{class_spelled}
+use Rattle.api_listing.specs.Descriptor.{class_encoded}
 use Rattle.mon_base.specs.Reading.{◌>>=◌}
 use Rattle.conspec_tokens.specs.declared.token.Lexeme.{Lexeme}
 use Rattle.conspec_tokens.specs.declared.token.Lexeme.TheVariants.{Quoted, Name, Number, Wrong, End}
@@ -18,7 +18,7 @@ use Rattle.conspec_tokens.specs.Front.{is_next, is_name}
 use Rattle.conspec_parse.specs.Types.{judged_name, type_named, plain_type, next_part, class_at, class_type_at, element_of, element_at, dimension_at, array_of, type_at}
 use Rattle.conspec_tree.specs.Kinds.{kind_or_object}
 use Rattle.conspec_parse.specs.Methods.{is_free, given_name_at, parameter_name_at, parameter_at, next_parameter, some_parameters, parameters_at, init, part_at, class_under, next_step}
-use Rattle.conspec_parse.proofs.Alike.{Pair, Here, Alike, is_word, goes_on, none, next, next_goes_on, ended, told, onward, loosened, then, then_some, tested, peeked, either, after, named, apart_quiet, one_quiet, each_alike, syntax, twice, limit}
+use Rattle.conspec_parse.proofs.Alike.{Pair, Here, Alike, is_word, goes_on, none, next, next_goes_on, ended, told, onward, loosened, then, then_some, tested, peeked, either, after, named, apart_unclosed, one_unclosed, each_alike, syntax, twice, limit}
 
 -- ---- types
 
@@ -46,7 +46,7 @@ class_type_alike : {p : Pair} {c : ℕ} {t u : List Token} (judged : Bool) → H
 unfolding class_type_at
 class_type_alike judged here =
     then_some _ _ (class_alike judged here) λ class d x y enough more.
-    ended (type_named (class_spelled class) (Some kinds.Object)) more
+    ended (type_named (class_encoded class) (Some kinds.Object)) more
 
 plain_word : (x : Token) (t : List Token) (plain : TypeName) → plain_type (x ∷ t) ≡ Some plain → is_word x.lexeme ≡ true
 plain_word x t plain e = by x.lexeme e where
@@ -79,7 +79,7 @@ plain_no_close t plain e = by (is_next (codes ")") t) refl where
 element_alike : {p : Pair} {c : ℕ} {t u : List Token} (judged : Bool) → Here p c t u → Alike p true c (c + 1) (element_at judged t) (element_at judged u)
 element_alike {p = p} {c = c} {t = t} {u = u} judged here = peeked plain_type (λ v. element_of v judged t) (λ v. element_of v judged u) (λ x t u. refl) here by where
   by : (v : Option TypeName) → plain_type t ≡ v → Alike p true c (c + 1) (element_of v judged t) (element_of v judged u)
-  by (Some plain) e = onward (omega arith) (one_quiet here (plain_no_close t plain e)) (ended plain (next here (plain_goes_on t plain e)))
+  by (Some plain) e = onward (omega arith) (one_unclosed here (plain_no_close t plain e)) (ended plain (next here (plain_goes_on t plain e)))
   by None e = class_type_alike judged here
 
 dimension_alike : {p : Pair} {c : ℕ} {t u : List Token} (brackets : List ℕ) → Here p c t u → Alike p true c (c + 1) (dimension_at brackets t) (dimension_at brackets u)
@@ -146,7 +146,7 @@ parameters_alike judged vars here =
 part_alike : {p : Pair} {c : ℕ} {t u : List Token} (judged : Bool) → Here p c t u → Alike p true c (c + 1) (part_at judged t) (part_at judged u)
 part_alike {t = t} judged here =
     either (is_next init) _ _ _ _ (λ x t u. refl) here
-    (λ is. onward (omega arith) (apart_quiet true init refl here is) (ended init (next here (next_goes_on init t is))))
+    (λ is. onward (omega arith) (apart_unclosed true init refl here is) (ended init (next here (next_goes_on init t is))))
     (λ other. judged_alike judged here)
 
 abbrev part_below : Bool → Parts → List Token → Bool → Parsed Parts

@@ -12,10 +12,10 @@ use Rattle.conspec_parse.specs.declared.type_name.TypeName.{TypeName}
 use Rattle.conspec_parse.specs.declared.fault.PolicyFault.{PolicyFault}
 use Rattle.conspec_parse.specs.declared.fault.PolicyFault.TheVariants as faults
 use Rattle.conspec_parse.specs.Fault.{Judged}
-use Rattle.conspec_parse.specs.Forms.{Parsed, behind, name_at, number_at, taken, is_short, repeated, each}
+use Rattle.conspec_parse.specs.Forms.{Parsed, following, name_at, number_at, taken, is_short, repeated, each}
 use Rattle.conspec_tokens.specs.Front.{front_at, is_next, next_name, next_number}
 use Rattle.conspec_parse.specs.Types.{judged_name, plain_type, next_part, class_at, class_type_at, element_of, element_at, dimension_at, type_at}
-use Rattle.conspec_parse.specs.Written.{Element, WrittenType, Written, one_name, element_spelled, brackets_spelled, type_spelled, policy_spelled}
+use Rattle.conspec_parse.specs.Written.{Element, WrittenType, Written, one_name, element_encoded, brackets_encoded, type_encoded, policy_encoded}
 use Rattle.conspec_parse.specs.Written.Element.{Class}
 use Rattle.conspec_parse.specs.Meaning.{lexemes}
 use Rattle.conspec_parse.specs.Deciding.{BeginsPolicy, IsInGrammar}
@@ -35,9 +35,9 @@ pub record Viable (words : List Lexeme) : Type 0 where
   pub written : Written
   pub whole : AllByRecursion IsInGrammar written.clauses
   pub more : List Lexeme
-  pub is : policy_spelled written ≡ words ++ more
+  pub is : policy_encoded written ≡ words ++ more
 
--- The tokens stand in the text behind some with which each of these words begins a written policy.
+-- The tokens stand in the text after some with which each of these words begins a written policy.
 pub record At (s : Source) (tokens : List Token) (Next : List Lexeme → Type 0) : Type 0 where
   pub before : List Token
   pub split : s.tokens ≡ before ++ tokens
@@ -120,13 +120,13 @@ begun {s = s} {tokens = tokens} words at next = by (at.meant words next) tokens 
   by v (x ∷ t) some split = record {
     before = at.before;
     here = x;
-    behind = t;
+    following = t;
     there = refl;
     split = split;
     written = v.written;
     whole = v.whole;
     more = words ++ v.more;
-    spelled = v.is ∙ append_assoc (lexemes at.before) words v.more;
+    encoded = v.is ∙ append_assoc (lexemes at.before) words v.more;
   }
 
 pub told : {X : Type 0} {s : Source} {tokens : List Token} {Next : List Lexeme → Type 0} {Is : X → Type 0} (words : List Lexeme) → At s tokens Next → Next words
@@ -164,16 +164,16 @@ moved {s = s} {tokens = tokens} {Next = Next} words at goes took = by tokens goe
       }
 
 pub after : {s : Source} {t : List Token} {Next : List Lexeme → Type 0} (text : List ℕ) (words : List Lexeme) → At s t Next → Next words
-    → Leads s (behind text t) (λ rest. At s rest (λ more. Next (Quoted text ∷ more)))
+    → Leads s (following text t) (λ rest. At s rest (λ more. Next (Quoted text ∷ more)))
 after {t = t} text words at next =
     either (is_next text t) _ _ (λ is. done (drop 1 t) (moved (Quoted text ∷ []) at (next_goes_on text t is) (next_is text t is))) (λ no. told words at next)
 
-pub taking : {V : Type 0} {s : Source} {t : List Token} {Next : List Lexeme → Type 0} (found : Option V) (spell : V → Lexeme) (words : List Lexeme) → At s t Next → Next words
-    → ((v : V) → found ≡ Some v → goes_on t ≡ true) → ((v : V) → found ≡ Some v → Took t (spell v ∷ []) (drop 1 t))
-    → Leads s (taken found t) (λ r. At s r.1 (λ more. Next (spell r.0 ∷ more)))
-taking {V = V} {s = s} {t = t} {Next = Next} found spell words at next goes took = by found refl where
-  by : (f : Option V) → found ≡ f → Leads s (taken f t) (λ r. At s r.1 (λ more. Next (spell r.0 ∷ more)))
-  by (Some v) e = done (v, drop 1 t) (moved (spell v ∷ []) at (goes v e) (took v e))
+pub taking : {V : Type 0} {s : Source} {t : List Token} {Next : List Lexeme → Type 0} (found : Option V) (encode : V → Lexeme) (words : List Lexeme) → At s t Next → Next words
+    → ((v : V) → found ≡ Some v → goes_on t ≡ true) → ((v : V) → found ≡ Some v → Took t (encode v ∷ []) (drop 1 t))
+    → Leads s (taken found t) (λ r. At s r.1 (λ more. Next (encode r.0 ∷ more)))
+taking {V = V} {s = s} {t = t} {Next = Next} found encode words at next goes took = by found refl where
+  by : (f : Option V) → found ≡ f → Leads s (taken f t) (λ r. At s r.1 (λ more. Next (encode r.0 ∷ more)))
+  by (Some v) e = done (v, drop 1 t) (moved (encode v ∷ []) at (goes v e) (took v e))
   by None e = told words at next
 
 pub naming : {s : Source} {t : List Token} {Next : List Lexeme → Type 0} (words : List Lexeme) → At s t Next → Next words
@@ -192,24 +192,24 @@ regroup Next a b c next = subst Next (append_assoc a b c) next
 pub unnest : (Next : List Lexeme → Type 0) (a c : List Lexeme) → Next ((a ++ []) ++ c) → Next (a ++ c)
 unnest Next a c next = subst (λ (w : List Lexeme). Next (w ++ c)) (append-nil a) next
 
-pub last_out : {X : Type 0} (Next : List Lexeme → Type 0) (spell : X → List Lexeme) (parts : List X) (part : X) (words : List Lexeme)
-    → Next (flat_map spell (parts ++ part ∷ []) ++ words) → Next (flat_map spell parts ++ (spell part ++ words))
-last_out Next spell parts part words next =
-    subst Next (ap (λ (w : List Lexeme). w ++ words) (sym (all_more_words spell parts part)) ∙ append_assoc (flat_map spell parts) (spell part) words) next
+pub last_out : {X : Type 0} (Next : List Lexeme → Type 0) (encode : X → List Lexeme) (parts : List X) (part : X) (words : List Lexeme)
+    → Next (flat_map encode (parts ++ part ∷ []) ++ words) → Next (flat_map encode parts ++ (encode part ++ words))
+last_out Next encode parts part words next =
+    subst Next (ap (λ (w : List Lexeme). w ++ words) (sym (all_more_words encode parts part)) ∙ append_assoc (flat_map encode parts) (encode part) words) next
 
 -- A written part has been read.
-pub record Reached {W : Type 0} (s : Source) (Next : List Lexeme → Type 0) (spell : W → List Lexeme) (t : List Token) : Type 0 where
+pub record Reached {W : Type 0} (s : Source) (Next : List Lexeme → Type 0) (encode : W → List Lexeme) (t : List Token) : Type 0 where
   pub written : W
-  pub at : At s t (λ more. Next (spell written ++ more))
+  pub at : At s t (λ more. Next (encode written ++ more))
 
 -- one part more
-pub grown : {W : Type 0} {s : Source} {t : List Token} (Next : List Lexeme → Type 0) (spell : W → List Lexeme) (parts : List W) (part : W)
-    → At s t (λ more. Next (flat_map spell parts ++ (spell part ++ more))) → Reached s Next (flat_map spell) t
-grown Next spell parts part at = record { written = parts ++ part ∷ []; at = meaning at (λ words next. last_out Next spell parts part words next) }
+pub grown : {W : Type 0} {s : Source} {t : List Token} (Next : List Lexeme → Type 0) (encode : W → List Lexeme) (parts : List W) (part : W)
+    → At s t (λ more. Next (flat_map encode parts ++ (encode part ++ more))) → Reached s Next (flat_map encode) t
+grown Next encode parts part at = record { written = parts ++ part ∷ []; at = meaning at (λ words next. last_out Next encode parts part words next) }
 
 -- no part yet
-pub none_yet : {W : Type 0} {s : Source} {t : List Token} (Next : List Lexeme → Type 0) (spell : W → List Lexeme) → At s t Next → Reached s Next (flat_map spell) t
-none_yet Next spell at = record { written = []; at = at }
+pub none_yet : {W : Type 0} {s : Source} {t : List Token} (Next : List Lexeme → Type 0) (encode : W → List Lexeme) → At s t Next → Reached s Next (flat_map encode) t
+none_yet Next encode at = record { written = []; at = at }
 
 -- ---- types
 
@@ -231,10 +231,10 @@ record IsClassPart (s : Source) (Next : List Lexeme → Type 0) (first : List �
 record IsClassAt (s : Source) (Next : List Lexeme → Type 0) (t : List Token) : Type 0 where
   first : List ℕ
   others : List (List ℕ)
-  at : At s t (λ more. Next (element_spelled (Class first others) ++ more))
+  at : At s t (λ more. Next (element_encoded (Class first others) ++ more))
 
 module _ (s : Source) (Next : List Lexeme → Type 0) (tail : List Lexeme) where
-  next_part_leads : (first class : List ℕ) (left : List Token) → ((others : List (List ℕ)) → Next (element_spelled (Class first others) ++ tail)) → IsClassPart s Next first left
+  next_part_leads : (first class : List ℕ) (left : List Token) → ((others : List (List ℕ)) → Next (element_encoded (Class first others) ++ tail)) → IsClassPart s Next first left
       → Leads s (next_part true class left) (λ r. IsClassPart s Next first r.1)
   unfolding next_part
   next_part_leads first class left goes part =
@@ -246,7 +246,7 @@ module _ (s : Source) (Next : List Lexeme → Type 0) (tail : List Lexeme) where
         at = meaning more (λ words next. last_out (λ (w : List Lexeme). Next (Name first ∷ w)) dot_name part.others name.0 words next);
       })
 
-  class_leads : {t : List Token} → At s t Next → ((e : Element) → Next (element_spelled e ++ tail)) → Leads s (class_at true t) (λ r. IsClassAt s Next r.1)
+  class_leads : {t : List Token} → At s t Next → ((e : Element) → Next (element_encoded e ++ tail)) → Leads s (class_at true t) (λ r. IsClassAt s Next r.1)
   unfolding class_at
   class_leads at goes =
       then _ (judged_leads (Name [] ∷ tail) at (goes (Class [] []))) λ first named.
@@ -254,27 +254,27 @@ module _ (s : Source) (Next : List Lexeme → Type 0) (tail : List Lexeme) where
       (λ class left more part. next_part_leads first.0 class left (λ others. goes (Class first.0 others)) part)
       first.0 first.1 (record { others = []; at = named })) λ r is. record { first = first.0; others = is.others; at = is.at }
 
-  class_type_leads : {t : List Token} → At s t Next → ((e : Element) → Next (element_spelled e ++ tail)) → Leads s (class_type_at true t) (λ r. Reached s Next element_spelled r.1)
+  class_type_leads : {t : List Token} → At s t Next → ((e : Element) → Next (element_encoded e ++ tail)) → Leads s (class_type_at true t) (λ r. Reached s Next element_encoded r.1)
   unfolding class_type_at
   class_type_leads at goes =
       then _ (class_leads at goes) λ class is.
       done _ (record { written = Class is.first is.others; at = is.at })
 
-  element_leads : {t : List Token} → At s t Next → ((e : Element) → Next (element_spelled e ++ tail)) → Leads s (element_at true t) (λ r. Reached s Next element_spelled r.1)
+  element_leads : {t : List Token} → At s t Next → ((e : Element) → Next (element_encoded e ++ tail)) → Leads s (element_at true t) (λ r. Reached s Next element_encoded r.1)
   element_leads {t = t} at goes = by (plain_type t) refl where
-    by : (found : Option TypeName) → plain_type t ≡ found → Leads s (element_of found true t) (λ r. Reached s Next element_spelled r.1)
+    by : (found : Option TypeName) → plain_type t ≡ found → Leads s (element_of found true t) (λ r. Reached s Next element_encoded r.1)
     by (Some plain) e =
         let is = plain_found t plain e in
-        done (plain, drop 1 t) (record { written = is.element; at = moved (element_spelled is.element) at (plain_goes_on t plain e) is.took })
+        done (plain, drop 1 t) (record { written = is.element; at = moved (element_encoded is.element) at (plain_goes_on t plain e) is.took })
     by None e = class_type_leads at goes
 
-  bracket_out : (n : ℕ) (words : List Lexeme) → Next (brackets_spelled (suc n) ++ words) → Next (brackets_spelled n ++ (Quoted (codes "[") ∷ Quoted (codes "]") ∷ words))
+  bracket_out : (n : ℕ) (words : List Lexeme) → Next (brackets_encoded (suc n) ++ words) → Next (brackets_encoded n ++ (Quoted (codes "[") ∷ Quoted (codes "]") ∷ words))
   bracket_out n words next =
-      regroup Next (brackets_spelled n) (Quoted (codes "[") ∷ Quoted (codes "]") ∷ []) words
+      regroup Next (brackets_encoded n) (Quoted (codes "[") ∷ Quoted (codes "]") ∷ []) words
       (subst (λ (w : List Lexeme). Next (w ++ words)) (sym (brackets_more n)) next)
 
-  dimension_leads : (brackets : List ℕ) (left : List Token) → ((n : ℕ) → Next (brackets_spelled n ++ tail)) → Reached s Next brackets_spelled left
-      → Leads s (dimension_at brackets left) (λ r. Reached s Next brackets_spelled r.1)
+  dimension_leads : (brackets : List ℕ) (left : List Token) → ((n : ℕ) → Next (brackets_encoded n ++ tail)) → Reached s Next brackets_encoded left
+      → Leads s (dimension_at brackets left) (λ r. Reached s Next brackets_encoded r.1)
   unfolding dimension_at
   dimension_leads brackets left goes are =
       let other = bracket_out are.written tail (goes (suc are.written)) in
@@ -282,17 +282,17 @@ module _ (s : Source) (Next : List Lexeme → Type 0) (tail : List Lexeme) where
       then _ (after (codes "]") (Quoted (codes "]") ∷ tail) at other) λ closed more.
       done (brackets ++ 91 ∷ [], closed) (record { written = suc are.written; at = meaning more (λ words next. bracket_out are.written words next) })
 
-pub type_leads : {s : Source} (Next : List Lexeme → Type 0) (tail : List Lexeme) {t : List Token} → At s t Next → ((w : WrittenType) → Next (type_spelled w ++ tail))
-    → Leads s (type_at true t) (λ r. Reached s Next type_spelled r.1)
+pub type_leads : {s : Source} (Next : List Lexeme → Type 0) (tail : List Lexeme) {t : List Token} → At s t Next → ((w : WrittenType) → Next (type_encoded w ++ tail))
+    → Leads s (type_at true t) (λ r. Reached s Next type_encoded r.1)
 unfolding type_at
 type_leads {s = s} Next tail at goes =
-    then _ (element_leads s Next tail at (λ e. unnest Next (element_spelled e) tail (goes (record { element = e; dimensions = 0 })))) λ element is.
-    let Further : List Lexeme → Type 0 = λ w. Next (element_spelled is.written ++ w) in
-    then _ (each_leads (is_next (codes "[")) dimension_at (λ brackets left. Reached s Further brackets_spelled left)
+    then _ (element_leads s Next tail at (λ e. unnest Next (element_encoded e) tail (goes (record { element = e; dimensions = 0 })))) λ element is.
+    let Further : List Lexeme → Type 0 = λ w. Next (element_encoded is.written ++ w) in
+    then _ (each_leads (is_next (codes "[")) dimension_at (λ brackets left. Reached s Further brackets_encoded left)
     (λ brackets left more are. dimension_leads s Further tail brackets left
-    (λ n. regroup Next (element_spelled is.written) (brackets_spelled n) tail (goes (record { element = is.written; dimensions = n }))) are)
+    (λ n. regroup Next (element_encoded is.written) (brackets_encoded n) tail (goes (record { element = is.written; dimensions = n }))) are)
     [] element.1 (record { written = 0; at = is.at })) λ brackets are.
     done _ (record {
       written = record { element = is.written; dimensions = are.written };
-      at = meaning are.at (λ words next. regroup Next (element_spelled is.written) (brackets_spelled are.written) words next);
+      at = meaning are.at (λ words next. regroup Next (element_encoded is.written) (brackets_encoded are.written) words next);
     })

@@ -32,7 +32,7 @@ use Rattle.conspec_parse.proofs.BegunPolicy.{policy_begins}
 
 -- ---- the tokens of a text
 
--- Each token stands behind the one before it, and the last is the end.
+-- Each token stands after the one before it, and the last is the end.
 record AreOrdered (at : ℕ) (tokens : List Token) : Type 0 where
   some : 0 < length tokens
   first : at ≤ front_at tokens
@@ -82,15 +82,15 @@ not_before {tokens = tokens} are i (suc n) lt =
     let two : front_at (drop (n + i) tokens) < front_at (drop (suc (n + i)) tokens) = are.rising (n + i) (omega arith) in
     rw same (omega arith)
 
-at_or_behind : {at : ℕ} {tokens : List Token} → AreOrdered at tokens → (i j : ℕ) → i ≤ j → j < length tokens → front_at (drop i tokens) ≤ front_at (drop j tokens)
-at_or_behind {tokens = tokens} are i j le lt = by (j - i) (omega arith) where
+at_or_after : {at : ℕ} {tokens : List Token} → AreOrdered at tokens → (i j : ℕ) → i ≤ j → j < length tokens → front_at (drop i tokens) ≤ front_at (drop j tokens)
+at_or_after {tokens = tokens} are i j le lt = by (j - i) (omega arith) where
   by : (n : ℕ) → n + i ≡ j → front_at (drop i tokens) ≤ front_at (drop j tokens)
   by n same = rw (sym same) (not_before are i n (omega arith))
 
 further : {at : ℕ} {tokens : List Token} → AreOrdered at tokens → (i j : ℕ) → i < j → j < length tokens → front_at (drop i tokens) < front_at (drop j tokens)
 further {tokens = tokens} are i j lt inside =
     let one = are.rising i (omega arith) in
-    let two = at_or_behind are (suc i) j (omega arith) inside in
+    let two = at_or_after are (suc i) j (omega arith) inside in
     omega arith
 
 -- ---- the whole
@@ -162,12 +162,12 @@ end_decided {p = p} {one = one} {other = other} fault (inl on) fails = by (is_en
       let both : Err (faults.Syntax (front_at on.left)) ≡ Err fault = sym told ∙ fails in
       let same : faults.Syntax (front_at on.left) ≡ fault = cc in
       let here = on.here in
-      let near : IsNear p (faults.Syntax (front_at on.left)) (on.behind + 1) = record { index = on.behind; inside = here.inside; at = ap front_at here.one; decided = omega arith } in
+      let near : IsNear p (faults.Syntax (front_at on.left)) (on.following + 1) = record { index = on.following; inside = here.inside; at = ap front_at here.one; decided = omega arith } in
       record {
-        count = on.behind + 1;
+        count = on.following + 1;
         stands = rw (sym same) (inl near);
         same = λ le.
-            let lt : on.behind < p.agreed = omega arith in
+            let lt : on.following < p.agreed = omega arith in
             let last : is_end on.rest ≡ false = sym (seen_same is_end (λ x t u. refl) on.here lt) ∙ e in
             let at : front_at on.rest ≡ front_at on.left = sym (front_same on.here lt) in
             let other_is : other >>= at_end ≡ Err (faults.Syntax (front_at on.left)) = rw (on.same lt, last, at) refl in
@@ -176,19 +176,19 @@ end_decided {p = p} {one = one} {other = other} fault (inl on) fails = by (is_en
 
 -- ---- the law
 
-shares : (before behind others : List Token) (last : Token) (c : ℕ) → c < suc (length before) → Shares (drop c (before ++ last ∷ behind)) (drop c (before ++ last ∷ others))
-shares [] behind others last zero lt = record { first = last; others = behind; more = others; one = refl; other = refl }
-shares [] behind others last (suc c) lt = absurd (omega arith)
-shares (x ∷ before) behind others last zero lt = record { first = x; others = before ++ last ∷ behind; more = before ++ last ∷ others; one = refl; other = refl }
-shares (x ∷ before) behind others last (suc c) lt = shares before behind others last c (omega arith)
+shares : (before following others : List Token) (last : Token) (c : ℕ) → c < suc (length before) → Shares (drop c (before ++ last ∷ following)) (drop c (before ++ last ∷ others))
+shares [] following others last zero lt = record { first = last; others = following; more = others; one = refl; other = refl }
+shares [] following others last (suc c) lt = absurd (omega arith)
+shares (x ∷ before) following others last zero lt = record { first = x; others = before ++ last ∷ following; more = before ++ last ∷ others; one = refl; other = refl }
+shares (x ∷ before) following others last (suc c) lt = shares before following others last c (omega arith)
 
-last_there : (before behind : List Token) (last : Token) → drop (length before) (before ++ last ∷ behind) ≡ last ∷ behind
-last_there [] behind last = refl
-last_there (x ∷ before) behind last = last_there before behind last
+last_there : (before following : List Token) (last : Token) → drop (length before) (before ++ last ∷ following) ≡ last ∷ following
+last_there [] following last = refl
+last_there (x ∷ before) following last = last_there before following last
 
-first_taken : (before behind : List Token) (last : Token) → take (suc (length before)) (before ++ last ∷ behind) ≡ before ++ last ∷ []
-first_taken [] behind last = refl
-first_taken (x ∷ before) behind last = ap (λ (xs : List Token). x ∷ xs) (first_taken before behind last)
+first_taken : (before following : List Token) (last : Token) → take (suc (length before)) (before ++ last ∷ following) ≡ before ++ last ∷ []
+first_taken [] following last = refl
+first_taken (x ∷ before) following last = ap (λ (xs : List Token). x ∷ xs) (first_taken before following last)
 
 module _ (before rest others : List Token) (last : Token) (are : AreOrdered 0 (before ++ last ∷ rest)) where
   abbrev pair : Pair
@@ -207,14 +207,14 @@ module _ (before rest others : List Token) (last : Token) (are : AreOrdered 0 (b
       → length before < index + ahead fault → Decides fault before last → ⊥
   not_near fault index inside at far decides = by fault at far decides where
     stands_at : length before ≤ index → last.at ≤ front_at (drop index (before ++ last ∷ rest))
-    stands_at le = let low = at_or_behind are (length before) index le inside in let same = last_at in omega arith
+    stands_at le = let low = at_or_after are (length before) index le inside in let same = last_at in omega arith
 
-    stands_behind : length before < index → last.at < front_at (drop index (before ++ last ∷ rest))
-    stands_behind lt = let low = further are (length before) index lt inside in let same = last_at in omega arith
+    stands_after : length before < index → last.at < front_at (drop index (before ++ last ∷ rest))
+    stands_after lt = let low = further are (length before) index lt inside in let same = last_at in omega arith
 
     by : (fault : PolicyFault) → place fault ≡ front_at (drop index (before ++ last ∷ rest)) → length before < index + ahead fault → Decides fault before last → ⊥
-    by (faults.Syntax at) there far decides = let low = stands_behind (omega arith) in omega arith
-    by (faults.Name at) there far decides = let low = stands_behind (omega arith) in omega arith
+    by (faults.Syntax at) there far decides = let low = stands_after (omega arith) in omega arith
+    by (faults.Name at) there far decides = let low = stands_after (omega arith) in omega arith
     by (faults.Kind at) there far decides = let low = stands_at (omega arith) in omega arith
     by (faults.Range at) there far decides = let low = stands_at (omega arith) in omega arith
     by (faults.NoMethod at) there far decides = let low = stands_at (omega arith) in let lt = decides.0 in omega arith
@@ -246,7 +246,7 @@ module _ (before rest others : List Token) (last : Token) (are : AreOrdered 0 (b
       let open_here : is_open (before ++ last ∷ []) ≡ true = rw (first_taken before rest last) at open_there in
       let no : false ≡ true = sym ended.1 ∙ open_here in
       cc)
-      (λ late. let high = at_or_behind are (length before) is.index late is.inside in omega arith)
+      (λ late. let high = at_or_after are (length before) is.index late is.inside in omega arith)
       (within is.index (length before))
 
   not_late : (fault : PolicyFault) (count : ℕ) → Stands false pair fault count → suc (length before) < count → Decides fault before last → ⊥

@@ -1,4 +1,4 @@
--- What is read is spelled so: names, types, parameters and methods.
+-- What is read is encoded so: names, types, parameters and methods.
 use Rattle.std.proofs.Common.{◌≡◌, ◌≢◌, ◌⊎◌, inl, inr, ⊎_elim, ℕ, zero, suc, ◌<◌, Bool, true, false, cond, List, [], ◌∷◌, ◌++◌, length, map, drop, get_or, replicate, Option, Some, None, refl, sym, ap, subst, ◌∙◌, arith, append_assoc}
 use Rattle.std.specs.Prelude.{not, codes, AllPairs, IsTrue, ◌||◌}
 use Rattle.std.specs.List.{AllByRecursion, flat_map}
@@ -7,7 +7,7 @@ use Rattle.std.proofs.lemmas.Grind.{flat_map-append}
 use Rattle.std.proofs.lemmas.List.{append-nil, map-append}
 use Rattle.std.proofs.lemmas.List.Quantifiers.{all_pairs_push}
 use Rattle.std.proofs.lemmas.Slice.Eq.{bytes_eq-Decides}
-use Rattle.api_listing.specs.Descriptor.{class_spelled}
+use Rattle.api_listing.specs.Descriptor.{class_encoded}
 use Rattle.conspec_tokens.specs.declared.token.Lexeme.{Lexeme}
 use Rattle.conspec_tokens.specs.declared.token.Lexeme.TheVariants.{Quoted, Name, Number, Wrong, End}
 use Rattle.conspec_tokens.specs.declared.token.Token.{Token}
@@ -17,19 +17,19 @@ use Rattle.conspec_parse.specs.declared.type_name.TypeName.{TypeName}
 use Rattle.conspec_parse.specs.declared.signature.Param.{Param}
 use Rattle.conspec_parse.specs.declared.fault.PolicyFault.TheVariants.{Twice, Limit}
 use Rattle.conspec_tokens.specs.Front.{front_at, quotes, is_next, is_name, names, next_name, counts, next_number}
-use Rattle.conspec_parse.specs.Forms.{behind, name_at, number_at, taken, is_short}
+use Rattle.conspec_parse.specs.Forms.{following, name_at, number_at, taken, is_short}
 use Rattle.conspec_parse.specs.Types.{judged_name, type_named, plain_type, next_part, class_at, class_type_at, element_of, element_at, dimension_at, array_of, type_at}
 use Rattle.conspec_tree.specs.Variables.{is_variable}
 use Rattle.conspec_tree.specs.Kinds.{kind_or_object}
 use Rattle.conspec_parse.specs.Methods.{is_named, is_parameter, is_free, given_name_at, parameter_name_at, parameter_at, next_parameter, some_parameters, parameters_at}
-use Rattle.conspec_parse.specs.Written.{Element, WrittenType, WrittenParam, led, one_name, element_spelled, brackets_spelled, type_spelled, name_spelled, param_spelled, params_spelled}
+use Rattle.conspec_parse.specs.Written.{Element, WrittenType, WrittenParam, led, one_name, element_encoded, brackets_encoded, type_encoded, name_encoded, param_encoded, params_encoded}
 use Rattle.conspec_parse.specs.Written.Element.{Void, Int, Boolean, Byte, Short, Char, Class}
 use Rattle.conspec_parse.specs.Meaning.{EachIs, AreShort, below, element_desc, element_kind, type_desc, kind_in, type_kind, param_of, element_names, optional, names_of_param, param_names, AreParams, lexemes}
 use Rattle.conspec_parse.proofs.Made.{Makes, done, then, tested, either, failed, given, taken_makes, said, each_makes}
 use Rattle.conspec_parse.proofs.Sound.{all_more, no_pairs}
 use Rattle.std.proofs.lemmas.Bool.{not-true, or_parts}
 
--- ---- spelled parts
+-- ---- encoded parts
 
 -- The tokens begin with these words, and go on with the rest.
 pub record Took (tokens : List Token) (words : List Lexeme) (rest : List Token) : Type 0 where
@@ -41,26 +41,26 @@ joins {c = c} {x = x} {y = y} p q = record { is = p.is ∙ ap (λ (w : List Lexe
 pub nothing : (tokens : List Token) → Took tokens [] tokens
 nothing tokens = record { is = refl }
 
-pub spelled_as : {a b : List Token} (x y : List Lexeme) → x ≡ y → Took a x b → Took a y b
-spelled_as {a = a} {b = b} x y e p = subst (λ (w : List Lexeme). Took a w b) e p
+pub encoded_as : {a b : List Token} (x y : List Lexeme) → x ≡ y → Took a x b → Took a y b
+encoded_as {a = a} {b = b} x y e p = subst (λ (w : List Lexeme). Took a w b) e p
 
--- What is read is what a written part says, and the part is spelled so.
-pub record Found {W X : Type 0} (spell : W → List Lexeme) (Says : W → X → Type 0) (tokens : List Token) (read : X × List Token) : Type 0 where
+-- What is read is what a written part says, and the part is encoded so.
+pub record Found {W X : Type 0} (encode : W → List Lexeme) (Says : W → X → Type 0) (tokens : List Token) (read : X × List Token) : Type 0 where
   pub written : W
-  pub took : Took tokens (spell written) read.1
+  pub took : Took tokens (encode written) read.1
   pub says : Says written read.0
 
-pub led_more : {X : Type 0} (sign : List ℕ) (spell : X → List Lexeme) (parts : List X) (part : X)
-    → led sign spell parts ++ Quoted sign ∷ spell part ≡ led sign spell (parts ++ part ∷ [])
-led_more sign spell parts part =
-    ap (λ (w : List Lexeme). led sign spell parts ++ Quoted sign ∷ w) (sym (append-nil (spell part)))
-    ∙ sym (flat_map-append (λ p. Quoted sign ∷ spell p) parts (part ∷ []))
+pub led_more : {X : Type 0} (sign : List ℕ) (encode : X → List Lexeme) (parts : List X) (part : X)
+    → led sign encode parts ++ Quoted sign ∷ encode part ≡ led sign encode (parts ++ part ∷ [])
+led_more sign encode parts part =
+    ap (λ (w : List Lexeme). led sign encode parts ++ Quoted sign ∷ w) (sym (append-nil (encode part)))
+    ∙ sym (flat_map-append (λ p. Quoted sign ∷ encode p) parts (part ∷ []))
 
-pub all_more_words : {X : Type 0} (spell : X → List Lexeme) (parts : List X) (part : X)
-    → flat_map spell parts ++ spell part ≡ flat_map spell (parts ++ part ∷ [])
-all_more_words spell parts part =
-    ap (λ (w : List Lexeme). flat_map spell parts ++ w) (sym (append-nil (spell part)))
-    ∙ sym (flat_map-append spell parts (part ∷ []))
+pub all_more_words : {X : Type 0} (encode : X → List Lexeme) (parts : List X) (part : X)
+    → flat_map encode parts ++ encode part ≡ flat_map encode (parts ++ part ∷ [])
+all_more_words encode parts part =
+    ap (λ (w : List Lexeme). flat_map encode parts ++ w) (sym (append-nil (encode part)))
+    ∙ sym (flat_map-append encode parts (part ∷ []))
 
 pub each_more : {X Y : Type 0} (Is : X → Y → Type 0) (xs : List X) (ys : List Y) (x : X) (y : Y) → EachIs Is xs ys → Is x y → EachIs Is (xs ++ x ∷ []) (ys ++ y ∷ [])
 each_more Is [] [] x y are is = (is, tt)
@@ -81,8 +81,8 @@ pub next_is : (text : List ℕ) (tokens : List Token) → is_next text tokens �
 next_is text [] e = absurd cc
 next_is text (t ∷ tokens) e = record { is = ap (λ (l : Lexeme). l ∷ lexemes tokens) (quotes_is text t.lexeme e) }
 
-pub behind_found : (text : List ℕ) (tokens : List Token) → Makes (behind text tokens) (λ rest. Took tokens (Quoted text ∷ []) rest)
-behind_found text tokens = either (is_next text tokens) _ _ (λ holds. done (drop 1 tokens) (next_is text tokens holds)) (λ fails. failed _)
+pub after_found : (text : List ℕ) (tokens : List Token) → Makes (following text tokens) (λ rest. Took tokens (Quoted text ∷ []) rest)
+after_found text tokens = either (is_next text tokens) _ _ (λ holds. done (drop 1 tokens) (next_is text tokens holds)) (λ fails. failed _)
 
 names_is : (l : Lexeme) (name : List ℕ) → names l ≡ Some name → l ≡ Name name
 names_is (Quoted word) name e = absurd cc
@@ -106,10 +106,10 @@ pub next_number_is : (tokens : List Token) (n : ℕ) → next_number tokens ≡ 
 next_number_is [] n e = absurd cc
 next_number_is (t ∷ tokens) n e = record { is = ap (λ (l : Lexeme). l ∷ lexemes tokens) (counts_is t.lexeme n e) }
 
-pub taken_found : {X : Type 0} (found : Option X) (spell : X → Lexeme) (tokens : List Token)
-    → ((x : X) → found ≡ Some x → Took tokens (spell x ∷ []) (drop 1 tokens)) → Makes (taken found tokens) (λ r. Took tokens (spell r.0 ∷ []) r.1)
-taken_found found spell tokens told =
-    said (taken_makes found tokens) λ r is. subst (λ (rest : List Token). Took tokens (spell r.0 ∷ []) rest) (sym is.1) (told r.0 is.0)
+pub taken_found : {X : Type 0} (found : Option X) (encode : X → Lexeme) (tokens : List Token)
+    → ((x : X) → found ≡ Some x → Took tokens (encode x ∷ []) (drop 1 tokens)) → Makes (taken found tokens) (λ r. Took tokens (encode r.0 ∷ []) r.1)
+taken_found found encode tokens told =
+    said (taken_makes found tokens) λ r is. subst (λ (rest : List Token). Took tokens (encode r.0 ∷ []) rest) (sym is.1) (told r.0 is.0)
 
 pub name_found : (tokens : List Token) → Makes (name_at tokens) (λ r. Took tokens (one_name r.0) r.1)
 name_found tokens = taken_found (next_name tokens) (λ name. Name name) tokens (next_name_is tokens)
@@ -128,15 +128,15 @@ judged_found tokens =
 
 pub record IsPlain (tokens : List Token) (type : TypeName) : Type 0 where
   pub element : Element
-  pub took : Took tokens (element_spelled element) (drop 1 tokens)
+  pub took : Took tokens (element_encoded element) (drop 1 tokens)
   pub is : type ≡ type_named (element_desc element) (element_kind element)
   pub unnamed : element_names element ≡ []
 
-plain_is : (tokens : List Token) (type : TypeName) (word : List ℕ) (e : Element) → element_spelled e ≡ Quoted word ∷ [] → element_names e ≡ []
+plain_is : (tokens : List Token) (type : TypeName) (word : List ℕ) (e : Element) → element_encoded e ≡ Quoted word ∷ [] → element_names e ≡ []
     → (is_next word tokens ≡ true) × (type_named (element_desc e) (element_kind e) ≡ type) → IsPlain tokens type
-plain_is tokens type word e spelled unnamed h = record {
+plain_is tokens type word e encoded unnamed h = record {
   element = e;
-  took = spelled_as (Quoted word ∷ []) (element_spelled e) (sym spelled) (next_is word tokens h.0);
+  took = encoded_as (Quoted word ∷ []) (element_encoded e) (sym encoded) (next_is word tokens h.0);
   is = sym h.1;
   unnamed = unnamed;
 }
@@ -173,46 +173,46 @@ part_found : (start : List Token) (first class : List ℕ) (tokens : List Token)
     → Makes (next_part true class tokens) (Found (led (codes ".") one_name) (IsClassWith first) start)
 unfolding next_part
 part_found start first class tokens before =
-    then _ (behind_found (codes ".") tokens) λ dot one.
+    then _ (after_found (codes ".") tokens) λ dot one.
     then _ (judged_found dot) λ name two.
     done (class ++ 47 ∷ name.0, name.1) (record {
       written = before.written ++ name.0 ∷ [];
-      took = spelled_as _ _ (led_more (codes ".") one_name before.written name.0) (joins before.took (joins one two.0));
+      took = encoded_as _ _ (led_more (codes ".") one_name before.written name.0) (joins before.took (joins one two.0));
       says = (ap (λ (c : List ℕ). c ++ 47 ∷ name.0) before.says.0 ∙ below_more first name.0 before.written, all_more (λ (n : List ℕ). IsTrue (is_short n)) before.written name.0 before.says.1 two.1);
     })
 
 abbrev NamesClass : Element → List ℕ → Type 0
-NamesClass e class = (class_spelled class ≡ element_desc e) × (element_kind e ≡ Some kinds.Object) × AreShort (element_names e)
+NamesClass e class = (class_encoded class ≡ element_desc e) × (element_kind e ≡ Some kinds.Object) × AreShort (element_names e)
 
-class_found : (tokens : List Token) → Makes (class_at true tokens) (Found element_spelled NamesClass tokens)
+class_found : (tokens : List Token) → Makes (class_at true tokens) (Found element_encoded NamesClass tokens)
 unfolding class_at
 class_found tokens =
     then _ (judged_found tokens) λ first one.
     said (each_makes (is_next (codes ".")) (next_part true) (λ class left. Found (led (codes ".") one_name) (IsClassWith first.0) first.1 (class, left))
     (λ class left goes before. part_found first.1 first.0 class left before)
     first.0 first.1 (record { written = []; took = nothing first.1; says = (sym (append-nil first.0), tt) })) λ r others.
-    record { written = Class first.0 others.written; took = joins one.0 others.took; says = (ap class_spelled others.says.0, refl, (one.1, others.says.1)) }
+    record { written = Class first.0 others.written; took = joins one.0 others.took; says = (ap class_encoded others.says.0, refl, (one.1, others.says.1)) }
 
 abbrev IsElement : Element → TypeName → Type 0
 IsElement e type = (type ≡ type_named (element_desc e) (element_kind e)) × AreShort (element_names e)
 
-class_type_found : (tokens : List Token) → Makes (class_type_at true tokens) (Found element_spelled IsElement tokens)
+class_type_found : (tokens : List Token) → Makes (class_type_at true tokens) (Found element_encoded IsElement tokens)
 unfolding class_type_at
 class_type_found tokens =
     then _ (class_found tokens) λ class is.
     let d = is.says.0 in
     let k = is.says.1 in
-    done (type_named (class_spelled class.0) (Some kinds.Object), class.1) (record { written = is.written; took = is.took; says = (rw (d, k) refl, is.says.2) })
+    done (type_named (class_encoded class.0) (Some kinds.Object), class.1) (record { written = is.written; took = is.took; says = (rw (d, k) refl, is.says.2) })
 
-element_found : (tokens : List Token) → Makes (element_at true tokens) (Found element_spelled IsElement tokens)
+element_found : (tokens : List Token) → Makes (element_at true tokens) (Found element_encoded IsElement tokens)
 element_found tokens = by (plain_type tokens) refl where
-  by : (found : Option TypeName) → plain_type tokens ≡ found → Makes (element_of found true tokens) (Found element_spelled IsElement tokens)
+  by : (found : Option TypeName) → plain_type tokens ≡ found → Makes (element_of found true tokens) (Found element_encoded IsElement tokens)
   by (Some type) e =
       let is = plain_found tokens type e in
       done (type, drop 1 tokens) (record { written = is.element; took = is.took; says = (is.is, subst AreShort (sym is.unnamed) tt) })
   by None e = class_type_found tokens
 
-pub brackets_more : (n : ℕ) → brackets_spelled n ++ Quoted (codes "[") ∷ Quoted (codes "]") ∷ [] ≡ brackets_spelled (suc n)
+pub brackets_more : (n : ℕ) → brackets_encoded n ++ Quoted (codes "[") ∷ Quoted (codes "]") ∷ [] ≡ brackets_encoded (suc n)
 brackets_more zero = refl
 brackets_more (suc n) = ap (λ (w : List Lexeme). Quoted (codes "[") ∷ Quoted (codes "]") ∷ w) (brackets_more n)
 
@@ -223,15 +223,15 @@ replicate_more (suc n) x = ap (λ (w : List ℕ). x ∷ w) (replicate_more n x)
 abbrev AreBrackets : ℕ → List ℕ → Type 0
 AreBrackets n brackets = brackets ≡ replicate n 91
 
-dimension_found : (start : List Token) (brackets : List ℕ) (tokens : List Token) → Found brackets_spelled AreBrackets start (brackets, tokens)
-    → Makes (dimension_at brackets tokens) (Found brackets_spelled AreBrackets start)
+dimension_found : (start : List Token) (brackets : List ℕ) (tokens : List Token) → Found brackets_encoded AreBrackets start (brackets, tokens)
+    → Makes (dimension_at brackets tokens) (Found brackets_encoded AreBrackets start)
 unfolding dimension_at
 dimension_found start brackets tokens before =
-    then _ (behind_found (codes "[") tokens) λ opened one.
-    then _ (behind_found (codes "]") opened) λ closed two.
+    then _ (after_found (codes "[") tokens) λ opened one.
+    then _ (after_found (codes "]") opened) λ closed two.
     done (brackets ++ 91 ∷ [], closed) (record {
       written = suc before.written;
-      took = spelled_as _ _ (brackets_more before.written) (joins before.took (joins one two));
+      took = encoded_as _ _ (brackets_more before.written) (joins before.took (joins one two));
       says = ap (λ (b : List ℕ). b ++ 91 ∷ []) before.says ∙ replicate_more before.written 91;
     })
 
@@ -242,11 +242,11 @@ array_is (suc n) e = refl
 abbrev pub IsType : WrittenType → TypeName → Type 0
 IsType written type = (type ≡ type_named (type_desc written) (type_kind written)) × AreShort (element_names written.element)
 
-pub type_found : (tokens : List Token) → Makes (type_at true tokens) (Found type_spelled IsType tokens)
+pub type_found : (tokens : List Token) → Makes (type_at true tokens) (Found type_encoded IsType tokens)
 unfolding type_at
 type_found tokens =
     then _ (element_found tokens) λ element one.
-    then _ (each_makes (is_next (codes "[")) dimension_at (λ brackets left. Found brackets_spelled AreBrackets element.1 (brackets, left))
+    then _ (each_makes (is_next (codes "[")) dimension_at (λ brackets left. Found brackets_encoded AreBrackets element.1 (brackets, left))
     (λ brackets left goes before. dimension_found element.1 brackets left before)
     [] element.1 (record { written = 0; took = nothing element.1; says = refl })) λ brackets two.
     let is = one.says.0 in
@@ -300,7 +300,7 @@ given_found vars params tokens =
     done name (one, (free.0, free.1, short))
 
 parameter_name_found : (vars : List Var) (params : List Param) (tokens : List Token)
-    → Makes (parameter_name_at true vars params tokens) (Found name_spelled (IsParamName vars params) tokens)
+    → Makes (parameter_name_at true vars params tokens) (Found name_encoded (IsParamName vars params) tokens)
 parameter_name_found vars params tokens =
     either (is_name tokens) _ _
     (λ named. then _ (given_found vars params tokens) λ name is. done (Some name.0, name.1) (record { written = Some name.0; took = is.0; says = (refl, is.1) }))
@@ -341,7 +341,7 @@ one_more_param vars written type name are short given = by name given where
 
 pub record IsNextParam (vars : List Var) (before : List WrittenParam) (tokens : List Token) (read : List Param × List Token) : Type 0 where
   pub written : WrittenParam
-  pub took : Took tokens (param_spelled written) read.1
+  pub took : Took tokens (param_encoded written) read.1
   pub says : AreParamsOf vars (before ++ written ∷ []) read.0
 
 parameter_found : (vars : List Var) (before : List WrittenParam) (params : List Param) (tokens : List Token) → AreParamsOf vars before params
@@ -365,28 +365,28 @@ parameter_found vars before params tokens are =
     })
 
 next_parameter_found : (vars : List Var) (first : WrittenParam) (start : List Token) (params : List Param) (tokens : List Token)
-    → Found (led (codes ",") param_spelled) (λ others ps. AreParamsOf vars (first ∷ others) ps) start (params, tokens)
-    → Makes (next_parameter true vars params tokens) (Found (led (codes ",") param_spelled) (λ others ps. AreParamsOf vars (first ∷ others) ps) start)
+    → Found (led (codes ",") param_encoded) (λ others ps. AreParamsOf vars (first ∷ others) ps) start (params, tokens)
+    → Makes (next_parameter true vars params tokens) (Found (led (codes ",") param_encoded) (λ others ps. AreParamsOf vars (first ∷ others) ps) start)
 unfolding next_parameter
 next_parameter_found vars first start params tokens before =
-    then _ (behind_found (codes ",") tokens) λ comma one.
+    then _ (after_found (codes ",") tokens) λ comma one.
     said (parameter_found vars (first ∷ before.written) params comma before.says) λ r two.
     record {
       written = before.written ++ two.written ∷ [];
-      took = spelled_as _ _ (led_more (codes ",") param_spelled before.written two.written) (joins before.took (joins one two.took));
+      took = encoded_as _ _ (led_more (codes ",") param_encoded before.written two.written) (joins before.took (joins one two.took));
       says = two.says;
     }
 
-some_parameters_found : (vars : List Var) (tokens : List Token) → Makes (some_parameters true vars tokens) (Found params_spelled (AreParamsOf vars) tokens)
+some_parameters_found : (vars : List Var) (tokens : List Token) → Makes (some_parameters true vars tokens) (Found params_encoded (AreParamsOf vars) tokens)
 unfolding some_parameters
 some_parameters_found vars tokens =
     then _ (parameter_found vars [] [] tokens (record { is = refl; fit = record { once = no_pairs (λ (a b : List ℕ). a ≢ b); own = tt; short = tt } })) λ first one.
-    said (each_makes (is_next (codes ",")) (next_parameter true vars) (λ params left. Found (led (codes ",") param_spelled) (λ others ps. AreParamsOf vars (one.written ∷ others) ps) first.1 (params, left))
+    said (each_makes (is_next (codes ",")) (next_parameter true vars) (λ params left. Found (led (codes ",") param_encoded) (λ others ps. AreParamsOf vars (one.written ∷ others) ps) first.1 (params, left))
     (λ params left goes before. next_parameter_found vars one.written first.1 params left before)
     first.0 first.1 (record { written = []; took = nothing first.1; says = one.says })) λ r two.
     record { written = one.written ∷ two.written; took = joins one.took two.took; says = two.says }
 
-pub parameters_found : (vars : List Var) (tokens : List Token) → Makes (parameters_at true vars tokens) (Found params_spelled (AreParamsOf vars) tokens)
+pub parameters_found : (vars : List Var) (tokens : List Token) → Makes (parameters_at true vars tokens) (Found params_encoded (AreParamsOf vars) tokens)
 parameters_found vars tokens =
     either (is_next (codes ")") tokens) _ _
     (λ none. done ([], tokens) (record { written = []; took = nothing tokens; says = record { is = refl; fit = record { once = no_pairs (λ (a b : List ℕ). a ≢ b); own = tt; short = tt } } }))

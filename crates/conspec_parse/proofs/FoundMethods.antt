@@ -1,4 +1,4 @@
--- What is read is spelled so: the method of a clause.
+-- What is read is encoded so: the method of a clause.
 use Rattle.std.proofs.Common.{◌≡◌, ◌≢◌, ℕ, ◌≤◌, Bool, true, false, List, [], ◌∷◌, ◌++◌, length, map, drop, Option, Some, None, Ok, Err, refl, sym, ap, subst, ◌∙◌, arith, append_assoc}
 use Rattle.std.specs.Prelude.{not, codes, nat_le, IsTrue}
 use Rattle.std.specs.List.{flat_map}
@@ -25,13 +25,13 @@ use Rattle.conspec_parse.specs.Forms.{Parsed, is_short}
 use Rattle.conspec_tokens.specs.Front.{front_at, is_next}
 use Rattle.conspec_parse.specs.Methods.{init, part_at, class_under, next_step, path_at, signature_at, desc_of, index_at, listed_method, method_at}
 use Rattle.conspec_tree.specs.Clauses.{has_clause}
-use Rattle.conspec_parse.specs.Written.{WrittenParam, MethodName, dotted, method_spelled, path_spelled, signature_spelled}
+use Rattle.conspec_parse.specs.Written.{WrittenParam, MethodName, dotted, method_encoded, path_encoded, signature_encoded}
 use Rattle.conspec_parse.specs.Written.MethodName.{Constructor, Plain}
 use Rattle.conspec_parse.specs.Meaning.{AreShort, below, joined, param_of, AreParams, method_bytes, method_names, IsMethodIn}
 use Rattle.conspec_parse.proofs.Made.{Makes, done, then, tested, either, failed, any, given, said, each_makes}
 use Rattle.conspec_parse.proofs.Sound.{all_more}
 use Rattle.conspec_parse.proofs.Loose.{signature_loose}
-use Rattle.conspec_parse.proofs.Found.{Took, joins, spelled_as, Found, all_more_words, next_is, behind_found, judged_found, AreParamsOf, parameters_found}
+use Rattle.conspec_parse.proofs.Found.{Took, joins, encoded_as, Found, all_more_words, next_is, after_found, judged_found, AreParamsOf, parameters_found}
 
 -- ---- the class and the name
 
@@ -43,8 +43,8 @@ pub record WrittenPath : Type 0 where
   pub class : List (List ℕ)
   pub method : MethodName
 
-abbrev parts_spelled : WrittenPath → List Lexeme
-parts_spelled w = path_spelled w.class w.method
+abbrev parts_encoded : WrittenPath → List Lexeme
+parts_encoded w = path_encoded w.class w.method
 
 -- the class so far, if any
 abbrev class_of : List (List ℕ) → Option (List ℕ)
@@ -64,7 +64,7 @@ pub record IsPart (written : MethodName) (is_last : Bool) (name : List ℕ) : Ty
   pub short : AreShort (method_names written)
 
 abbrev one_method : MethodName → List Lexeme
-one_method m = method_spelled m ∷ []
+one_method m = method_encoded m ∷ []
 
 part_found : (tokens : List Token) → Makes (part_at true tokens) (Found one_method (λ m name. IsPart m (is_next init tokens) name) tokens)
 part_found tokens =
@@ -79,25 +79,25 @@ joined_more (first ∷ others) name =
     ∙ ap (λ (w : List ℕ). first ++ w) (ap (λ (w : List ℕ). flat_map below others ++ 47 ∷ w) (sym (append-nil name)) ∙ sym (flat_map-append below others (name ∷ []))))
 
 pub path_more : (class : List (List ℕ)) (name : List ℕ) (m : MethodName)
-    → path_spelled class (Plain name) ++ Quoted (codes ".") ∷ one_method m ≡ path_spelled (class ++ name ∷ []) m
+    → path_encoded class (Plain name) ++ Quoted (codes ".") ∷ one_method m ≡ path_encoded (class ++ name ∷ []) m
 path_more class name m =
     append_assoc (flat_map dotted class) (Name name ∷ []) (Quoted (codes ".") ∷ one_method m)
     ∙ sym (append_assoc (flat_map dotted class) (dotted name) (one_method m))
     ∙ ap (λ (w : List Lexeme). w ++ one_method m) (all_more_words dotted class name)
 
-step_found : (start : List Token) (parts : Parts) (tokens : List Token) → Found parts_spelled AreParts start (parts, tokens)
-    → Makes (next_step true parts tokens) (Found parts_spelled AreParts start)
+step_found : (start : List Token) (parts : Parts) (tokens : List Token) → Found parts_encoded AreParts start (parts, tokens)
+    → Makes (next_step true parts tokens) (Found parts_encoded AreParts start)
 unfolding next_step
 step_found start parts tokens before =
     tested (not parts.is_last) (Syntax (front_at tokens)) _ λ below.
-    then _ (behind_found (codes ".") tokens) λ dot one.
+    then _ (after_found (codes ".") tokens) λ dot one.
     then _ (part_found dot) λ part two.
     done (record { class = Some (class_under parts.class parts.name); name = part.0; is_last = is_next init dot }, part.1)
     (by before.written.method refl (not-true _ below) dot part.0 part.1 one two)
   where
     by : (m : MethodName) → before.written.method ≡ m → parts.is_last ≡ false → (dot : List Token) (name : List ℕ) (rest : List Token) → Took tokens (Quoted (codes ".") ∷ []) dot
         → Found one_method (λ n word. IsPart n (is_next init dot) word) dot (name, rest)
-        → Found parts_spelled AreParts start (record { class = Some (class_under parts.class parts.name); name = name; is_last = is_next init dot }, rest)
+        → Found parts_encoded AreParts start (record { class = Some (class_under parts.class parts.name); name = name; is_last = is_next init dot }, rest)
     by Constructor is free dot name rest one two =
         let last : is_constructor before.written.method ≡ true = ap is_constructor is in
         let same = before.says.last in
@@ -106,11 +106,11 @@ step_found start parts tokens before =
         let class = before.written.class in
         let before_class : parts.class ≡ class_of class = before.says.class in
         let before_name : parts.name ≡ word = before.says.name ∙ ap method_bytes is in
-        let took : Took start (path_spelled class (Plain word)) tokens = spelled_as _ _ (ap (λ (m : MethodName). path_spelled class m) is) before.took in
+        let took : Took start (path_encoded class (Plain word)) tokens = encoded_as _ _ (ap (λ (m : MethodName). path_encoded class m) is) before.took in
         let short : AreShort (word ∷ []) = subst (λ (m : MethodName). AreShort (method_names m)) is before.says.short_method in
         record {
           written = record { class = class ++ word ∷ []; method = two.written };
-          took = spelled_as _ _ (path_more class word two.written) (joins took (joins one two.took));
+          took = encoded_as _ _ (path_more class word two.written) (joins took (joins one two.took));
           says = record {
             class = rw (before_class, before_name) (joined_more class word);
             name = two.says.name_is;
@@ -131,11 +131,11 @@ class_is : (names : List (List ℕ)) (class : List ℕ) → class_of names ≡ S
 class_is [] class e = absurd cc
 class_is (name ∷ names) class e = (cc, λ nil. cc)
 
-pub path_found : (tokens : List Token) → Makes (path_at true tokens) (Found parts_spelled IsPath tokens)
+pub path_found : (tokens : List Token) → Makes (path_at true tokens) (Found parts_encoded IsPath tokens)
 unfolding path_at
 path_found tokens =
     then _ (judged_found tokens) λ first one.
-    then _ (each_makes (is_next (codes ".")) (next_step true) (λ parts left. Found parts_spelled AreParts tokens (parts, left))
+    then _ (each_makes (is_next (codes ".")) (next_step true) (λ parts left. Found parts_encoded AreParts tokens (parts, left))
     (λ parts left goes before. step_found tokens parts left before)
     (record { class = None; name = first.0; is_last = false }) first.1 (record {
       written = record { class = []; method = Plain first.0 };
@@ -154,20 +154,20 @@ pub record WrittenSignature : Type 0 where
   pub path : WrittenPath
   pub params : List WrittenParam
 
-abbrev pub spelled : WrittenSignature → List Lexeme
-spelled w = signature_spelled w.path.class w.path.method w.params
+abbrev pub encoded : WrittenSignature → List Lexeme
+encoded w = signature_encoded w.path.class w.path.method w.params
 
 pub record IsSignature (vars : List Var) (written : WrittenSignature) (signature : Signature) : Type 0 where
   pub path : IsPath written.path signature.path
   pub params : AreParamsOf vars written.params signature.params
 
-signature_found : (vars : List Var) (tokens : List Token) → Makes (signature_at true vars tokens) (Found spelled (IsSignature vars) tokens)
+signature_found : (vars : List Var) (tokens : List Token) → Makes (signature_at true vars tokens) (Found encoded (IsSignature vars) tokens)
 unfolding signature_at
 signature_found vars tokens =
     then _ (path_found tokens) λ path one.
-    then _ (behind_found (codes "(") path.1) λ opened two.
+    then _ (after_found (codes "(") path.1) λ opened two.
     then _ (parameters_found vars opened) λ params three.
-    then _ (behind_found (codes ")") params.1) λ closed four.
+    then _ (after_found (codes ")") params.1) λ closed four.
     done (record { path = path.0; params = params.0 }, closed) (record {
       written = record { path = one.written; params = three.written };
       took = joins one.took (joins two (joins three.took four));
@@ -175,7 +175,7 @@ signature_found vars tokens =
     })
 
 both_found : (vars : List Var) (tokens : List Token)
-    → Makes (signature_at true vars tokens) (λ r. Found spelled (IsSignature vars) tokens r × (signature_at false vars tokens ≡ Ok r))
+    → Makes (signature_at true vars tokens) (λ r. Found encoded (IsSignature vars) tokens r × (signature_at false vars tokens ≡ Ok r))
 both_found vars tokens = record { of = λ r e. ((signature_found vars tokens).of r e, (signature_loose vars tokens).read r e) }
 
 -- ---- the method
@@ -232,10 +232,10 @@ listed_from methods vars clauses phase result written signature method s i =
     }
 
 pub method_found : (methods : List ListedMethod) (vars : List Var) (clauses : List TreeClause) (phase : Phase) (result : List ℕ) (tokens : List Token)
-    → Makes (method_at methods vars clauses phase result tokens) (Found spelled (IsListed methods vars clauses phase result) tokens)
+    → Makes (method_at methods vars clauses phase result tokens) (Found encoded (IsListed methods vars clauses phase result) tokens)
 method_found methods vars clauses phase result tokens = by (signature_at false vars tokens) refl where
   by : (loose : Parsed Signature) → signature_at false vars tokens ≡ loose
-      → Makes (listed_method methods vars clauses phase result tokens loose) (Found spelled (IsListed methods vars clauses phase result) tokens)
+      → Makes (listed_method methods vars clauses phase result tokens loose) (Found encoded (IsListed methods vars clauses phase result) tokens)
   by (Ok read) e =
       then _ (index_found methods clauses phase (front_at tokens) read.0 (desc_of read.0.params result)) λ method is.
       then _ (both_found vars tokens) λ judged two.

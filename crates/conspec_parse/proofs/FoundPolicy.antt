@@ -1,4 +1,4 @@
--- What is read is spelled so: clauses, variables and the whole.
+-- What is read is encoded so: clauses, variables and the whole.
 use Rattle.std.proofs.Common.{◌≡◌, ◌≢◌, ⊎_elim, ℕ, zero, suc, ◌+◌, ◌≤◌, ℤ, pos, Bool, true, false, cond, List, [], ◌∷◌, ◌++◌, length, map, drop, take, Option, Some, None, refl, sym, ap, subst, ◌∙◌, arith, append_assoc}
 use Rattle.std.specs.Prelude.{is_some, not, codes, nat_lt, nat_le, int_le, ◌||◌, ◌&&◌, ◌==◌}
 use Rattle.std.specs.List.{flat_map}
@@ -36,21 +36,21 @@ use Rattle.conspec_parse.specs.Head.{header_at, truth_at, count_at, first_at, be
 use Rattle.conspec_parse.specs.Clauses.{next_phase, begins_clause, is_assigned, given_result_at, result_name_at, scope_of, clause_of, clause_of_method, clause_of_type, clause_at}
 use Rattle.conspec_tree.specs.Clauses.{is_after}
 use Rattle.conspec_parse.specs.Policy.{policy_at, reading}
-use Rattle.conspec_parse.specs.Written.{WrittenType, WrittenClause, WrittenVar, Written, phase_spelled, result_spelled, clause_spelled, first_spelled, variable_word, variable_spelled, header_spelled, policy_spelled}
-use Rattle.conspec_parse.specs.Meaning.{EachIs, type_desc, type_kind, param_of, AreGuards, IsResult, MayName, IsMethodIn, IsClause, IsFirst, IsVar, lexemes, SpellsPolicy}
+use Rattle.conspec_parse.specs.Written.{WrittenType, WrittenClause, WrittenVar, Written, phase_encoded, result_encoded, clause_encoded, first_encoded, variable_word, variable_encoded, header_encoded, policy_encoded}
+use Rattle.conspec_parse.specs.Meaning.{EachIs, type_desc, type_kind, param_of, AreGuards, IsResult, MayName, IsMethodIn, IsClause, IsFirst, IsVar, lexemes, EncodesPolicy}
 use Rattle.conspec_parse.proofs.Made.{Makes, done, then, tested, either, failed, given, said, together, each_makes}
 use Rattle.conspec_parse.proofs.SoundClauses.{policy_at_sound}
-use Rattle.conspec_parse.proofs.Found.{Took, joins, nothing, spelled_as, Found, all_more_words, each_more, next_is, behind_found, name_found, number_found, which, IsType, type_found}
+use Rattle.conspec_parse.proofs.Found.{Took, joins, nothing, encoded_as, Found, all_more_words, each_more, next_is, after_found, name_found, number_found, which, IsType, type_found}
 use Rattle.conspec_parse.proofs.FoundMethods.{WrittenSignature, IsListed, method_found}
 use Rattle.conspec_parse.proofs.FoundGuards.{WrittenBody, AreGuardsOf, body_found, int_low}
 
 -- ---- the parts of a clause
 
-phase_is : (tokens : List Token) (phase : Phase) (word : List ℕ) (p : Phase) → phase_spelled p ≡ Quoted word → (is_next word tokens ≡ true) × (p ≡ phase) → Took tokens (phase_spelled phase ∷ []) (drop 1 tokens)
+phase_is : (tokens : List Token) (phase : Phase) (word : List ℕ) (p : Phase) → phase_encoded p ≡ Quoted word → (is_next word tokens ≡ true) × (p ≡ phase) → Took tokens (phase_encoded phase ∷ []) (drop 1 tokens)
 phase_is tokens phase word p is h =
-    spelled_as (Quoted word ∷ []) (phase_spelled phase ∷ []) (ap (λ (l : Lexeme). l ∷ []) (sym is ∙ ap phase_spelled h.1)) (next_is word tokens h.0)
+    encoded_as (Quoted word ∷ []) (phase_encoded phase ∷ []) (ap (λ (l : Lexeme). l ∷ []) (sym is ∙ ap phase_encoded h.1)) (next_is word tokens h.0)
 
-pub phase_found : (tokens : List Token) (phase : Phase) → next_phase tokens ≡ Some phase → Took tokens (phase_spelled phase ∷ []) (drop 1 tokens)
+pub phase_found : (tokens : List Token) (phase : Phase) → next_phase tokens ≡ Some phase → Took tokens (phase_encoded phase ∷ []) (drop 1 tokens)
 phase_found tokens phase e =
     ⊎_elim (phase_is tokens phase (codes "BEFORE") Before refl) (λ e1.
     ⊎_elim (phase_is tokens phase (codes "AFTER") After refl) (λ e2.
@@ -72,18 +72,18 @@ abbrev IsNamed : List Var → Phase → Option Kind → Option (List ℕ) → Op
 IsNamed vars phase kind written name = (name ≡ written) × MayName vars phase kind written
 
 given_result_found : (vars : List Var) (kind : Option Kind) (tokens : List Token)
-    → Makes (given_result_at vars kind tokens) (λ r. Took tokens (result_spelled (Some r.0)) r.1 × IsResult vars After kind r.0)
+    → Makes (given_result_at vars kind tokens) (λ r. Took tokens (result_encoded (Some r.0)) r.1 × IsResult vars After kind r.0)
 unfolding given_result_at
 given_result_found vars kind tokens =
     then _ (name_found tokens) λ name one.
     tested (is_some kind) (WrongKind (front_at tokens)) _ λ valued.
     tested (not (is_variable vars name.0)) (Twice (front_at tokens)) _ λ once.
     tested (is_short name.0) (Limit (front_at tokens)) _ λ short.
-    then _ (behind_found (codes "=") name.1) λ equals two.
+    then _ (after_found (codes "=") name.1) λ equals two.
     done (name.0, equals) (joins one two, record { at_return = refl; given = some_kind kind valued; own = not-true _ once; short = short })
 
 result_found : (vars : List Var) (phase : Phase) (kind : Option Kind) (tokens : List Token)
-    → Makes (result_name_at vars phase kind tokens) (Found result_spelled (IsNamed vars phase kind) tokens)
+    → Makes (result_name_at vars phase kind tokens) (Found result_encoded (IsNamed vars phase kind) tokens)
 result_found vars phase kind tokens =
     either (is_after phase && is_assigned tokens) _ _
     (λ holds. then _ (given_result_found vars kind tokens) λ name is.
@@ -121,12 +121,12 @@ clause_made methods vars maxint clauses phase type wt name wn method ws guards w
       is = ap (λ (ps : List Param). clause_of method.0 phase ps type.kind guards) params ∙ ap (λ (k : Option Kind). clause_of method.0 phase (map param_of ws.params) k guards) kind;
     }
 
-abbrev clauses_spelled : List WrittenClause → List Lexeme
-clauses_spelled ws = flat_map clause_spelled ws
+abbrev clauses_encoded : List WrittenClause → List Lexeme
+clauses_encoded ws = flat_map clause_encoded ws
 
 clause_found : (methods : List ListedMethod) (vars : List Var) (maxint : ℤ) (start : List Token) (clauses : List TreeClause) (tokens : List Token)
-    → Found clauses_spelled (EachIs (IsClause methods vars maxint)) start (clauses, tokens)
-    → Makes (clause_at methods vars maxint clauses tokens) (Found clauses_spelled (EachIs (IsClause methods vars maxint)) start)
+    → Found clauses_encoded (EachIs (IsClause methods vars maxint)) start (clauses, tokens)
+    → Makes (clause_at methods vars maxint clauses tokens) (Found clauses_encoded (EachIs (IsClause methods vars maxint)) start)
 unfolding clause_at clause_of_type clause_of_method
 clause_found methods vars maxint start clauses tokens before =
     tested (nat_lt (length clauses) 64) (Limit (front_at tokens)) _ λ few.
@@ -134,7 +134,7 @@ clause_found methods vars maxint start clauses tokens before =
     then _ (type_found (drop 1 tokens)) λ type two.
     then _ (result_found vars phase type.0.kind type.1) λ result three.
     then _ (method_found methods vars clauses phase type.0.desc result.1) λ method four.
-    then _ (behind_found (codes "PERFORM") method.1) λ performs five.
+    then _ (after_found (codes "PERFORM") method.1) λ performs five.
     then _ (body_found (scope_of vars phase method.0.1 result.0 type.0.kind) maxint performs) λ guards six.
     let w : WrittenClause = record {
       phase = phase;
@@ -147,10 +147,10 @@ clause_found methods vars maxint start clauses tokens before =
       otherwise = six.written.otherwise;
     } in
     let c : TreeClause = clause_of method.0.0 phase method.0.1 type.0.kind guards.0 in
-    let took : Took tokens (clause_spelled w) guards.1 = joins (phase_found tokens phase one) (joins two.took (joins three.took (joins four.took (joins five six.took)))) in
+    let took : Took tokens (clause_encoded w) guards.1 = joins (phase_found tokens phase one) (joins two.took (joins three.took (joins four.took (joins five six.took)))) in
     done (clauses ++ c ∷ [], guards.1) (record {
       written = before.written ++ w ∷ [];
-      took = spelled_as _ _ (all_more_words clause_spelled before.written w) (joins before.took took);
+      took = encoded_as _ _ (all_more_words clause_encoded before.written w) (joins before.took took);
       says = each_more (IsClause methods vars maxint) before.written clauses w c before.says
           (clause_made methods vars maxint clauses phase type.0 two.written result.0 three.written method.0 four.written guards.0 six.written two.says three.says four.says six.says);
     })
@@ -159,7 +159,7 @@ clause_found methods vars maxint start clauses tokens before =
 
 pub record IsHead (tokens : List Token) (read : ℤ × List Token) : Type 0 where
   pub written : ℕ
-  pub took : Took tokens (header_spelled written) read.1
+  pub took : Took tokens (header_encoded written) read.1
   pub is : read.0 ≡ pos written
   pub low : 1 ≤ written
   pub high : written ≤ 1000000000
@@ -167,13 +167,13 @@ pub record IsHead (tokens : List Token) (read : ℤ × List Token) : Type 0 wher
 header_found : (tokens : List Token) → Makes (header_at tokens) (IsHead tokens)
 unfolding header_at
 header_found tokens =
-    then _ (behind_found (codes "MAXINT") tokens) λ number a.
+    then _ (after_found (codes "MAXINT") tokens) λ number a.
     then _ (number_found number) λ maxint b.
     tested (nat_le 1 maxint.0 && nat_le maxint.0 1000000000) (Range (front_at number)) _ λ ranged.
-    then _ (behind_found (codes "SCOPE") maxint.1) λ scope c.
-    then _ (behind_found (codes "Session") scope) λ session d.
-    then _ (behind_found (codes "SECURITY") session) λ security e.
-    then _ (behind_found (codes "STATE") security) λ state f.
+    then _ (after_found (codes "SCOPE") maxint.1) λ scope c.
+    then _ (after_found (codes "Session") scope) λ session d.
+    then _ (after_found (codes "SECURITY") session) λ security e.
+    then _ (after_found (codes "STATE") security) λ state f.
     let r = and_parts (nat_le 1 maxint.0) (nat_le maxint.0 1000000000) ranged in
     done (pos maxint.0, state) (record { written = maxint.0; took = joins a (joins b (joins c (joins d (joins e f)))); is = refl; low = leb-true _ _ r.0; high = leb-true _ _ r.1 })
 
@@ -181,7 +181,7 @@ header_found tokens =
 
 pub record IsFirstValue (maxint : ℤ) (is_bool : Bool) (tokens : List Token) (read : ℤ × List Token) : Type 0 where
   pub written : ℕ
-  pub took : Took tokens (first_spelled is_bool written ∷ []) read.1
+  pub took : Took tokens (first_encoded is_bool written ∷ []) read.1
   pub is : read.0 ≡ pos written
   pub fits : IsFirst maxint is_bool written
 
@@ -212,27 +212,27 @@ word_found tokens goes = by (is_next (codes "bool") tokens) refl (is_next (codes
   by false e true f or = next_is (codes "int") tokens f
   by false e false f or = absurd cc
 
-abbrev variables_spelled : List WrittenVar → List Lexeme
-variables_spelled ws = flat_map variable_spelled ws
+abbrev variables_encoded : List WrittenVar → List Lexeme
+variables_encoded ws = flat_map variable_encoded ws
 
 variable_found : (maxint : ℤ) (start : List Token) (vars : List Var) (tokens : List Token) → begins_variable tokens ≡ true
-    → Found variables_spelled (EachIs (IsVar maxint)) start (vars, tokens) → Makes (variable_at maxint vars tokens) (Found variables_spelled (EachIs (IsVar maxint)) start)
+    → Found variables_encoded (EachIs (IsVar maxint)) start (vars, tokens) → Makes (variable_at maxint vars tokens) (Found variables_encoded (EachIs (IsVar maxint)) start)
 unfolding variable_at
 variable_found maxint start vars tokens goes before =
     tested (nat_lt (length vars) 16) (Limit (front_at tokens)) _ λ few.
     then _ (name_found (drop 1 tokens)) λ name one.
     tested (not (is_variable vars name.0)) (Twice (front_at (drop 1 tokens))) _ λ once.
     tested (is_short name.0) (Limit (front_at (drop 1 tokens))) _ λ short.
-    then _ (behind_found (codes "=") name.1) λ equals two.
+    then _ (after_found (codes "=") name.1) λ equals two.
     then _ (first_found maxint (is_next (codes "bool") tokens) equals) λ first three.
-    then _ (behind_found (codes ";") first.1) λ ended four.
+    then _ (after_found (codes ";") first.1) λ ended four.
     let b = is_next (codes "bool") tokens in
     let w : WrittenVar = record { is_bool = b; name = name.0; first = three.written } in
     let v : Var = record { name = name.0; is_bool = b; first = first.0 } in
     let same : v ≡ record { name = name.0; is_bool = b; first = pos three.written } = ap (λ (z : ℤ). record { name = name.0; is_bool = b; first = z }) three.is in
     done (vars ++ v ∷ [], ended) (record {
       written = before.written ++ w ∷ [];
-      took = spelled_as _ _ (all_more_words variable_spelled before.written w) (joins before.took (joins (word_found tokens goes) (joins one (joins two (joins three.took four)))));
+      took = encoded_as _ _ (all_more_words variable_encoded before.written w) (joins before.took (joins (word_found tokens goes) (joins one (joins two (joins three.took four)))));
       says = each_more (IsVar maxint) before.written vars w v before.says (record { is = same; short = short; ranged = three.fits });
     })
 
@@ -252,8 +252,8 @@ pub record IsWhole (listing : Listing) (tokens : List Token) (tree : PolicyTree)
   pub written : Written
   pub rest : List Token
   pub front : List Lexeme
-  pub front_is : policy_spelled written ≡ front ++ End ∷ []
-  pub took : Took tokens (policy_spelled written) rest
+  pub front_is : policy_encoded written ≡ front ++ End ∷ []
+  pub took : Took tokens (policy_encoded written) rest
   pub maxint : tree.maxint ≡ pos written.maxint
   pub low : 1 ≤ written.maxint
   pub high : written.maxint ≤ 1000000000
@@ -264,16 +264,16 @@ whole_found : (listing : Listing) (tokens : List Token) → Makes (policy_at lis
 unfolding policy_at
 whole_found listing tokens =
     then _ (header_found tokens) λ maxint one.
-    then _ (each_makes begins_variable (variable_at maxint.0) (λ vars left. Found variables_spelled (EachIs (IsVar maxint.0)) maxint.1 (vars, left))
+    then _ (each_makes begins_variable (variable_at maxint.0) (λ vars left. Found variables_encoded (EachIs (IsVar maxint.0)) maxint.1 (vars, left))
     (λ vars left goes before. variable_found maxint.0 maxint.1 vars left goes before)
     [] maxint.1 (record { written = []; took = nothing maxint.1; says = tt })) λ vars two.
-    then _ (each_makes begins_clause (clause_at listing.methods vars.0 maxint.0) (λ clauses left. Found clauses_spelled (EachIs (IsClause listing.methods vars.0 maxint.0)) vars.1 (clauses, left))
+    then _ (each_makes begins_clause (clause_at listing.methods vars.0 maxint.0) (λ clauses left. Found clauses_encoded (EachIs (IsClause listing.methods vars.0 maxint.0)) vars.1 (clauses, left))
     (λ clauses left goes before. clause_found listing.methods vars.0 maxint.0 vars.1 clauses left before)
     [] vars.1 (record { written = []; took = nothing vars.1; says = tt })) λ clauses three.
     tested (is_end clauses.1) (Syntax (front_at clauses.1)) _ λ ended.
-    let h = header_spelled one.written in
-    let v = variables_spelled two.written in
-    let c = clauses_spelled three.written in
+    let h = header_encoded one.written in
+    let v = variables_encoded two.written in
+    let c = clauses_encoded three.written in
     done (record { maxint = maxint.0; vars = vars.0; clauses = clauses.0 }) (record {
       written = record { maxint = one.written; vars = two.written; clauses = three.written };
       rest = drop 1 clauses.1;
@@ -325,17 +325,17 @@ seen_no_end Comment b text = no_end_either (b == 10) _ _ tt tt
 seen_no_end (Inside zero) b text = no_end b text
 seen_no_end (Inside (suc n)) b text = tt
 
-not_behind_nothing : (front rest : List Lexeme) → [] ≡ front ++ End ∷ rest → rest ≡ []
-not_behind_nothing [] rest e = absurd cc
-not_behind_nothing (l ∷ front) rest e = absurd cc
+not_after_nothing : (front rest : List Lexeme) → [] ≡ front ++ End ∷ rest → rest ≡ []
+not_after_nothing [] rest e = absurd cc
+not_after_nothing (l ∷ front) rest e = absurd cc
 
 abbrev EndsLast : List Lexeme → Type 0
 EndsLast words = (front rest : List Lexeme) → words ≡ front ++ End ∷ rest → rest ≡ []
 
-behind_token : (at : ℕ) (text : List ℕ) (more : ℕ) → ((next : Spot) → EndsLast (lexemes (tokens_from next (at + 1) text))) → (wrong : Bool) (front rest : List Lexeme)
+after_token : (at : ℕ) (text : List ℕ) (more : ℕ) → ((next : Spot) → EndsLast (lexemes (tokens_from next (at + 1) text))) → (wrong : Bool) (front rest : List Lexeme)
     → lexemes (option_map_or (λ next. tokens_from next (at + 1) text) (cond wrong None (Some (Inside more))) []) ≡ front ++ End ∷ rest → rest ≡ []
-behind_token at text more later true front rest is = not_behind_nothing front rest is
-behind_token at text more later false front rest is = later (Inside more) front rest is
+after_token at text more later true front rest is = not_after_nothing front rest is
+after_token at text more later false front rest is = later (Inside more) front rest is
 
 next_ends : (at : ℕ) (text : List ℕ) (piece : Piece) → NoEnd piece → ((next : Spot) → EndsLast (lexemes (tokens_from next (at + 1) text)))
     → EndsLast (lexemes (begun at piece ++ option_map_or (λ next. tokens_from next (at + 1) text) (next_spot piece) []))
@@ -344,25 +344,25 @@ next_ends at text (Begins l more) none later [] rest e =
     let is : l ≡ End = cc in
     let ended : ends l ≡ true = ap ends is in
     absurd cc
-next_ends at text (Begins l more) none later (w ∷ front) rest e = behind_token at text more later (is_wrong l) front rest cc
+next_ends at text (Begins l more) none later (w ∷ front) rest e = after_token at text more later (is_wrong l) front rest cc
 
 ends_last : (spot : Spot) (at : ℕ) (text : List ℕ) → EndsLast (lexemes (tokens_from spot at text))
 ends_last spot at [] [] rest e = cc
-ends_last spot at [] (l ∷ front) rest e = not_behind_nothing front rest cc
+ends_last spot at [] (l ∷ front) rest e = not_after_nothing front rest cc
 ends_last spot at (b ∷ text) front rest e =
     next_ends at text (seen spot b (b ∷ text)) (seen_no_end spot b (b ∷ text)) (λ next. ends_last next (at + 1) text) front rest e
 
-all_tokens : (text : List ℕ) (front : List Lexeme) (written : Written) (rest : List Token) → policy_spelled written ≡ front ++ End ∷ [] → Took (tokens_of text) (policy_spelled written) rest
-    → lexemes (tokens_of text) ≡ policy_spelled written
+all_tokens : (text : List ℕ) (front : List Lexeme) (written : Written) (rest : List Token) → policy_encoded written ≡ front ++ End ∷ [] → Took (tokens_of text) (policy_encoded written) rest
+    → lexemes (tokens_of text) ≡ policy_encoded written
 unfolding tokens_of
 all_tokens text front written rest front_is took =
     let whole : lexemes (tokens_from (Inside 0) 0 text) ≡ front ++ End ∷ lexemes rest =
     took.is ∙ ap (λ (w : List Lexeme). w ++ lexemes rest) front_is ∙ append_assoc front (End ∷ []) (lexemes rest) in
     let none : lexemes rest ≡ [] = ends_last (Inside 0) 0 text front (lexemes rest) whole in
-    took.is ∙ ap (λ (w : List Lexeme). policy_spelled written ++ w) none ∙ append-nil (policy_spelled written)
+    took.is ∙ ap (λ (w : List Lexeme). policy_encoded written ++ w) none ∙ append-nil (policy_encoded written)
 
--- Every policy that is read is spelled by its text.
-pub policy_found : (text : List ℕ) (listing : Listing) → Makes (reading text listing) (SpellsPolicy text listing)
+-- Every policy that is read is encoded by its text.
+pub policy_found : (text : List ℕ) (listing : Listing) → Makes (reading text listing) (EncodesPolicy text listing)
 policy_found text listing = said (together (whole_found listing (tokens_of text)) (policy_at_sound listing (tokens_of text))) λ tree is.
     let w = is.0 in
     let s = is.1 in

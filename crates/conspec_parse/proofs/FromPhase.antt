@@ -1,4 +1,4 @@
--- A clause of which what stands behind its type is read by itself.
+-- A clause of which what stands after its type is read by itself.
 use Rattle.std.proofs.Common.{◌≡◌, true, ℤ, List, length, drop, nat_lt, Some, Ok, refl}
 use Rattle.api_listing.specs.declared.types.ListedMethod.{ListedMethod}
 use Rattle.conspec_tokens.specs.declared.token.Token.{Token}

@@ -1,4 +1,4 @@
--- What is spelled is read, made from the laws of the parts, a line for each part, in the reading's order.
+-- What is encoded is read, made from the laws of the parts, a line for each part, in the reading's order.
 use Rattle.std.proofs.Common.{◌≡◌, ℕ, zero, suc, ◌≤◌, Bool, true, false, cond, List, [], ◌∷◌, ◌++◌, length, drop, Option, Some, None, Ok, refl, sym, ap, subst, ◌∙◌, arith, append_assoc, length-append}
 use Rattle.std.specs.Prelude.{is_some, ok_or, bytes_eq}
 use Rattle.std.specs.List.{flat_map}
@@ -10,7 +10,7 @@ use Rattle.conspec_tokens.specs.declared.token.Lexeme.TheVariants.{Quoted, Name,
 use Rattle.conspec_tokens.specs.declared.token.Token.{Token}
 use Rattle.conspec_parse.specs.declared.fault.PolicyFault.{PolicyFault}
 use Rattle.conspec_parse.specs.Fault.{Judged}
-use Rattle.conspec_parse.specs.Forms.{Parsed, behind, taken, name_at, number_at, repeated, each}
+use Rattle.conspec_parse.specs.Forms.{Parsed, following, taken, name_at, number_at, repeated, each}
 use Rattle.conspec_tokens.specs.Front.{quotes, is_next, names, next_name, is_name, counts, next_number}
 use Rattle.conspec_parse.specs.Meaning.{lexemes}
 
@@ -108,8 +108,8 @@ same_bytes text = (bytes_eq-Decides text text).1 refl
 pub next_quoted : (text : List ℕ) (tokens : List Token) (words : List Lexeme) → lexemes tokens ≡ Quoted text ∷ words → is_next text tokens ≡ true
 next_quoted text tokens words e = next_at text tokens (Quoted text ∷ words) e ∙ same_bytes text
 
-pub behind_again : (text : List ℕ) (tokens : List Token) (words : List Lexeme) → lexemes tokens ≡ Quoted text ∷ words → Left (behind text tokens) words
-behind_again text tokens words e =
+pub after_again : (text : List ℕ) (tokens : List Token) (words : List Lexeme) → lexemes tokens ≡ Quoted text ∷ words → Left (following text tokens) words
+after_again text tokens words e =
     let is = next_quoted text tokens words e in
     record { rest = drop 1 tokens; is = rw is refl; left = drop_one tokens (Quoted text) words e }
 
@@ -134,49 +134,49 @@ abbrev pub Stops : (List Token → Bool) → List Lexeme → Type 0
 Stops more words = (tokens : List Token) → lexemes tokens ≡ words → more tokens ≡ false
 
 -- the laws of a part that is repeated
-pub record Parts {S W : Type 0} (more : List Token → Bool) (part : S → List Token → Parsed S) (spell : W → List Lexeme) (Follows : List Lexeme → Type 0) (Goes : S → W → S → Type 0) : Type 0 where
-  pub begins : (w : W) (words : List Lexeme) (tokens : List Token) → lexemes tokens ≡ spell w ++ words → more tokens ≡ true
-  pub leads : (w : W) (words : List Lexeme) → Follows (spell w ++ words)
-  pub long : (w : W) → 1 ≤ length (spell w)
-  pub step : (s : S) (w : W) (next : S) (tokens : List Token) (words : List Lexeme) → Goes s w next → lexemes tokens ≡ spell w ++ words → Follows words → Got (part s tokens) next words
+pub record Parts {S W : Type 0} (more : List Token → Bool) (part : S → List Token → Parsed S) (encode : W → List Lexeme) (Follows : List Lexeme → Type 0) (Goes : S → W → S → Type 0) : Type 0 where
+  pub begins : (w : W) (words : List Lexeme) (tokens : List Token) → lexemes tokens ≡ encode w ++ words → more tokens ≡ true
+  pub leads : (w : W) (words : List Lexeme) → Follows (encode w ++ words)
+  pub long : (w : W) → 1 ≤ length (encode w)
+  pub step : (s : S) (w : W) (next : S) (tokens : List Token) (words : List Lexeme) → Goes s w next → lexemes tokens ≡ encode w ++ words → Follows words → Got (part s tokens) next words
 
-follows : {W : Type 0} (spell : W → List Lexeme) (Follows : List Lexeme → Type 0) (leads : (w : W) (words : List Lexeme) → Follows (spell w ++ words))
-    (ws : List W) (words : List Lexeme) → Follows words → Follows (flat_map spell ws ++ words)
-follows spell Follows leads [] words last = last
-follows spell Follows leads (w ∷ ws) words last = subst Follows (sym (append_assoc (spell w) (flat_map spell ws) words)) (leads w (flat_map spell ws ++ words))
+follows : {W : Type 0} (encode : W → List Lexeme) (Follows : List Lexeme → Type 0) (leads : (w : W) (words : List Lexeme) → Follows (encode w ++ words))
+    (ws : List W) (words : List Lexeme) → Follows words → Follows (flat_map encode ws ++ words)
+follows encode Follows leads [] words last = last
+follows encode Follows leads (w ∷ ws) words last = subst Follows (sym (append_assoc (encode w) (flat_map encode ws) words)) (leads w (flat_map encode ws ++ words))
 
-repeated_again : {S W : Type 0} (more : List Token → Bool) (part : S → List Token → Parsed S) (spell : W → List Lexeme) (Follows : List Lexeme → Type 0) (Goes : S → W → S → Type 0)
-    → Parts more part spell Follows Goes → (ws : List W) (n : ℕ) (s end : S) (tokens : List Token) (words : List Lexeme) → length ws ≤ n → Path Goes s ws end
-    → lexemes tokens ≡ flat_map spell ws ++ words → Follows words → Stops more words → Got (repeated more part n s tokens) end words
+repeated_again : {S W : Type 0} (more : List Token → Bool) (part : S → List Token → Parsed S) (encode : W → List Lexeme) (Follows : List Lexeme → Type 0) (Goes : S → W → S → Type 0)
+    → Parts more part encode Follows Goes → (ws : List W) (n : ℕ) (s end : S) (tokens : List Token) (words : List Lexeme) → length ws ≤ n → Path Goes s ws end
+    → lexemes tokens ≡ flat_map encode ws ++ words → Follows words → Stops more words → Got (repeated more part n s tokens) end words
 unfolding repeated
-repeated_again more part spell Follows Goes laws [] zero s end tokens words le path e last stops = ended_as s end tokens path e
-repeated_again more part spell Follows Goes laws [] (suc n) s end tokens words le path e last stops =
+repeated_again more part encode Follows Goes laws [] zero s end tokens words le path e last stops = ended_as s end tokens path e
+repeated_again more part encode Follows Goes laws [] (suc n) s end tokens words le path e last stops =
     on_false (more tokens) _ _ (stops tokens e) (ended_as s end tokens path e)
-repeated_again more part spell Follows Goes laws (w ∷ ws) zero s end tokens words le path e last stops = absurd (omega arith)
-repeated_again more part spell Follows Goes laws (w ∷ ws) (suc n) s end tokens words le path e last stops =
-    let all : lexemes tokens ≡ spell w ++ (flat_map spell ws ++ words) = e ∙ append_assoc (spell w) (flat_map spell ws) words in
+repeated_again more part encode Follows Goes laws (w ∷ ws) zero s end tokens words le path e last stops = absurd (omega arith)
+repeated_again more part encode Follows Goes laws (w ∷ ws) (suc n) s end tokens words le path e last stops =
+    let all : lexemes tokens ≡ encode w ++ (flat_map encode ws ++ words) = e ∙ append_assoc (encode w) (flat_map encode ws) words in
     let few : length ws ≤ n = omega arith in
-    on_true (more tokens) _ _ (laws.begins w (flat_map spell ws ++ words) tokens all) (
-    gets (λ r. repeated more part n r.0 r.1) (laws.step s w path.0 tokens (flat_map spell ws ++ words) path.1 all (follows spell Follows laws.leads ws words last)) λ rest left.
-    repeated_again more part spell Follows Goes laws ws n path.0 end rest words few path.2 left last stops)
+    on_true (more tokens) _ _ (laws.begins w (flat_map encode ws ++ words) tokens all) (
+    gets (λ r. repeated more part n r.0 r.1) (laws.step s w path.0 tokens (flat_map encode ws ++ words) path.1 all (follows encode Follows laws.leads ws words last)) λ rest left.
+    repeated_again more part encode Follows Goes laws ws n path.0 end rest words few path.2 left last stops)
 
-many : {W : Type 0} (spell : W → List Lexeme) (long : (w : W) → 1 ≤ length (spell w)) (ws : List W) → length ws ≤ length (flat_map spell ws)
-many spell long [] = omega arith
-many spell long (w ∷ ws) =
+many : {W : Type 0} (encode : W → List Lexeme) (long : (w : W) → 1 ≤ length (encode w)) (ws : List W) → length ws ≤ length (flat_map encode ws)
+many encode long [] = omega arith
+many encode long (w ∷ ws) =
     let one = long w in
-    let others = many spell long ws in
-    let both = length-append (spell w) (flat_map spell ws) in
+    let others = many encode long ws in
+    let both = length-append (encode w) (flat_map encode ws) in
     omega arith
 
-pub each_again : {S W : Type 0} (more : List Token → Bool) (part : S → List Token → Parsed S) (spell : W → List Lexeme) (Follows : List Lexeme → Type 0) (Goes : S → W → S → Type 0)
-    → Parts more part spell Follows Goes → (ws : List W) (s end : S) (tokens : List Token) (words : List Lexeme) → Path Goes s ws end
-    → lexemes tokens ≡ flat_map spell ws ++ words → Follows words → Stops more words → Got (each more part s tokens) end words
-each_again more part spell Follows Goes laws ws s end tokens words path e last stops =
-    let some = many spell laws.long ws in
-    let both = length-append (flat_map spell ws) words in
+pub each_again : {S W : Type 0} (more : List Token → Bool) (part : S → List Token → Parsed S) (encode : W → List Lexeme) (Follows : List Lexeme → Type 0) (Goes : S → W → S → Type 0)
+    → Parts more part encode Follows Goes → (ws : List W) (s end : S) (tokens : List Token) (words : List Lexeme) → Path Goes s ws end
+    → lexemes tokens ≡ flat_map encode ws ++ words → Follows words → Stops more words → Got (each more part s tokens) end words
+each_again more part encode Follows Goes laws ws s end tokens words path e last stops =
+    let some = many encode laws.long ws in
+    let both = length-append (flat_map encode ws) words in
     let size : length (lexemes tokens) ≡ length tokens = length-map tokens (λ (t : Token). t.lexeme) in
-    let all : length tokens ≡ length (flat_map spell ws ++ words) = sym size ∙ ap length e in
-    repeated_again more part spell Follows Goes laws ws (length tokens) s end tokens words (omega arith) path e last stops
+    let all : length tokens ≡ length (flat_map encode ws ++ words) = sym size ∙ ap length e in
+    repeated_again more part encode Follows Goes laws ws (length tokens) s end tokens words (omega arith) path e last stops
 
 -- ---- lists that grow
 

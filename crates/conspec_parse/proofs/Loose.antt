@@ -10,7 +10,7 @@ use Rattle.conspec_parse.specs.declared.signature.Parts.{Parts}
 use Rattle.conspec_parse.specs.declared.fault.PolicyFault.{PolicyFault}
 use Rattle.conspec_parse.specs.declared.fault.PolicyFault.TheVariants.{Syntax, Twice, Limit}
 use Rattle.conspec_parse.specs.Fault.{Judged}
-use Rattle.conspec_parse.specs.Forms.{Parsed, behind, name_at, is_short, repeated, each}
+use Rattle.conspec_parse.specs.Forms.{Parsed, following, name_at, is_short, repeated, each}
 use Rattle.conspec_tokens.specs.Front.{front_at, is_next, is_name}
 use Rattle.conspec_parse.specs.Types.{judged_name, plain_type, next_part, class_at, class_type_at, element_of, element_at, dimension_at, type_at}
 use Rattle.conspec_parse.specs.Methods.{is_free, given_name_at, parameter_name_at, parameter_at, next_parameter, some_parameters, parameters_at, init, part_at, next_step, path_at, signature_at}
@@ -76,7 +76,7 @@ name_loose tokens =
 part_loose : (class : List ℕ) (tokens : List Token) → Loosens (next_part true class tokens) (next_part false class tokens)
 unfolding next_part
 part_loose class tokens =
-    then _ _ (same (behind (codes ".") tokens)) λ dot.
+    then _ _ (same (following (codes ".") tokens)) λ dot.
     then _ _ (name_loose dot) λ name. same _
 
 class_loose : (tokens : List Token) → Loosens (class_at true tokens) (class_at false tokens)
@@ -122,7 +122,7 @@ parameter_loose vars params tokens =
 
 next_parameter_loose : (vars : List Var) (params : List Param) (tokens : List Token) → Loosens (next_parameter true vars params tokens) (next_parameter false vars params tokens)
 unfolding next_parameter
-next_parameter_loose vars params tokens = then _ _ (same (behind (codes ",") tokens)) λ comma. parameter_loose vars params comma
+next_parameter_loose vars params tokens = then _ _ (same (following (codes ",") tokens)) λ comma. parameter_loose vars params comma
 
 some_parameters_loose : (vars : List Var) (tokens : List Token) → Loosens (some_parameters true vars tokens) (some_parameters false vars tokens)
 unfolding some_parameters
@@ -142,7 +142,7 @@ step_loose : (parts : Parts) (tokens : List Token) → Loosens (next_step true p
 unfolding next_step
 step_loose parts tokens =
     then _ _ (same (need (not parts.is_last) (Syntax (front_at tokens)))) λ below.
-    then _ _ (same (behind (codes ".") tokens)) λ dot.
+    then _ _ (same (following (codes ".") tokens)) λ dot.
     then _ _ (path_part_loose dot) λ part. same _
 
 path_loose : (tokens : List Token) → Loosens (path_at true tokens) (path_at false tokens)
@@ -156,6 +156,6 @@ pub signature_loose : (vars : List Var) (tokens : List Token) → Loosens (signa
 unfolding signature_at
 signature_loose vars tokens =
     then _ _ (path_loose tokens) λ path.
-    then _ _ (same (behind (codes "(") path.1)) λ opened.
+    then _ _ (same (following (codes "(") path.1)) λ opened.
     then _ _ (parameters_loose vars opened) λ params.
-    then _ _ (same (behind (codes ")") params.1)) λ closed. same _
+    then _ _ (same (following (codes ")") params.1)) λ closed. same _

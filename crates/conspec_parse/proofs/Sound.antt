@@ -18,7 +18,7 @@ use Rattle.conspec_tree.specs.declared.types.Var.{Var}
 use Rattle.conspec_parse.specs.declared.signature.Param.{Param}
 use Rattle.conspec_parse.specs.declared.fault.PolicyFault.TheVariants.{Syntax, Name, Kind as WrongKind, Range, Twice, Limit}
 use Rattle.conspec_tokens.specs.Front.{front_at, is_next}
-use Rattle.conspec_parse.specs.Forms.{behind, name_at, number_at, taken, is_short}
+use Rattle.conspec_parse.specs.Forms.{following, name_at, number_at, taken, is_short}
 use Rattle.conspec_parse.specs.Head.{header_at, truth_at, count_at, first_at, begins_variable, variable_at, variables_at}
 use Rattle.conspec_tree.specs.Variables.{variable_from, is_variable}
 use Rattle.conspec_parse.specs.Methods.{is_named}
@@ -61,13 +61,13 @@ maxint_is n ranged =
 pub header_sound : (tokens : List Token) → Makes (header_at tokens) (λ r. IsMaxint r.0)
 unfolding header_at
 header_sound tokens =
-    then _ (any (behind (codes "MAXINT") tokens)) λ number a.
+    then _ (any (following (codes "MAXINT") tokens)) λ number a.
     then _ (any (number_at number)) λ maxint b.
     tested (nat_le 1 maxint.0 && nat_le maxint.0 1000000000) (Range (front_at number)) _ λ ranged.
-    then _ (any (behind (codes "SCOPE") maxint.1)) λ scope c.
-    then _ (any (behind (codes "Session") scope)) λ session d.
-    then _ (any (behind (codes "SECURITY") session)) λ security e.
-    then _ (any (behind (codes "STATE") security)) λ state f.
+    then _ (any (following (codes "SCOPE") maxint.1)) λ scope c.
+    then _ (any (following (codes "Session") scope)) λ session d.
+    then _ (any (following (codes "SECURITY") session)) λ security e.
+    then _ (any (following (codes "STATE") security)) λ state f.
     done (pos maxint.0, state) (maxint_is maxint.0 ranged)
 
 truth_sound : (maxint : ℤ) (tokens : List Token) → Makes (truth_at tokens) (λ r. IsInRange maxint true r.0)
@@ -115,9 +115,9 @@ variable_sound maxint vars tokens are =
     then _ (any (name_at (drop 1 tokens))) λ name a.
     tested (not (is_variable vars name.0)) (Twice (front_at (drop 1 tokens))) _ λ once.
     tested (is_short name.0) (Limit (front_at (drop 1 tokens))) _ λ short.
-    then _ (any (behind (codes "=") name.1)) λ equals b.
+    then _ (any (following (codes "=") name.1)) λ equals b.
     then _ (first_sound maxint (is_next (codes "bool") tokens) equals) λ first ranged.
-    then _ (any (behind (codes ";") first.1)) λ ended c.
+    then _ (any (following (codes ";") first.1)) λ ended c.
     done (vars ++ (record { name = name.0; is_bool = is_next (codes "bool") tokens; first = first.0 }) ∷ [], ended) (more_vars maxint vars (record { name = name.0; is_bool = is_next (codes "bool") tokens; first = first.0 }) few once ranged are)
 
 pub variables_sound : (maxint : ℤ) (tokens : List Token) → Makes (variables_at maxint tokens) (λ r. AreVars maxint r.0)
@@ -250,7 +250,7 @@ module _ (scope : Scope) (askable : Askable) (asks : Asks scope askable) where
   next_atom_sound : (atoms : List Atom) (tokens : List Token) → IsConj scope askable atoms → Makes (next_atom scope atoms tokens) (λ r. IsConj scope askable r.0)
   unfolding next_atom
   next_atom_sound atoms tokens are =
-      then _ (any (behind (codes "&&") tokens)) λ rest a.
+      then _ (any (following (codes "&&") tokens)) λ rest a.
       then _ (atom_sound (nat_lt (length atoms) 16) rest) λ atom is.
       done (atoms ++ atom.0 ∷ [], atom.1) (record { few = room_for_one atoms atom.0 16 is.0; atoms = all_more (λ (a : Atom). IsBase (length scope.vars) askable a.base) atoms atom.0 are.atoms is.1 })
 
@@ -272,7 +272,7 @@ module _ (scope : Scope) (askable : Askable) (asks : Asks scope askable) where
       → Makes (next_conj scope before conjs tokens) (λ r. AreConjs scope askable before r.0)
   unfolding next_conj
   next_conj_sound before conjs tokens are =
-      then _ (any (behind (codes "||") tokens)) λ rest a.
+      then _ (any (following (codes "||") tokens)) λ rest a.
       then _ (conj_sound (nat_lt (before + length conjs) 64) rest) λ conj is.
       let lt : before + length conjs < 64 = ltb-true _ _ is.0 in
       done (conjs ++ conj.0 ∷ [], conj.1) (record { few = omega (arith, length-append conjs (conj.0 ∷ [])); conjs = all_more (IsConj scope askable) conjs conj.0 are.conjs is.1 })

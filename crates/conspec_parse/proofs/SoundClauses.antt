@@ -20,7 +20,7 @@ use Rattle.conspec_tree.specs.declared.types.Var.{Var}
 use Rattle.conspec_parse.specs.declared.signature.Param.{Param}
 use Rattle.conspec_parse.specs.declared.signature.Signature.{Signature}
 use Rattle.conspec_parse.specs.declared.fault.PolicyFault.TheVariants.{Syntax, Kind as WrongKind, NoMethod, Twice, Limit, Builtin}
-use Rattle.conspec_parse.specs.Forms.{Parsed, is_short, name_at, behind}
+use Rattle.conspec_parse.specs.Forms.{Parsed, is_short, name_at, following}
 use Rattle.conspec_tokens.specs.Front.{front_at, is_next, is_end}
 use Rattle.conspec_tree.specs.Variables.{is_variable}
 use Rattle.conspec_parse.specs.Types.{type_at}
@@ -85,7 +85,7 @@ guard_sound : (scope : Scope) (askable : Askable) (maxint : ℤ) (guards : List 
 unfolding guard_at guard_of
 guard_sound scope askable maxint guards tokens asks are =
     then _ (conjs_sound scope askable asks (branches guards) tokens) λ conjs cs.
-    then _ (any (behind (codes "->") conjs.1)) λ arrow a.
+    then _ (any (following (codes "->") conjs.1)) λ arrow a.
     then _ (block_sound scope.vars maxint (longest conjs.0) arrow (longest_low scope askable 0 conjs.0 cs.conjs (omega arith))) λ updates us.
     let g : Guard = record { conjs = conjs.0; updates = updates.0 } in
     let few = cs.few in
@@ -99,7 +99,7 @@ last_guard_sound : (scope : Scope) (askable : Askable) (maxint : ℤ) (guards : 
 unfolding last_guard guard_of
 last_guard_sound scope askable maxint guards tokens are =
     tested (nat_lt (branches guards) 64) (Limit (front_at tokens)) _ λ few.
-    then _ (any (behind (codes "->") (drop 1 tokens))) λ arrow a.
+    then _ (any (following (codes "->") (drop 1 tokens))) λ arrow a.
     then _ (block_sound scope.vars maxint 0 arrow (omega arith)) λ updates us.
     let g : Guard = record { conjs = [] ∷ []; updates = updates.0 } in
     let room : branches guards < 64 = ltb-true _ _ few in
@@ -166,7 +166,7 @@ given_result_sound vars kind tokens =
     tested (is_some kind) (WrongKind (front_at tokens)) _ λ valued.
     tested (not (is_variable vars name.0)) (Twice (front_at tokens)) _ λ once.
     tested (is_short name.0) (Limit (front_at tokens)) _ λ short.
-    then _ (any (behind (codes "=") name.1)) λ equals b.
+    then _ (any (following (codes "=") name.1)) λ equals b.
     done (name.0, equals) (given_kind kind valued)
 
 result_sound : (vars : List Var) (phase : Phase) (kind : Option Kind) (tokens : List Token)
@@ -228,7 +228,7 @@ clause_sound methods vars maxint clauses tokens are =
     then _ (any (type_at true (drop 1 tokens))) λ type b.
     then _ (result_sound vars phase type.0.kind type.1) λ result named.
     then _ (method_sound methods vars clauses phase type.0.desc result.1) λ method is.
-    then _ (any (behind (codes "PERFORM") method.1)) λ performs d.
+    then _ (any (following (codes "PERFORM") method.1)) λ performs d.
     then _ (body_sound (scope_of vars phase method.0.1 result.0 type.0.kind) (asked phase (map (λ (p : Param). p.kind) method.0.1) type.0.kind) maxint performs
     (asks_event vars phase method.0.1 result.0 type.0.kind named)) λ guards gs.
     done (clauses ++ clause_of method.0.0 phase method.0.1 type.0.kind guards.0 ∷ [], guards.1) (clause_is methods vars maxint clauses phase method.0.0 method.0.1 result.0 type.0.kind guards.0 few is gs are)

@@ -12,7 +12,7 @@ use Rattle.conspec_tree.specs.declared.types.Update.TheVariants.{Set, Add}
 use Rattle.conspec_tree.specs.declared.types.Var.{Var}
 use Rattle.conspec_parse.specs.declared.fault.PolicyFault.TheVariants.{Name, Kind as WrongKind, Range, Twice, Limit}
 use Rattle.conspec_tokens.specs.Front.{front_at, is_next, is_name}
-use Rattle.conspec_parse.specs.Forms.{behind, name_at, number_at, taken}
+use Rattle.conspec_parse.specs.Forms.{following, name_at, number_at, taken}
 use Rattle.conspec_tree.specs.Variables.{variable_from}
 use Rattle.conspec_parse.specs.Guards.{truth_value, negative_at, positive_at, constant_at}
 use Rattle.conspec_tree.specs.Updates.{target, is_updated, range_atoms, all_range_atoms}
@@ -176,20 +176,20 @@ update_sound vars maxint atoms updates tokens are =
     then _ (any (name_at tokens)) λ name a.
     then _ (given (variable_from 0 vars name.0) (Name (front_at tokens))) λ var named.
     tested (not (is_updated updates var.0)) (Twice (front_at tokens)) _ λ once.
-    then _ (any (behind (codes "=") name.1)) λ equals b.
+    then _ (any (following (codes "=") name.1)) λ equals b.
     let found = variable_there 0 vars name.0 var named in
     let counted = found.counted in
     let same : found.index ≡ var.0 = omega arith in
     let there : slice_get vars var.0 ≡ Some found.variable = subst (λ (i : ℕ). slice_get vars i ≡ Some found.variable) same found.there in
     then _ (right_sound maxint found.variable (nat_lt (atoms + all_range_atoms updates) 16) name.0 var equals found.kind) λ update right.
-    then _ (any (behind (codes ";") update.1)) λ ended c.
+    then _ (any (following (codes ";") update.1)) λ ended c.
     done (updates ++ update.0 ∷ [], ended) (more_updates vars maxint atoms updates var.0 found.variable update.0 there (not-true _ once) right are)
 
 pub block_sound : (vars : List Var) (maxint : ℤ) (atoms : ℕ) (tokens : List Token) → atoms ≤ 16 → Makes (block_at vars maxint atoms tokens) (λ r. AreUpdates vars maxint atoms r.0)
 unfolding block_at
 block_sound vars maxint atoms tokens few =
-    then _ (any (behind (codes "{") tokens)) λ opened a.
+    then _ (any (following (codes "{") tokens)) λ opened a.
     then _ (each_makes is_name (update_at vars maxint atoms) (λ updates left. AreUpdates vars maxint atoms updates) (λ updates left goes are. update_sound vars maxint atoms updates left are)
     [] opened (record { updates = tt; once = no_pairs AreApart; short = omega arith })) λ updates are.
-    then _ (any (behind (codes "}") updates.1)) λ closed b.
+    then _ (any (following (codes "}") updates.1)) λ closed b.
     done (updates.0, closed) are

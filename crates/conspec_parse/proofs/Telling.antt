@@ -16,7 +16,7 @@ use Rattle.api_listing.specs.declared.types.ListedMethod.{ListedMethod}
 use Rattle.api_listing.specs.declared.types.Listing.{Listing}
 use Rattle.api_listing.specs.BuiltIn.{is_method}
 use Rattle.api_listing.specs.Descriptor as listed
-use Rattle.api_listing.specs.Descriptor.{SpellsDescriptor, class_spelled, is_element, is_type, named_only, until}
+use Rattle.api_listing.specs.Descriptor.{EncodesDescriptor, class_encoded, is_element, is_type, named_only, until}
 use Rattle.api_listing.specs.Nearest.{declared_in}
 use Rattle.api_listing.specs.Words.{is_name_start, is_name_byte, is_class_name}
 use Rattle.api_listing.proofs.DescriptorLaws.{both, name_again}
@@ -37,11 +37,11 @@ use Rattle.conspec_tree.specs.Kinds as tree
 use Rattle.conspec_tree.specs.Kinds.{kind_or_object, kind_of}
 use Rattle.conspec_tree.specs.Telling.{ClauseTellsKinds, ClauseTellsResult}
 use Rattle.conspec_parse.specs.declared.signature.Param.{Param}
-use Rattle.conspec_parse.specs.Meaning.{EachIs, below, joined, element_desc, element_kind, type_desc, type_kind, kind_in, param_of, method_bytes, IsClause, SpellsPolicy, lexemes}
+use Rattle.conspec_parse.specs.Meaning.{EachIs, below, joined, element_desc, element_kind, type_desc, type_kind, kind_in, param_of, method_bytes, IsClause, EncodesPolicy, lexemes}
 use Rattle.conspec_parse.specs.Methods.{desc_of}
 use Rattle.conspec_parse.specs.Telling.{KindsAreTold, ResultsAreTold}
 use Rattle.conspec_parse.specs.Written as written
-use Rattle.conspec_parse.specs.Written.{WrittenParam, WrittenClause, Written, led, one_name, params_spelled, param_spelled, clause_spelled, policy_spelled}
+use Rattle.conspec_parse.specs.Written.{WrittenParam, WrittenClause, Written, led, one_name, params_encoded, param_encoded, clause_encoded, policy_encoded}
 use Rattle.conspec_parse.specs.Written.Element.{Void, Int, Boolean, Byte, Short, Char, Class}
 
 -- ---- lists
@@ -131,29 +131,29 @@ good_tokens text = good_from text (Inside 0) 0
 
 -- ---- what is written
 
-good_clauses : (p : Written) → AreGood (policy_spelled p) → AllByRecursion (λ (c : WrittenClause). AreGood (clause_spelled c)) p.clauses
+good_clauses : (p : Written) → AreGood (policy_encoded p) → AllByRecursion (λ (c : WrittenClause). AreGood (clause_encoded c)) p.clauses
 good_clauses p good =
-    let behind = back_of IsGood (written.header_spelled p.maxint) _ good in
-    let clauses = back_of IsGood (flat_map written.variable_spelled p.vars) _ behind in
-    each_part IsGood clause_spelled p.clauses (front_of IsGood (flat_map clause_spelled p.clauses) (End ∷ []) clauses)
+    let following = back_of IsGood (written.header_encoded p.maxint) _ good in
+    let clauses = back_of IsGood (flat_map written.variable_encoded p.vars) _ following in
+    each_part IsGood clause_encoded p.clauses (front_of IsGood (flat_map clause_encoded p.clauses) (End ∷ []) clauses)
 
-good_params : (params : List WrittenParam) → AreGood (params_spelled params) → AllByRecursion (λ (p : WrittenParam). AreGood (param_spelled p)) params
+good_params : (params : List WrittenParam) → AreGood (params_encoded params) → AllByRecursion (λ (p : WrittenParam). AreGood (param_encoded p)) params
 good_params [] good = tt
 good_params (p ∷ params) good =
-    let others = each_part IsGood (λ (q : WrittenParam). Quoted (codes ",") ∷ param_spelled q) params (back_of IsGood (param_spelled p) _ good) in
-    (front_of IsGood (param_spelled p) _ good, without params others)
+    let others = each_part IsGood (λ (q : WrittenParam). Quoted (codes ",") ∷ param_encoded q) params (back_of IsGood (param_encoded p) _ good) in
+    (front_of IsGood (param_encoded p) _ good, without params others)
   where
-    without : (params : List WrittenParam) → AllByRecursion (λ (q : WrittenParam). AreGood (Quoted (codes ",") ∷ param_spelled q)) params → AllByRecursion (λ (q : WrittenParam). AreGood (param_spelled q)) params
+    without : (params : List WrittenParam) → AllByRecursion (λ (q : WrittenParam). AreGood (Quoted (codes ",") ∷ param_encoded q)) params → AllByRecursion (λ (q : WrittenParam). AreGood (param_encoded q)) params
     without [] all = tt
     without (q ∷ params) all = (all.0.1, without params all.1)
 
-clause_params : (c : WrittenClause) → AreGood (clause_spelled c) → AllByRecursion (λ (p : WrittenParam). AreGood (param_spelled p)) c.params
+clause_params : (c : WrittenClause) → AreGood (clause_encoded c) → AllByRecursion (λ (p : WrittenParam). AreGood (param_encoded p)) c.params
 clause_params c good =
-    let a = back_of IsGood (written.type_spelled c.type) _ good.1 in
-    let b = back_of IsGood (written.result_spelled c.result) _ a in
-    let signature = front_of IsGood (written.signature_spelled c.class c.method c.params) _ b in
-    let parens = back_of IsGood (written.path_spelled c.class c.method) _ signature in
-    good_params c.params (front_of IsGood (params_spelled c.params) (Quoted (codes ")") ∷ []) parens.1)
+    let a = back_of IsGood (written.type_encoded c.type) _ good.1 in
+    let b = back_of IsGood (written.result_encoded c.result) _ a in
+    let signature = front_of IsGood (written.signature_encoded c.class c.method c.params) _ b in
+    let parens = back_of IsGood (written.path_encoded c.class c.method) _ signature in
+    good_params c.params (front_of IsGood (params_encoded c.params) (Quoted (codes ")") ∷ []) parens.1)
 
 -- ---- names have no `;`
 
@@ -179,7 +179,7 @@ inner_path (name ∷ others) good =
     let rest = inner_path others good.1.1 in
     list_all-append is_inner (below name) (flat_map below others) ∙ rw (here, rest) refl
 
-inner_class : (first : List ℕ) (others : List (List ℕ)) → AreGood (written.element_spelled (Class first others)) → list_all is_inner (joined (first ∷ others)) ≡ true
+inner_class : (first : List ℕ) (others : List (List ℕ)) → AreGood (written.element_encoded (Class first others)) → list_all is_inner (joined (first ∷ others)) ≡ true
 inner_class first others good =
     let here = inner_name first good.0 in
     let rest = inner_path others good.1 in
@@ -215,38 +215,38 @@ kind_at [] = kinds.Object
 kind_at (b ∷ text) =
     cond (b == 90) kinds.Bool (cond (b == 66) kinds.Byte (cond (b == 67) kinds.Char (cond (b == 83) kinds.Short (cond (b == 73) kinds.Int kinds.Object))))
 
-abbrev behind_name : List ℕ → List ℕ
-behind_name text = option_map_or (λ (r : List ℕ × List ℕ). r.1) (until 59 text) []
+abbrev after_name : List ℕ → List ℕ
+after_name text = option_map_or (λ (r : List ℕ × List ℕ). r.1) (until 59 text) []
 
--- what stands behind the type that begins a text
-abbrev behind_type : List ℕ → List ℕ
-behind_type [] = []
-behind_type (b ∷ text) = cond (b == 91) (behind_type text) (cond (b == 76) (behind_name text) text)
+-- what stands after the type that begins a text
+abbrev after_type : List ℕ → List ℕ
+after_type [] = []
+after_type (b ∷ text) = cond (b == 91) (after_type text) (cond (b == 76) (after_name text) text)
 
 -- whether `)` begins the text
 abbrev closes : List ℕ → Bool
 closes [] = false
 closes (b ∷ text) = b == 41
 
--- The text is that of a type of this kind, whatever stands behind it.
+-- The text is that of a type of this kind, whatever stands after it.
 record IsTypeText (text : List ℕ) (kind : Kind) : Type 0 where
   told : (rest : List ℕ) → kind_at (text ++ rest) ≡ kind
-  passed : (rest : List ℕ) → behind_type (text ++ rest) ≡ rest
+  passed : (rest : List ℕ) → after_type (text ++ rest) ≡ rest
   opens : (rest : List ℕ) → closes (text ++ rest) ≡ false
 
-class_text : (name : List ℕ) → ((rest : List ℕ) → until 59 (name ++ 59 ∷ rest) ≡ Some (name, rest)) → IsTypeText (class_spelled name) kinds.Object
+class_text : (name : List ℕ) → ((rest : List ℕ) → until 59 (name ++ 59 ∷ rest) ≡ Some (name, rest)) → IsTypeText (class_encoded name) kinds.Object
 class_text name found = record { told = λ rest. refl; passed = passed; opens = λ rest. refl } where
-  passed : (rest : List ℕ) → behind_name ((name ++ 59 ∷ []) ++ rest) ≡ rest
-  passed rest = ap behind_name (append_assoc name (59 ∷ []) rest) ∙ ap (λ (r : Option (List ℕ × List ℕ)). option_map_or (λ (p : List ℕ × List ℕ). p.1) r []) (found rest)
+  passed : (rest : List ℕ) → after_name ((name ++ 59 ∷ []) ++ rest) ≡ rest
+  passed rest = ap after_name (append_assoc name (59 ∷ []) rest) ∙ ap (λ (r : Option (List ℕ × List ℕ)). option_map_or (λ (p : List ℕ × List ℕ). p.1) r []) (found rest)
 
-array_passed : (n : ℕ) (text : List ℕ) (kind : Kind) → IsTypeText text kind → (rest : List ℕ) → behind_type ((replicate n 91 ++ text) ++ rest) ≡ rest
+array_passed : (n : ℕ) (text : List ℕ) (kind : Kind) → IsTypeText text kind → (rest : List ℕ) → after_type ((replicate n 91 ++ text) ++ rest) ≡ rest
 array_passed zero text kind is rest = is.passed rest
 array_passed (suc n) text kind is rest = array_passed n text kind is rest
 
 array_text : (n : ℕ) (text : List ℕ) (kind : Kind) → IsTypeText text kind → IsTypeText (replicate (suc n) 91 ++ text) kinds.Object
 array_text n text kind is = record { told = λ rest. refl; passed = array_passed n text kind is; opens = λ rest. refl }
 
-element_text : (e : written.Element) → AreGood (written.element_spelled e) → IsTypeText (element_desc e) (kind_or_object (element_kind e))
+element_text : (e : written.Element) → AreGood (written.element_encoded e) → IsTypeText (element_desc e) (kind_or_object (element_kind e))
 element_text Void good = record { told = λ rest. refl; passed = λ rest. refl; opens = λ rest. refl }
 element_text Int good = record { told = λ rest. refl; passed = λ rest. refl; opens = λ rest. refl }
 element_text Boolean good = record { told = λ rest. refl; passed = λ rest. refl; opens = λ rest. refl }
@@ -256,11 +256,11 @@ element_text Char good = record { told = λ rest. refl; passed = λ rest. refl; 
 element_text (Class first others) good =
     class_text (joined (first ∷ others)) (λ rest. until_inner (joined (first ∷ others)) rest (inner_class first others good))
 
-written_text : (n : ℕ) (e : written.Element) → AreGood (written.element_spelled e) → IsTypeText (replicate n 91 ++ element_desc e) (kind_or_object (kind_in n e))
+written_text : (n : ℕ) (e : written.Element) → AreGood (written.element_encoded e) → IsTypeText (replicate n 91 ++ element_desc e) (kind_or_object (kind_in n e))
 written_text zero e good = element_text e good
 written_text (suc n) e good = array_text n (element_desc e) (kind_or_object (element_kind e)) (element_text e good)
 
-listed_element : (e : ListedElement) → is_element e ≡ true → IsTypeText (listed.element_spelled e) (tree.element_kind e)
+listed_element : (e : ListedElement) → is_element e ≡ true → IsTypeText (listed.element_encoded e) (tree.element_kind e)
 listed_element elements.Boolean is = record { told = λ rest. refl; passed = λ rest. refl; opens = λ rest. refl }
 listed_element elements.Byte is = record { told = λ rest. refl; passed = λ rest. refl; opens = λ rest. refl }
 listed_element elements.Char is = record { told = λ rest. refl; passed = λ rest. refl; opens = λ rest. refl }
@@ -268,24 +268,24 @@ listed_element elements.Short is = record { told = λ rest. refl; passed = λ re
 listed_element elements.Int is = record { told = λ rest. refl; passed = λ rest. refl; opens = λ rest. refl }
 listed_element (elements.Class name) is = class_text name (λ rest. until_named name rest is)
 
-listed_text : (n : ℕ) (e : ListedElement) → is_element e ≡ true → IsTypeText (replicate n 91 ++ listed.element_spelled e) (tree.array_kind n e)
+listed_text : (n : ℕ) (e : ListedElement) → is_element e ≡ true → IsTypeText (replicate n 91 ++ listed.element_encoded e) (tree.array_kind n e)
 listed_text zero e is = listed_element e is
-listed_text (suc n) e is = array_text n (listed.element_spelled e) (tree.element_kind e) (listed_element e is)
+listed_text (suc n) e is = array_text n (listed.element_encoded e) (tree.element_kind e) (listed_element e is)
 
-params_text : (params : List WrittenParam) → AllByRecursion (λ (p : WrittenParam). AreGood (param_spelled p)) params → AllByRecursion (λ (p : Param). IsTypeText p.desc p.kind) (map param_of params)
+params_text : (params : List WrittenParam) → AllByRecursion (λ (p : WrittenParam). AreGood (param_encoded p)) params → AllByRecursion (λ (p : Param). IsTypeText p.desc p.kind) (map param_of params)
 params_text [] all = tt
 params_text (p ∷ params) all =
-    let type = front_of IsGood (written.type_spelled p.type) _ all.0 in
-    let element = front_of IsGood (written.element_spelled p.type.element) _ type in
+    let type = front_of IsGood (written.type_encoded p.type) _ all.0 in
+    let element = front_of IsGood (written.element_encoded p.type.element) _ type in
     (written_text p.type.dimensions p.type.element element, params_text params all.1)
 
-types_text : (ts : List FieldType) → list_all is_type ts ≡ true → AllByRecursion (λ (t : FieldType). IsTypeText (listed.type_spelled t) (kind_of t)) ts
+types_text : (ts : List FieldType) → list_all is_type ts ≡ true → AllByRecursion (λ (t : FieldType). IsTypeText (listed.type_encoded t) (kind_of t)) ts
 types_text [] all = tt
 types_text (t ∷ ts) all =
     let p = both (is_type t) (list_all is_type ts) all in
     (listed_text t.dimensions t.element p.0, types_text ts p.1)
 
--- Types that are spelled alike up to the `)` are of the same kinds, and the same stands behind it.
+-- Types that are encoded alike up to the `)` are of the same kinds, and the same stands after it.
 same_types : {X Y : Type 0} (xd : X → List ℕ) (xk : X → Kind) (yd : Y → List ℕ) (yk : Y → Kind) (xs : List X) (ys : List Y) (a b : List ℕ)
     → AllByRecursion (λ (x : X). IsTypeText (xd x) (xk x)) xs → AllByRecursion (λ (y : Y). IsTypeText (yd y) (yk y)) ys
     → flat_map xd xs ++ 41 ∷ a ≡ flat_map yd ys ++ 41 ∷ b → (map xk xs ≡ map yk ys) × (a ≡ b)
@@ -301,13 +301,13 @@ same_types xd xk yd yk (x ∷ xs) (y ∷ ys) a b p q e =
     let right : List ℕ = flat_map yd ys ++ 41 ∷ b in
     let same : xd x ++ left ≡ yd y ++ right = sym (append_assoc (xd x) (flat_map xd xs) (41 ∷ a)) ∙ (e ∙ append_assoc (yd y) (flat_map yd ys) (41 ∷ b)) in
     let kind : xk x ≡ yk y = sym (p.0.told left) ∙ (ap kind_at same ∙ q.0.told right) in
-    let rest : left ≡ right = sym (p.0.passed left) ∙ (ap behind_type same ∙ q.0.passed right) in
+    let rest : left ≡ right = sym (p.0.passed left) ∙ (ap after_type same ∙ q.0.passed right) in
     let others = same_types xd xk yd yk xs ys a b p.1 q.1 rest in
     (rw (kind, others.0) refl, others.1)
 
 -- ---- results
 
--- the kind of the result that is spelled so; `V` is none
+-- the kind of the result that is encoded so; `V` is none
 abbrev result_at : List ℕ → Option Kind
 result_at [] = None
 result_at (b ∷ text) = cond (b == 86) None (Some (kind_at (b ∷ text)))
@@ -322,7 +322,7 @@ written_result zero Char = refl
 written_result zero (Class first others) = refl
 written_result (suc n) e = refl
 
-listed_type : (n : ℕ) (e : ListedElement) → result_at (replicate n 91 ++ listed.element_spelled e) ≡ Some (tree.array_kind n e)
+listed_type : (n : ℕ) (e : ListedElement) → result_at (replicate n 91 ++ listed.element_encoded e) ≡ Some (tree.array_kind n e)
 listed_type zero elements.Boolean = refl
 listed_type zero elements.Byte = refl
 listed_type zero elements.Char = refl
@@ -331,7 +331,7 @@ listed_type zero elements.Int = refl
 listed_type zero (elements.Class name) = refl
 listed_type (suc n) e = refl
 
-listed_result : (result : Option FieldType) → result_at (listed.result_spelled result) ≡ option_map kind_of result
+listed_result : (result : Option FieldType) → result_at (listed.result_encoded result) ≡ option_map kind_of result
 listed_result None = refl
 listed_result (Some t) = listed_type t.dimensions t.element
 
@@ -381,44 +381,44 @@ described_by methods name desc class index m found there =
 abbrev Tells : TreeClause → MethodType → Type 0
 Tells clause types = (clause.args ≡ map kind_of types.arguments) × (clause.result ≡ option_map kind_of types.result)
 
-clause_tells : (listing : Listing) (tree : PolicyTree) (text : WrittenClause) (clause : TreeClause) → IsClause listing.methods tree.vars tree.maxint text clause → AreGood (clause_spelled text)
-    → (m : ListedMethod) (types : MethodType) → slice_get listing.methods clause.method ≡ Some m → SpellsDescriptor m.id.desc types → Tells clause types
-clause_tells listing tree text clause is good m types there spelled =
+clause_tells : (listing : Listing) (tree : PolicyTree) (text : WrittenClause) (clause : TreeClause) → IsClause listing.methods tree.vars tree.maxint text clause → AreGood (clause_encoded text)
+    → (m : ListedMethod) (types : MethodType) → slice_get listing.methods clause.method ≡ Some m → EncodesDescriptor m.id.desc types → Tells clause types
+clause_tells listing tree text clause is good m types there encoded =
     let params : List Param = map param_of text.params in
     let result : List ℕ = type_desc text.type in
     let desc : m.id.desc ≡ desc_of params result =
     described_by listing.methods (method_bytes text.method) (desc_of params result) (joined text.class) clause.method m is.method.listed there in
-    let same : flat_map (λ (p : Param). p.desc) params ++ 41 ∷ result ≡ flat_map listed.type_spelled types.arguments ++ 41 ∷ listed.result_spelled types.result =
-    ap (drop 1) (sym desc ∙ spelled.spelled) in
+    let same : flat_map (λ (p : Param). p.desc) params ++ 41 ∷ result ≡ flat_map listed.type_encoded types.arguments ++ 41 ∷ listed.result_encoded types.result =
+    ap (drop 1) (sym desc ∙ encoded.encoded) in
     let args : clause.args ≡ map (λ (p : Param). p.kind) params = ap (λ (c : TreeClause). c.args) is.is in
     let given : clause.result ≡ type_kind text.type = ap (λ (c : TreeClause). c.result) is.is in
     let alike =
-    same_types (λ (p : Param). p.desc) (λ (p : Param). p.kind) listed.type_spelled kind_of params types.arguments result (listed.result_spelled types.result)
-    (params_text text.params (clause_params text good)) (types_text types.arguments spelled.arguments) same in
+    same_types (λ (p : Param). p.desc) (λ (p : Param). p.kind) listed.type_encoded kind_of params types.arguments result (listed.result_encoded types.result)
+    (params_text text.params (clause_params text good)) (types_text types.arguments encoded.arguments) same in
     let told = written_result text.type.dimensions text.type.element in
     (args ∙ alike.0, given ∙ sym told ∙ ap result_at alike.1 ∙ listed_result types.result)
 
 -- what each clause of a written policy tells
 each_tells : (P : TreeClause → Type 0) (listing : Listing) (tree : PolicyTree) (texts : List WrittenClause) (clauses : List TreeClause)
-    → ((w : WrittenClause) (c : TreeClause) → IsClause listing.methods tree.vars tree.maxint w c → AreGood (clause_spelled w) → P c)
+    → ((w : WrittenClause) (c : TreeClause) → IsClause listing.methods tree.vars tree.maxint w c → AreGood (clause_encoded w) → P c)
     → EachIs (IsClause listing.methods tree.vars tree.maxint) texts clauses
-    → AllByRecursion (λ (c : WrittenClause). AreGood (clause_spelled c)) texts → AllByRecursion P clauses
+    → AllByRecursion (λ (c : WrittenClause). AreGood (clause_encoded c)) texts → AllByRecursion P clauses
 each_tells P listing tree [] [] tells each good = tt
 each_tells P listing tree [] (c ∷ clauses) tells each good = absurd each
 each_tells P listing tree (w ∷ texts) [] tells each good = absurd each
 each_tells P listing tree (w ∷ texts) (c ∷ clauses) tells each good = (tells w c each.0 good.0, each_tells P listing tree texts clauses tells each.1 good.1)
 
-all_tell : (P : TreeClause → Type 0) (text : List ℕ) (listing : Listing) (tree : PolicyTree) → SpellsPolicy text listing tree
-    → ((w : WrittenClause) (c : TreeClause) → IsClause listing.methods tree.vars tree.maxint w c → AreGood (clause_spelled w) → P c)
+all_tell : (P : TreeClause → Type 0) (text : List ℕ) (listing : Listing) (tree : PolicyTree) → EncodesPolicy text listing tree
+    → ((w : WrittenClause) (c : TreeClause) → IsClause listing.methods tree.vars tree.maxint w c → AreGood (clause_encoded w) → P c)
     → AllByRecursion P tree.clauses
-all_tell P text listing tree spelled tells =
-    let good : AreGood (policy_spelled spelled.written) = subst AreGood spelled.tokens (good_tokens text) in
-    each_tells P listing tree spelled.written.clauses tree.clauses tells spelled.says.clauses (good_clauses spelled.written good)
+all_tell P text listing tree encoded tells =
+    let good : AreGood (policy_encoded encoded.written) = subst AreGood encoded.tokens (good_tokens text) in
+    each_tells P listing tree encoded.written.clauses tree.clauses tells encoded.says.clauses (good_clauses encoded.written good)
 
 pub kinds_are_told : KindsAreTold
-kinds_are_told text listing tree spelled =
-    all_tell (ClauseTellsKinds listing) text listing tree spelled (λ w c is good m types there desc. (clause_tells listing tree w c is good m types there desc).0)
+kinds_are_told text listing tree encoded =
+    all_tell (ClauseTellsKinds listing) text listing tree encoded (λ w c is good m types there desc. (clause_tells listing tree w c is good m types there desc).0)
 
 pub results_are_told : ResultsAreTold
-results_are_told text listing tree spelled =
-    all_tell (ClauseTellsResult listing) text listing tree spelled (λ w c is good m types there desc. (clause_tells listing tree w c is good m types there desc).1)
+results_are_told text listing tree encoded =
+    all_tell (ClauseTellsResult listing) text listing tree encoded (λ w c is good m types there desc. (clause_tells listing tree w c is good m types there desc).1)

@@ -13,7 +13,7 @@ use Rattle.conspec_tree.specs.declared.types.TreeClause.{TreeClause}
 use Rattle.conspec_parse.specs.declared.signature.Param.{Param}
 use Rattle.conspec_parse.specs.declared.type_name.TypeName.{TypeName}
 use Rattle.conspec_parse.specs.declared.fault.PolicyFault.TheVariants.{Syntax, Kind as WrongKind, Twice, Limit}
-use Rattle.conspec_parse.specs.Forms.{Parsed, behind, name_at, is_short, each}
+use Rattle.conspec_parse.specs.Forms.{Parsed, following, name_at, is_short, each}
 use Rattle.conspec_tokens.specs.Front.{front_at, is_next, is_name}
 use Rattle.conspec_tree.specs.Clauses.{is_after}
 use Rattle.conspec_tree.specs.Guards.{branches, longest}
@@ -33,7 +33,7 @@ begins_guard tokens = is_next (codes "true") tokens || is_name tokens
 -- a guard more with these branches, from its arrow on
 unfoldable pub guard_of : List Var → ℤ → List Guard → List (List Atom) → List Token → Parsed (List Guard)
 guard_of vars maxint guards conjs tokens = do
-  arrow ← behind (codes "->") tokens
+  arrow ← following (codes "->") tokens
   updates ← block_at vars maxint (longest conjs) arrow
   Ok (guards ++ (record { conjs = conjs; updates = updates.0 }) ∷ [], updates.1)
 
@@ -80,7 +80,7 @@ given_result_at vars kind tokens = do
   valued ← need (is_some kind) (WrongKind (front_at tokens))
   once ← need (not (is_variable vars name.0)) (Twice (front_at tokens))
   short ← need (is_short name.0) (Limit (front_at tokens))
-  equals ← behind (codes "=") name.1
+  equals ← following (codes "=") name.1
   Ok (name.0, equals)
 
 abbrev pub some_result_at : List Var → Option Kind → List Token → Parsed (Option (List ℕ))
@@ -111,7 +111,7 @@ clause_of method phase params kind guards = record {
 -- another clause of this method, from its guards on
 unfoldable pub clause_of_method : Scope → ℤ → ℕ → Phase → List Param → Option Kind → List TreeClause → List Token → Parsed (List TreeClause)
 clause_of_method scope maxint method phase params kind clauses tokens = do
-  performs ← behind (codes "PERFORM") tokens
+  performs ← following (codes "PERFORM") tokens
   guards ← body_at scope maxint performs
   Ok (clauses ++ clause_of method phase params kind guards.0 ∷ [], guards.1)
 

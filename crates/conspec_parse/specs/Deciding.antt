@@ -12,9 +12,9 @@ use Rattle.conspec_parse.specs.Clauses.{begins_clause}
 use Rattle.conspec_tokens.specs.Tokens.{tokens_of}
 use Rattle.conspec_parse.specs.Policy.{reading}
 use Rattle.conspec_parse.specs.Meaning.{lexemes}
-use Rattle.conspec_parse.specs.Written.{Written, WrittenClause, policy_spelled}
+use Rattle.conspec_parse.specs.Written.{Written, WrittenClause, policy_encoded}
 
--- whether a method is still to be ended behind the token: BEFORE, AFTER or EXCEPTIONAL begins one, and `)` ends it
+-- whether a method is still to be ended after the token: BEFORE, AFTER or EXCEPTIONAL begins one, and `)` ends it
 abbrev pub opened_by : Bool → Token → Bool
 opened_by now t =
     if quotes (codes ")") t.lexeme then false
@@ -25,12 +25,12 @@ abbrev pub is_open_from : Bool → List Token → Bool
 is_open_from now [] = now
 is_open_from now (t ∷ tokens) = is_open_from (opened_by now t) tokens
 
--- BEFORE, AFTER or EXCEPTIONAL stands there, and behind the last of them no `)`.
+-- BEFORE, AFTER or EXCEPTIONAL stands there, and after the last of them no `)`.
 abbrev pub is_open : List Token → Bool
 is_open tokens = is_open_from false tokens
 
 -- The tokens up to and with the last decide the fault. Faults of syntax and of names are decided by the token where they stand. Those of
--- kinds and ranges hang on one token more at most: a name is that of a result where `=` stands behind it, and `-` is part of the number behind it. The others may
+-- kinds and ranges hang on one token more at most: a name is that of a result where `=` stands after it, and `-` is part of the number after it. The others may
 -- stand in a method, which is judged as a whole before the names in it are, so they hang on its `)`; outside of methods they, too, hang
 -- on one token more at most.
 abbrev pub Decides : PolicyFault → List Token → Token → Type 0
@@ -47,14 +47,14 @@ Decides faults.Memory before last = ⊥
 -- Texts that agree up to the token that decides have the same fault.
 abbrev pub FaultsAreDecided : Type 0
 FaultsAreDecided =
-    (one other : List ℕ) (listing : Listing) (fault : PolicyFault) (before behind others : List Token) (last : Token)
+    (one other : List ℕ) (listing : Listing) (fault : PolicyFault) (before following others : List Token) (last : Token)
     → reading one listing ≡ Err fault → Decides fault before last
-    → tokens_of one ≡ before ++ last ∷ behind → tokens_of other ≡ before ++ last ∷ others
+    → tokens_of one ≡ before ++ last ∷ following → tokens_of other ≡ before ++ last ∷ others
     → reading other listing ≡ Err fault
 
 -- ---- faults of syntax
 
--- A method is written with its class, and a result only behind AFTER.
+-- A method is written with its class, and a result only after AFTER.
 pub record IsInGrammar (clause : WrittenClause) : Type 0 where
   pub class : clause.class ≢ []
   pub result : clause.result ≢ None → clause.phase ≡ After
@@ -63,13 +63,13 @@ pub record IsInGrammar (clause : WrittenClause) : Type 0 where
 pub record BeginsPolicy (tokens : List Token) (at : ℕ) : Type 0 where
   pub before : List Token
   pub here : Token
-  pub behind : List Token
-  pub split : tokens ≡ before ++ here ∷ behind
+  pub following : List Token
+  pub split : tokens ≡ before ++ here ∷ following
   pub there : here.at ≡ at
   pub written : Written
   pub whole : AllByRecursion IsInGrammar written.clauses
   pub more : List Lexeme
-  pub spelled : policy_spelled written ≡ lexemes before ++ more
+  pub encoded : policy_encoded written ≡ lexemes before ++ more
 
 -- Before a fault of syntax stands the beginning of a written policy.
 abbrev pub BeginningsAreRight : Type 0

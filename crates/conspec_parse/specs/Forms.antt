@@ -6,13 +6,13 @@ use Rattle.conspec_tokens.specs.Front.{front_at, is_next, next_name, next_number
 use Rattle.conspec_parse.specs.declared.fault.PolicyFault.TheVariants.{Syntax}
 use Rattle.conspec_parse.specs.Fault.{Judged}
 
--- what is read at the front of the tokens, and the tokens behind it
+-- what is read at the front of the tokens, and the tokens after it
 abbrev pub Parsed : Type 0 → Type 0
 Parsed X = Judged (X × List Token)
 
--- The tokens behind this keyword or sign, which has to stand first.
-abbrev pub behind : List ℕ → List Token → Judged (List Token)
-behind text tokens = if is_next text tokens then Ok (drop 1 tokens) else Err (Syntax (front_at tokens))
+-- The tokens after this keyword or sign, which has to stand first.
+abbrev pub following : List ℕ → List Token → Judged (List Token)
+following text tokens = if is_next text tokens then Ok (drop 1 tokens) else Err (Syntax (front_at tokens))
 
 -- a token that has to stand first
 abbrev pub taken : {X : Type 0} → Option X → List Token → Parsed X

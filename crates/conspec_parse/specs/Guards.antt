@@ -7,7 +7,7 @@ use Rattle.conspec_tree.specs.declared.types.Rel.TheVariants as rels
 use Rattle.conspec_tree.specs.declared.types.Atom.{Atom}
 use Rattle.conspec_tree.specs.Kinds.{is_truth, is_number, is_equality}
 use Rattle.conspec_parse.specs.declared.fault.PolicyFault.TheVariants.{Name, Kind as WrongKind, Range, Limit}
-use Rattle.conspec_parse.specs.Forms.{Parsed, behind, name_at, number_at, taken, each}
+use Rattle.conspec_parse.specs.Forms.{Parsed, following, name_at, number_at, taken, each}
 use Rattle.conspec_tokens.specs.Front.{front_at, is_next}
 use Rattle.conspec_parse.specs.Scope.{Scope, base_named}
 
@@ -67,7 +67,7 @@ atom_at scope room tokens = do
 -- another of at most 16 atoms
 unfoldable pub next_atom : Scope → List Atom → List Token → Parsed (List Atom)
 next_atom scope atoms tokens = do
-  both ← behind (codes "&&") tokens
+  both ← following (codes "&&") tokens
   atom ← atom_at scope (nat_lt (length atoms) 16) both
   Ok (atoms ++ atom.0 ∷ [], atom.1)
 
@@ -88,7 +88,7 @@ conj_at scope room tokens = if is_next (codes "true") tokens then no_atoms room 
 -- another of at most 64 branches, of which so many stand before the guard
 unfoldable pub next_conj : Scope → ℕ → List (List Atom) → List Token → Parsed (List (List Atom))
 next_conj scope before conjs tokens = do
-  either ← behind (codes "||") tokens
+  either ← following (codes "||") tokens
   conj ← conj_at scope (nat_lt (before + length conjs) 64) either
   Ok (conjs ++ conj.0 ∷ [], conj.1)
 

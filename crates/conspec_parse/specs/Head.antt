@@ -5,19 +5,19 @@ use Rattle.conspec_tokens.specs.declared.token.Token.{Token}
 use Rattle.conspec_tree.specs.declared.types.Var.{Var}
 use Rattle.conspec_tree.specs.Variables.{is_variable}
 use Rattle.conspec_parse.specs.declared.fault.PolicyFault.TheVariants.{Syntax, Range, Twice, Limit}
-use Rattle.conspec_parse.specs.Forms.{Parsed, behind, name_at, number_at, is_short, each}
+use Rattle.conspec_parse.specs.Forms.{Parsed, following, name_at, number_at, is_short, each}
 use Rattle.conspec_tokens.specs.Front.{front_at, is_next}
 
 -- `MAXINT` and its number, `SCOPE Session SECURITY STATE`
 unfoldable pub header_at : List Token → Parsed ℤ
 header_at tokens = do
-  number ← behind (codes "MAXINT") tokens
+  number ← following (codes "MAXINT") tokens
   maxint ← number_at number
   ranged ← need (nat_le 1 maxint.0 && nat_le maxint.0 1000000000) (Range (front_at number))
-  scope ← behind (codes "SCOPE") maxint.1
-  session ← behind (codes "Session") scope
-  security ← behind (codes "SECURITY") session
-  state ← behind (codes "STATE") security
+  scope ← following (codes "SCOPE") maxint.1
+  session ← following (codes "Session") scope
+  security ← following (codes "SECURITY") session
+  state ← following (codes "STATE") security
   Ok (pos maxint.0, state)
 
 -- `true` or `false`
@@ -48,9 +48,9 @@ variable_at maxint vars tokens = do
   name ← name_at (drop 1 tokens)
   once ← need (not (is_variable vars name.0)) (Twice (front_at (drop 1 tokens)))
   short ← need (is_short name.0) (Limit (front_at (drop 1 tokens)))
-  equals ← behind (codes "=") name.1
+  equals ← following (codes "=") name.1
   first ← first_at maxint (is_next (codes "bool") tokens) equals
-  ended ← behind (codes ";") first.1
+  ended ← following (codes ";") first.1
   Ok (vars ++ (record { name = name.0; is_bool = is_next (codes "bool") tokens; first = first.0 }) ∷ [], ended)
 
 abbrev pub variables_at : ℤ → List Token → Parsed (List Var)

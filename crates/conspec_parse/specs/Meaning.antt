@@ -1,9 +1,9 @@
--- What a written policy says, and which policy a text spells. (docs/POLICIES.md)
+-- What a written policy says, and which policy a text encodes. (docs/POLICIES.md)
 use Rattle.std.specs.Prelude.{◌≡◌, ◌≢◌, ℕ, zero, suc, ◌+◌, ◌≤◌, ℤ, pos, neg_ℤ, ◌≤ℤ◌, Bool, true, false, List, [], ◌∷◌, ◌++◌, length, map, replicate, codes, Option, Some, None, IsTrue, AllPairs}
 use Rattle.std.specs.List.{AllByRecursion, flat_map}
 use Rattle.api_listing.specs.BuiltIn.{is_built_in}
 use Rattle.api_listing.specs.Nearest.{declared_in}
-use Rattle.api_listing.specs.Descriptor.{class_spelled}
+use Rattle.api_listing.specs.Descriptor.{class_encoded}
 use Rattle.api_listing.specs.declared.types.ListedMethod.{ListedMethod}
 use Rattle.api_listing.specs.declared.types.Listing.{Listing}
 use Rattle.conspec_tokens.specs.declared.token.Token.{Token}
@@ -34,7 +34,7 @@ use Rattle.conspec_parse.specs.Updates.{signed}
 use Rattle.conspec_tree.specs.Guards.{branches}
 use Rattle.conspec_parse.specs.Clauses.{scope_of, clause_of}
 use Rattle.conspec_tree.specs.Tree.{Differ}
-use Rattle.conspec_parse.specs.Written.{Element, WrittenType, WrittenParam, MethodName, Constant, WrittenAtom, Right, WrittenUpdate, WrittenGuard, WrittenClause, WrittenVar, Written, policy_spelled}
+use Rattle.conspec_parse.specs.Written.{Element, WrittenType, WrittenParam, MethodName, Constant, WrittenAtom, Right, WrittenUpdate, WrittenGuard, WrittenClause, WrittenVar, Written, policy_encoded}
 use Rattle.conspec_parse.specs.Written.Element.{Void, Int, Boolean, Byte, Short, Char, Class}
 use Rattle.conspec_parse.specs.Written.MethodName.{Constructor, Plain}
 use Rattle.conspec_parse.specs.Written.Constant.{Truth, Natural, Minus}
@@ -52,7 +52,7 @@ AreShort names = AllByRecursion (λ name. IsTrue (is_short name)) names
 
 -- ---- types and parameters
 
--- a name behind a `/`
+-- a name after a `/`
 abbrev pub below : List ℕ → List ℕ
 below name = 47 ∷ name
 
@@ -68,7 +68,7 @@ element_desc Boolean = codes "Z"
 element_desc Byte = codes "B"
 element_desc Short = codes "S"
 element_desc Char = codes "C"
-element_desc (Class first others) = class_spelled (joined (first ∷ others))
+element_desc (Class first others) = class_encoded (joined (first ∷ others))
 
 abbrev pub element_kind : Element → Option Kind
 element_kind Void = None
@@ -255,7 +255,7 @@ abbrev pub lexemes : List Token → List Lexeme
 lexemes tokens = map (λ t. t.lexeme) tokens
 
 -- The tokens of the text are those of a written policy, which says the tree.
-pub record SpellsPolicy (text : List ℕ) (listing : Listing) (tree : PolicyTree) : Type 0 where
+pub record EncodesPolicy (text : List ℕ) (listing : Listing) (tree : PolicyTree) : Type 0 where
   pub written : Written
-  pub tokens : lexemes (tokens_of text) ≡ policy_spelled written
+  pub tokens : lexemes (tokens_of text) ≡ policy_encoded written
   pub says : IsPolicy listing written tree

@@ -15,7 +15,7 @@ use Rattle.conspec_parse.specs.declared.signature.Parts.{Parts}
 use Rattle.conspec_parse.specs.declared.signature.Signature.{Signature}
 use Rattle.conspec_parse.specs.declared.fault.PolicyFault.TheVariants.{Syntax, NoMethod, Twice, Limit, Builtin}
 use Rattle.conspec_parse.specs.Fault.{Judged}
-use Rattle.conspec_parse.specs.Forms.{Parsed, behind, name_at, is_short, each}
+use Rattle.conspec_parse.specs.Forms.{Parsed, following, name_at, is_short, each}
 use Rattle.conspec_tokens.specs.Front.{front_at, is_next, is_name}
 use Rattle.conspec_tree.specs.Clauses.{has_clause}
 use Rattle.conspec_tree.specs.Kinds.{kind_or_object}
@@ -60,7 +60,7 @@ parameter_at judged vars params tokens = do
 
 unfoldable pub next_parameter : Bool → List Var → List Param → List Token → Parsed (List Param)
 next_parameter judged vars params tokens = do
-  comma ← behind (codes ",") tokens
+  comma ← following (codes ",") tokens
   parameter_at judged vars params comma
 
 unfoldable pub some_parameters : Bool → List Var → List Token → Parsed (List Param)
@@ -74,9 +74,9 @@ parameters_at judged vars tokens = if is_next (codes ")") tokens then Ok ([], to
 -- the parameters between brackets
 unfoldable pub bracketed : Bool → List Var → List Token → Parsed (List Param)
 bracketed judged vars tokens = do
-  opened ← behind (codes "(") tokens
+  opened ← following (codes "(") tokens
   params ← parameters_at judged vars opened
-  closed ← behind (codes ")") params.1
+  closed ← following (codes ")") params.1
   Ok (params.0, closed)
 
 -- ---- the class and the name
@@ -97,7 +97,7 @@ class_under (Some class) name = class ++ 47 ∷ name
 unfoldable pub next_step : Bool → Parts → List Token → Parsed Parts
 next_step judged parts tokens = do
   below ← need (not parts.is_last) (Syntax (front_at tokens))
-  dot ← behind (codes ".") tokens
+  dot ← following (codes ".") tokens
   part ← part_at judged dot
   Ok (record { class = Some (class_under parts.class parts.name); name = part.0; is_last = is_next init dot }, part.1)
 
@@ -112,9 +112,9 @@ path_at judged tokens = do
 unfoldable pub signature_at : Bool → List Var → List Token → Parsed Signature
 signature_at judged vars tokens = do
   path ← path_at judged tokens
-  opened ← behind (codes "(") path.1
+  opened ← following (codes "(") path.1
   params ← parameters_at judged vars opened
-  closed ← behind (codes ")") params.1
+  closed ← following (codes ")") params.1
   Ok (record { path = path.0; params = params.0 }, closed)
 
 -- ---- which method it is

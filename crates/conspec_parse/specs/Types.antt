@@ -1,13 +1,13 @@
 -- The types that a policy names, as descriptors say them. (docs/POLICIES.md)
 use Rattle.std.specs.Prelude.{◌||◌, not, ℕ, Bool, List, [], ◌∷◌, ◌++◌, drop, codes, Option, Some, None, Ok, if◌then◌else◌}
 use Rattle.mon_base.specs.Reading.{◌>>=◌, need}
-use Rattle.api_listing.specs.Descriptor.{class_spelled}
+use Rattle.api_listing.specs.Descriptor.{class_encoded}
 use Rattle.conspec_tokens.specs.declared.token.Token.{Token}
 use Rattle.conspec_tree.specs.declared.types.Kind.{Kind}
 use Rattle.conspec_tree.specs.declared.types.Kind.TheVariants as kinds
 use Rattle.conspec_parse.specs.declared.type_name.TypeName.{TypeName}
 use Rattle.conspec_parse.specs.declared.fault.PolicyFault.TheVariants.{Limit}
-use Rattle.conspec_parse.specs.Forms.{Parsed, behind, name_at, is_short, each}
+use Rattle.conspec_parse.specs.Forms.{Parsed, following, name_at, is_short, each}
 use Rattle.conspec_tokens.specs.Front.{front_at, is_next}
 
 -- a name that is not too long, where names are judged
@@ -34,7 +34,7 @@ plain_type tokens =
 -- a dot and a name, onto the names before
 unfoldable pub next_part : Bool → List ℕ → List Token → Parsed (List ℕ)
 next_part judged class tokens = do
-  dot ← behind (codes ".") tokens
+  dot ← following (codes ".") tokens
   name ← judged_name judged dot
   Ok (class ++ 47 ∷ name.0, name.1)
 
@@ -47,7 +47,7 @@ class_at judged tokens = do
 unfoldable pub class_type_at : Bool → List Token → Parsed TypeName
 class_type_at judged tokens = do
   class ← class_at judged tokens
-  Ok (type_named (class_spelled class.0) (Some kinds.Object), class.1)
+  Ok (type_named (class_encoded class.0) (Some kinds.Object), class.1)
 
 abbrev pub element_of : Option TypeName → Bool → List Token → Parsed TypeName
 element_of (Some plain) judged tokens = Ok (plain, drop 1 tokens)
@@ -60,8 +60,8 @@ element_at judged tokens = element_of (plain_type tokens) judged tokens
 -- `[]`: one dimension more
 unfoldable pub dimension_at : List ℕ → List Token → Parsed (List ℕ)
 dimension_at brackets tokens = do
-  opened ← behind (codes "[") tokens
-  closed ← behind (codes "]") opened
+  opened ← following (codes "[") tokens
+  closed ← following (codes "]") opened
   Ok (brackets ++ 91 ∷ [], closed)
 
 -- the array with these dimensions

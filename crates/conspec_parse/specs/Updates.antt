@@ -6,7 +6,7 @@ use Rattle.conspec_tree.specs.declared.types.Update.{Update}
 use Rattle.conspec_tree.specs.declared.types.Update.TheVariants.{Set, Add}
 use Rattle.conspec_tree.specs.declared.types.Var.{Var}
 use Rattle.conspec_parse.specs.declared.fault.PolicyFault.TheVariants.{Name, Kind, Range, Twice, Limit}
-use Rattle.conspec_parse.specs.Forms.{Parsed, behind, name_at, number_at, taken, each}
+use Rattle.conspec_parse.specs.Forms.{Parsed, following, name_at, number_at, taken, each}
 use Rattle.conspec_tokens.specs.Front.{front_at, is_next, is_name}
 use Rattle.conspec_tree.specs.Updates.{is_updated, all_range_atoms}
 use Rattle.conspec_tree.specs.Variables.{variable_from}
@@ -53,15 +53,15 @@ update_at vars maxint atoms updates tokens = do
   name ← name_at tokens
   var ← ok_or (variable_from 0 vars name.0) (Name (front_at tokens))
   once ← need (not (is_updated updates var.0)) (Twice (front_at tokens))
-  equals ← behind (codes "=") name.1
+  equals ← following (codes "=") name.1
   update ← right_at maxint (nat_lt (atoms + all_range_atoms updates) 16) name.0 var equals
-  ended ← behind (codes ";") update.1
+  ended ← following (codes ";") update.1
   Ok (updates ++ update.0 ∷ [], ended)
 
 -- the updates between braces
 unfoldable pub block_at : List Var → ℤ → ℕ → List Token → Parsed (List Update)
 block_at vars maxint atoms tokens = do
-  opened ← behind (codes "{") tokens
+  opened ← following (codes "{") tokens
   updates ← each is_name (update_at vars maxint atoms) [] opened
-  closed ← behind (codes "}") updates.1
+  closed ← following (codes "}") updates.1
   Ok (updates.0, closed)

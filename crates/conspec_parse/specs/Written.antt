@@ -43,7 +43,7 @@ pub record WrittenAtom : Type 0 where
   pub rel : Rel
   pub constant : Constant
 
--- what stands behind `=`: a constant, or a name, whether `-` stands behind it, and a number
+-- what stands after `=`: a constant, or a name, whether `-` stands after it, and a number
 pub data Right : Type 0 where
   Value : Constant → Right
   Sum : List ℕ → Bool → ℕ → Right
@@ -78,16 +78,16 @@ pub record Written : Type 0 where
   pub vars : List WrittenVar
   pub clauses : List WrittenClause
 
--- ---- how it is spelled
+-- ---- how it is encoded
 
 -- each part with the sign before it
 abbrev pub led : {X : Type 0} → List ℕ → (X → List Lexeme) → List X → List Lexeme
-led sign spell parts = flat_map (λ part. Quoted sign ∷ spell part) parts
+led sign encode parts = flat_map (λ part. Quoted sign ∷ encode part) parts
 
 -- parts with the sign between them
 abbrev pub separated : {X : Type 0} → List ℕ → (X → List Lexeme) → List X → List Lexeme
-separated sign spell [] = []
-separated sign spell (x ∷ parts) = spell x ++ led sign spell parts
+separated sign encode [] = []
+separated sign encode (x ∷ parts) = encode x ++ led sign encode parts
 
 abbrev pub one_name : List ℕ → List Lexeme
 one_name name = Name name ∷ []
@@ -95,123 +95,123 @@ one_name name = Name name ∷ []
 abbrev pub dotted : List ℕ → List Lexeme
 dotted name = Name name ∷ Quoted (codes ".") ∷ []
 
-abbrev pub element_spelled : Element → List Lexeme
-element_spelled Void = Quoted (codes "void") ∷ []
-element_spelled Int = Quoted (codes "int") ∷ []
-element_spelled Boolean = Quoted (codes "boolean") ∷ []
-element_spelled Byte = Quoted (codes "byte") ∷ []
-element_spelled Short = Quoted (codes "short") ∷ []
-element_spelled Char = Quoted (codes "char") ∷ []
-element_spelled (Class first others) = Name first ∷ led (codes ".") one_name others
+abbrev pub element_encoded : Element → List Lexeme
+element_encoded Void = Quoted (codes "void") ∷ []
+element_encoded Int = Quoted (codes "int") ∷ []
+element_encoded Boolean = Quoted (codes "boolean") ∷ []
+element_encoded Byte = Quoted (codes "byte") ∷ []
+element_encoded Short = Quoted (codes "short") ∷ []
+element_encoded Char = Quoted (codes "char") ∷ []
+element_encoded (Class first others) = Name first ∷ led (codes ".") one_name others
 
-abbrev pub brackets_spelled : ℕ → List Lexeme
-brackets_spelled zero = []
-brackets_spelled (suc n) = Quoted (codes "[") ∷ Quoted (codes "]") ∷ brackets_spelled n
+abbrev pub brackets_encoded : ℕ → List Lexeme
+brackets_encoded zero = []
+brackets_encoded (suc n) = Quoted (codes "[") ∷ Quoted (codes "]") ∷ brackets_encoded n
 
-abbrev pub type_spelled : WrittenType → List Lexeme
-type_spelled t = element_spelled t.element ++ brackets_spelled t.dimensions
+abbrev pub type_encoded : WrittenType → List Lexeme
+type_encoded t = element_encoded t.element ++ brackets_encoded t.dimensions
 
-abbrev pub name_spelled : Option (List ℕ) → List Lexeme
-name_spelled None = []
-name_spelled (Some name) = Name name ∷ []
+abbrev pub name_encoded : Option (List ℕ) → List Lexeme
+name_encoded None = []
+name_encoded (Some name) = Name name ∷ []
 
-abbrev pub param_spelled : WrittenParam → List Lexeme
-param_spelled p = type_spelled p.type ++ name_spelled p.name
+abbrev pub param_encoded : WrittenParam → List Lexeme
+param_encoded p = type_encoded p.type ++ name_encoded p.name
 
-abbrev pub rel_spelled : Rel → Lexeme
-rel_spelled rels.Eq = Quoted (codes "==")
-rel_spelled rels.Ne = Quoted (codes "!=")
-rel_spelled rels.Lt = Quoted (codes "<")
-rel_spelled rels.Le = Quoted (codes "<=")
-rel_spelled rels.Gt = Quoted (codes ">")
-rel_spelled rels.Ge = Quoted (codes ">=")
+abbrev pub rel_encoded : Rel → Lexeme
+rel_encoded rels.Eq = Quoted (codes "==")
+rel_encoded rels.Ne = Quoted (codes "!=")
+rel_encoded rels.Lt = Quoted (codes "<")
+rel_encoded rels.Le = Quoted (codes "<=")
+rel_encoded rels.Gt = Quoted (codes ">")
+rel_encoded rels.Ge = Quoted (codes ">=")
 
-abbrev pub truth_spelled : Bool → Lexeme
-truth_spelled true = Quoted (codes "true")
-truth_spelled false = Quoted (codes "false")
+abbrev pub truth_encoded : Bool → Lexeme
+truth_encoded true = Quoted (codes "true")
+truth_encoded false = Quoted (codes "false")
 
-abbrev pub constant_spelled : Constant → List Lexeme
-constant_spelled (Truth b) = truth_spelled b ∷ []
-constant_spelled (Natural n) = Number n ∷ []
-constant_spelled (Minus n) = Quoted (codes "-") ∷ Number n ∷ []
+abbrev pub constant_encoded : Constant → List Lexeme
+constant_encoded (Truth b) = truth_encoded b ∷ []
+constant_encoded (Natural n) = Number n ∷ []
+constant_encoded (Minus n) = Quoted (codes "-") ∷ Number n ∷ []
 
-abbrev pub atom_spelled : WrittenAtom → List Lexeme
-atom_spelled a = Name a.name ∷ rel_spelled a.rel ∷ constant_spelled a.constant
+abbrev pub atom_encoded : WrittenAtom → List Lexeme
+atom_encoded a = Name a.name ∷ rel_encoded a.rel ∷ constant_encoded a.constant
 
-abbrev pub conj_spelled : List WrittenAtom → List Lexeme
-conj_spelled [] = Quoted (codes "true") ∷ []
-conj_spelled (a ∷ atoms) = separated (codes "&&") atom_spelled (a ∷ atoms)
+abbrev pub conj_encoded : List WrittenAtom → List Lexeme
+conj_encoded [] = Quoted (codes "true") ∷ []
+conj_encoded (a ∷ atoms) = separated (codes "&&") atom_encoded (a ∷ atoms)
 
-abbrev pub sign_spelled : Bool → Lexeme
-sign_spelled false = Quoted (codes "+")
-sign_spelled true = Quoted (codes "-")
+abbrev pub sign_encoded : Bool → Lexeme
+sign_encoded false = Quoted (codes "+")
+sign_encoded true = Quoted (codes "-")
 
-abbrev pub right_spelled : Right → List Lexeme
-right_spelled (Value c) = constant_spelled c
-right_spelled (Sum name minus n) = Name name ∷ sign_spelled minus ∷ Number n ∷ []
+abbrev pub right_encoded : Right → List Lexeme
+right_encoded (Value c) = constant_encoded c
+right_encoded (Sum name minus n) = Name name ∷ sign_encoded minus ∷ Number n ∷ []
 
-abbrev pub update_spelled : WrittenUpdate → List Lexeme
-update_spelled u = Name u.name ∷ Quoted (codes "=") ∷ (right_spelled u.right ++ Quoted (codes ";") ∷ [])
+abbrev pub update_encoded : WrittenUpdate → List Lexeme
+update_encoded u = Name u.name ∷ Quoted (codes "=") ∷ (right_encoded u.right ++ Quoted (codes ";") ∷ [])
 
 -- `->` and the updates between braces
-abbrev pub block_spelled : List WrittenUpdate → List Lexeme
-block_spelled updates = Quoted (codes "->") ∷ Quoted (codes "{") ∷ (flat_map update_spelled updates ++ Quoted (codes "}") ∷ [])
+abbrev pub block_encoded : List WrittenUpdate → List Lexeme
+block_encoded updates = Quoted (codes "->") ∷ Quoted (codes "{") ∷ (flat_map update_encoded updates ++ Quoted (codes "}") ∷ [])
 
-abbrev pub guard_spelled : WrittenGuard → List Lexeme
-guard_spelled g = conj_spelled g.first ++ (led (codes "||") conj_spelled g.others ++ block_spelled g.updates)
+abbrev pub guard_encoded : WrittenGuard → List Lexeme
+guard_encoded g = conj_encoded g.first ++ (led (codes "||") conj_encoded g.others ++ block_encoded g.updates)
 
-abbrev pub else_spelled : Option (List WrittenUpdate) → List Lexeme
-else_spelled None = []
-else_spelled (Some updates) = Quoted (codes "ELSE") ∷ block_spelled updates
+abbrev pub else_encoded : Option (List WrittenUpdate) → List Lexeme
+else_encoded None = []
+else_encoded (Some updates) = Quoted (codes "ELSE") ∷ block_encoded updates
 
-abbrev pub phase_spelled : Phase → Lexeme
-phase_spelled Before = Quoted (codes "BEFORE")
-phase_spelled After = Quoted (codes "AFTER")
-phase_spelled Exceptional = Quoted (codes "EXCEPTIONAL")
+abbrev pub phase_encoded : Phase → Lexeme
+phase_encoded Before = Quoted (codes "BEFORE")
+phase_encoded After = Quoted (codes "AFTER")
+phase_encoded Exceptional = Quoted (codes "EXCEPTIONAL")
 
-abbrev pub result_spelled : Option (List ℕ) → List Lexeme
-result_spelled None = []
-result_spelled (Some name) = Name name ∷ Quoted (codes "=") ∷ []
+abbrev pub result_encoded : Option (List ℕ) → List Lexeme
+result_encoded None = []
+result_encoded (Some name) = Name name ∷ Quoted (codes "=") ∷ []
 
-abbrev pub method_spelled : MethodName → Lexeme
-method_spelled Constructor = Quoted (codes "<init>")
-method_spelled (Plain name) = Name name
+abbrev pub method_encoded : MethodName → Lexeme
+method_encoded Constructor = Quoted (codes "<init>")
+method_encoded (Plain name) = Name name
 
 -- the names of the class, each with a dot, and the method's name
-abbrev pub path_spelled : List (List ℕ) → MethodName → List Lexeme
-path_spelled class method = flat_map dotted class ++ method_spelled method ∷ []
+abbrev pub path_encoded : List (List ℕ) → MethodName → List Lexeme
+path_encoded class method = flat_map dotted class ++ method_encoded method ∷ []
 
-abbrev pub params_spelled : List WrittenParam → List Lexeme
-params_spelled params = separated (codes ",") param_spelled params
+abbrev pub params_encoded : List WrittenParam → List Lexeme
+params_encoded params = separated (codes ",") param_encoded params
 
-abbrev pub signature_spelled : List (List ℕ) → MethodName → List WrittenParam → List Lexeme
-signature_spelled class method params = path_spelled class method ++ Quoted (codes "(") ∷ (params_spelled params ++ Quoted (codes ")") ∷ [])
+abbrev pub signature_encoded : List (List ℕ) → MethodName → List WrittenParam → List Lexeme
+signature_encoded class method params = path_encoded class method ++ Quoted (codes "(") ∷ (params_encoded params ++ Quoted (codes ")") ∷ [])
 
-abbrev pub body_spelled : List WrittenGuard → Option (List WrittenUpdate) → List Lexeme
-body_spelled guards otherwise = flat_map guard_spelled guards ++ else_spelled otherwise
+abbrev pub body_encoded : List WrittenGuard → Option (List WrittenUpdate) → List Lexeme
+body_encoded guards otherwise = flat_map guard_encoded guards ++ else_encoded otherwise
 
-abbrev pub clause_spelled : WrittenClause → List Lexeme
-clause_spelled c =
-    phase_spelled c.phase ∷ (type_spelled c.type
-    ++ (result_spelled c.result ++ (signature_spelled c.class c.method c.params ++ Quoted (codes "PERFORM") ∷ body_spelled c.guards c.otherwise)))
+abbrev pub clause_encoded : WrittenClause → List Lexeme
+clause_encoded c =
+    phase_encoded c.phase ∷ (type_encoded c.type
+    ++ (result_encoded c.result ++ (signature_encoded c.class c.method c.params ++ Quoted (codes "PERFORM") ∷ body_encoded c.guards c.otherwise)))
 
-abbrev pub first_spelled : Bool → ℕ → Lexeme
-first_spelled false n = Number n
-first_spelled true zero = truth_spelled false
-first_spelled true (suc n) = truth_spelled true
+abbrev pub first_encoded : Bool → ℕ → Lexeme
+first_encoded false n = Number n
+first_encoded true zero = truth_encoded false
+first_encoded true (suc n) = truth_encoded true
 
 abbrev pub variable_word : Bool → Lexeme
 variable_word false = Quoted (codes "int")
 variable_word true = Quoted (codes "bool")
 
-abbrev pub variable_spelled : WrittenVar → List Lexeme
-variable_spelled v = variable_word v.is_bool ∷ Name v.name ∷ Quoted (codes "=") ∷ first_spelled v.is_bool v.first ∷ Quoted (codes ";") ∷ []
+abbrev pub variable_encoded : WrittenVar → List Lexeme
+variable_encoded v = variable_word v.is_bool ∷ Name v.name ∷ Quoted (codes "=") ∷ first_encoded v.is_bool v.first ∷ Quoted (codes ";") ∷ []
 
-abbrev pub header_spelled : ℕ → List Lexeme
-header_spelled maxint =
+abbrev pub header_encoded : ℕ → List Lexeme
+header_encoded maxint =
     Quoted (codes "MAXINT") ∷ Number maxint ∷ Quoted (codes "SCOPE") ∷ Quoted (codes "Session")
     ∷ Quoted (codes "SECURITY") ∷ Quoted (codes "STATE") ∷ []
 
 -- the tokens of a policy
-abbrev pub policy_spelled : Written → List Lexeme
-policy_spelled p = header_spelled p.maxint ++ (flat_map variable_spelled p.vars ++ (flat_map clause_spelled p.clauses ++ End ∷ []))
+abbrev pub policy_encoded : Written → List Lexeme
+policy_encoded p = header_encoded p.maxint ++ (flat_map variable_encoded p.vars ++ (flat_map clause_encoded p.clauses ++ End ∷ []))

@@ -24,7 +24,7 @@ ghost use Rattle.conspec_parse.specs.Clauses.{
 };
 
 use crate::fault::PolicyFault;
-use crate::forms::{behind, is_short, name_at};
+use crate::forms::{following, is_short, name_at};
 use crate::guard::conjs_at;
 use crate::method::method_at;
 use crate::scope::Names;
@@ -47,7 +47,7 @@ fn begins_guard(tokens: &[Token]) -> bool
 }
 
 /// Puts the guard with these branches, whose arrow has to stand first, onto the guards so far, and gives the tokens
-/// behind it.
+/// after it.
 #[tactic(auto, using(crate::proofs::Branches::branches_more), unfolding(crate::specs::Clauses::guard_of))]
 fn guard_of<'a>(
     alloc: Global,
@@ -62,7 +62,7 @@ fn guard_of<'a>(
         (guard_of vars.now maxint guards.old conjs tokens.now) }
     ensures branches { IfOk result (λ _. branches guards.new ≡ branches guards.old + length conjs) }
 {
-    let block = behind("->", tokens)?;
+    let block = following("->", tokens)?;
     let most = longest(conjs.as_slice());
     let mut updates = List::new(alloc);
     let rest = block_at(vars, maxint, most, &mut updates, block)?;
@@ -70,7 +70,7 @@ fn guard_of<'a>(
     Ok(rest)
 }
 
-/// Puts onto the guards so far the one that stands first, and gives the tokens behind it.
+/// Puts onto the guards so far the one that stands first, and gives the tokens after it.
 #[tactic(auto, unfolding(crate::specs::Clauses::guard_at))]
 fn guard_at<'a>(
     alloc: Global,
@@ -123,7 +123,7 @@ fn always(alloc: Global) -> Result<List<List<Atom>>, NoMemory>
     Ok(conjs)
 }
 
-/// Puts the guard that always holds, as the last, onto the guards, and gives the tokens behind it.
+/// Puts the guard that always holds, as the last, onto the guards, and gives the tokens after it.
 #[tactic(auto, unfolding(crate::specs::Clauses::last_guard))]
 fn last_guard<'a>(
     alloc: Global,
@@ -165,7 +165,7 @@ fn with_else<'a>(
     }
 }
 
-/// Puts the guards of a clause onto an empty list, and gives the tokens behind them.
+/// Puts the guards of a clause onto an empty list, and gives the tokens after them.
 #[tactic(auto, unfolding(crate::specs::Clauses::body_at))]
 fn body_at<'a>(
     alloc: Global,
@@ -212,7 +212,7 @@ fn is_assigned(tokens: &[Token]) -> bool
     is_next("=", rest_of(tokens))
 }
 
-/// The name of a result, and the tokens behind `=`.
+/// The name of a result, and the tokens after `=`.
 #[tactic(auto, unfolding(crate::specs::Clauses::given_result_at))]
 fn given_result_at<'a>(
     vars: &[Var],
@@ -237,7 +237,7 @@ fn given_result_at<'a>(
             at: front_at(tokens),
         });
     }
-    let rest = behind("=", equals)?;
+    let rest = following("=", equals)?;
     Ok((name, rest))
 }
 
@@ -280,7 +280,7 @@ fn kinds_of(alloc: Global, params: &[Param]) -> Result<List<Kind>, NoMemory>
 }
 
 /// Puts the clause of this method, whose guards have to stand first, onto the clauses so far, and gives the tokens
-/// behind it.
+/// after it.
 #[tactic(auto, unfolding(crate::specs::Clauses::clause_of_method))]
 fn clause_of_method<'a>(
     alloc: Global,
@@ -296,7 +296,7 @@ fn clause_of_method<'a>(
         (clause_of_method names.now maxint head.0 head.1 params.now head.2 clauses.old tokens.now) }
 {
     let (method, phase, result) = head;
-    let body = behind("PERFORM", tokens)?;
+    let body = following("PERFORM", tokens)?;
     let mut guards = List::new(alloc);
     let rest = body_at(alloc, names, maxint, &mut guards, body)?;
     let args = kinds_of(alloc, params)?;
@@ -311,7 +311,7 @@ fn clause_of_method<'a>(
 }
 
 /// Puts the clause of this phase and type, whose result's name or method has to stand first, onto the clauses so far,
-/// and gives the tokens behind it.
+/// and gives the tokens after it.
 #[tactic(auto, unfolding(crate::specs::Clauses::clause_of_type))]
 fn clause_of_type<'a>(
     alloc: Global,
@@ -350,7 +350,7 @@ fn clause_of_type<'a>(
     )
 }
 
-/// Puts onto the clauses so far the one that stands first, and gives the tokens behind it.
+/// Puts onto the clauses so far the one that stands first, and gives the tokens after it.
 #[tactic(auto, unfolding(crate::specs::Clauses::clause_at))]
 fn clause_at<'a>(
     alloc: Global,
@@ -381,7 +381,7 @@ fn clause_at<'a>(
     )
 }
 
-/// Puts the clauses, at most 64, onto those so far, and gives the tokens behind them.
+/// Puts the clauses, at most 64, onto those so far, and gives the tokens after them.
 pub fn clauses_at<'a>(
     alloc: Global,
     methods: &[ListedMethod],

@@ -2,14 +2,14 @@
 
 ghost use Rattle.std.specs.Prelude.{◌≡◌};
 ghost use Rattle.mon_base.specs.Answer.{AnswersAs};
-ghost use Rattle.conspec_parse.specs.Forms.{behind, name_at, number_at, is_short};
+ghost use Rattle.conspec_parse.specs.Forms.{following, name_at, number_at, is_short};
 
 use crate::fault::PolicyFault;
 use conspec_tokens::{Token, front_at, is_next, next_name, next_number, rest_of};
 
-/// The tokens behind this keyword or sign, which has to stand first.
-pub fn behind<'a>(text: &str, tokens: &'a [Token]) -> Result<&'a [Token], PolicyFault>
-    ensures { AnswersAs PolicyFault.Memory (λ r. r.now) result (behind text.now tokens.now) }
+/// The tokens after this keyword or sign, which has to stand first.
+pub fn following<'a>(text: &str, tokens: &'a [Token]) -> Result<&'a [Token], PolicyFault>
+    ensures { AnswersAs PolicyFault.Memory (λ r. r.now) result (following text.now tokens.now) }
 {
     if !is_next(text, tokens) {
         return Err(PolicyFault::Syntax {
@@ -19,7 +19,7 @@ pub fn behind<'a>(text: &str, tokens: &'a [Token]) -> Result<&'a [Token], Policy
     Ok(rest_of(tokens))
 }
 
-/// The name that has to stand first, and the tokens behind it.
+/// The name that has to stand first, and the tokens after it.
 pub fn name_at(tokens: &[Token]) -> Result<(&[u8], &[Token]), PolicyFault>
     ensures { AnswersAs PolicyFault.Memory (λ r. (r.0.now, r.1.now)) result (name_at tokens.now) }
 {
@@ -31,7 +31,7 @@ pub fn name_at(tokens: &[Token]) -> Result<(&[u8], &[Token]), PolicyFault>
     Ok((name, rest_of(tokens)))
 }
 
-/// The number that has to stand first, and the tokens behind it.
+/// The number that has to stand first, and the tokens after it.
 pub fn number_at(tokens: &[Token]) -> Result<(u64, &[Token]), PolicyFault>
     ensures { AnswersAs PolicyFault.Memory (λ r. (r.0, r.1.now)) result (number_at tokens.now) }
 {

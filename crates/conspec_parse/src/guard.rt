@@ -21,7 +21,7 @@ ghost use Rattle.conspec_parse.specs.Guards.{
 };
 
 use crate::fault::PolicyFault;
-use crate::forms::{behind, name_at, number_at};
+use crate::forms::{following, name_at, number_at};
 use crate::scope::Names;
 use conspec_tokens::{Token, front_at, is_next, rest_of};
 use conspec_tree::{Atom, Rel, is_equality, is_number, is_truth};
@@ -96,7 +96,7 @@ fn positive_at(truth: bool, tokens: &[Token]) -> Result<(i32, &[Token]), PolicyF
     Ok((number as i32, rest))
 }
 
-/// The constant, for a bool or for a number, that has to stand first, and the tokens behind it.
+/// The constant, for a bool or for a number, that has to stand first, and the tokens after it.
 pub fn constant_at(truth: bool, tokens: &[Token]) -> Result<(i32, &[Token]), PolicyFault>
     ensures { AnswersAs PolicyFault.Memory (λ r. (r.0, r.1.now)) result (constant_at truth tokens.now) }
 {
@@ -111,7 +111,7 @@ pub fn constant_at(truth: bool, tokens: &[Token]) -> Result<(i32, &[Token]), Pol
     }
 }
 
-/// The relation that has to stand first, and the tokens behind it.
+/// The relation that has to stand first, and the tokens after it.
 fn rel_at(tokens: &[Token]) -> Result<(Rel, &[Token]), PolicyFault>
     ensures { AnswersAs PolicyFault.Memory (λ r. (r.0, r.1.now)) result (taken (next_rel tokens.now) tokens.now) }
 {
@@ -123,7 +123,7 @@ fn rel_at(tokens: &[Token]) -> Result<(Rel, &[Token]), PolicyFault>
     }
 }
 
-/// The atom that has to stand first, where there is room for one, and the tokens behind it.
+/// The atom that has to stand first, where there is room for one, and the tokens after it.
 #[tactic(auto, unfolding(crate::specs::Guards::atom_at))]
 fn atom_at<'a>(
     names: &Names<'_>,
@@ -161,7 +161,7 @@ fn atom_at<'a>(
     Ok((Atom { base, rel, value }, rest))
 }
 
-/// Puts onto the atoms of a branch, at most 16, the one that stands behind `&&`, and gives the tokens behind it.
+/// Puts onto the atoms of a branch, at most 16, the one that stands after `&&`, and gives the tokens after it.
 #[tactic(auto, unfolding(crate::specs::Guards::next_atom))]
 fn next_atom<'a>(
     names: &Names<'_>,
@@ -172,7 +172,7 @@ fn next_atom<'a>(
     ensures { AnswersAs PolicyFault.Memory (λ rest. (atoms.new, rest.now)) result (next_atom names.now atoms.old tokens.now) }
 {
     let room = atoms.len() < 16;
-    let left = behind("&&", tokens)?;
+    let left = following("&&", tokens)?;
     let (atom, rest) = atom_at(names, room, left)?;
     atoms.push(atom)?;
     Ok(rest)
@@ -197,7 +197,7 @@ fn atoms_from<'a>(
     Ok(left)
 }
 
-/// The tokens behind `true`, a branch with no atoms.
+/// The tokens after `true`, a branch with no atoms.
 #[tactic(auto, unfolding(crate::specs::Guards::no_atoms))]
 fn no_atoms(room: bool, tokens: &[Token]) -> Result<&[Token], PolicyFault>
     ensures exact { AnswersAs PolicyFault.Memory (λ rest. ([], rest.now)) result (no_atoms room tokens.now) }
@@ -228,7 +228,7 @@ fn atoms_at<'a>(
     atoms_from(names, atoms, rest)
 }
 
-/// Puts the atoms of the branch that has to stand first onto an empty list, and gives the tokens behind it.
+/// Puts the atoms of the branch that has to stand first onto an empty list, and gives the tokens after it.
 fn conj_at<'a>(
     names: &Names<'_>,
     room: bool,
@@ -247,7 +247,7 @@ fn conj_at<'a>(
     }
 }
 
-/// Puts onto the branches of a guard the one that stands behind `||`, and gives the tokens behind it. So many stand
+/// Puts onto the branches of a guard the one that stands after `||`, and gives the tokens after it. So many stand
 /// before the guard.
 #[tactic(auto, unfolding(crate::specs::Guards::next_conj))]
 fn next_conj<'a>(
@@ -264,7 +264,7 @@ fn next_conj<'a>(
     ensures within { IfOk result (λ _. before + length conjs.new ≤ 64) }
 {
     let room = before + conjs.len() < 64;
-    let left = behind("||", tokens)?;
+    let left = following("||", tokens)?;
     let mut conj = List::new(alloc);
     let rest = conj_at(names, room, &mut conj, left)?;
     conjs.push(conj)?;
@@ -294,7 +294,7 @@ fn conjs_from<'a>(
     Ok(left)
 }
 
-/// Puts the branches of the guard that has to stand first onto an empty list, and gives the tokens behind them. So
+/// Puts the branches of the guard that has to stand first onto an empty list, and gives the tokens after them. So
 /// many branches stand before it.
 #[tactic(auto, unfolding(crate::specs::Guards::conjs_at))]
 pub fn conjs_at<'a>(

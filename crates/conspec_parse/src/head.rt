@@ -5,7 +5,7 @@ ghost use Rattle.mon_base.specs.Answer.{AnswersAs};
 ghost use Rattle.mon_base.specs.Reading.{◌>>=◌ as ◌then◌};
 ghost use Rattle.conspec_tokens.specs.declared.token.Token.{Token};
 ghost use Rattle.conspec_tree.specs.declared.types.Var.{Var};
-ghost use Rattle.conspec_parse.specs.Forms.{behind};
+ghost use Rattle.conspec_parse.specs.Forms.{following};
 ghost use Rattle.conspec_parse.specs.Head.{
   header_at,
   truth_at,
@@ -17,28 +17,28 @@ ghost use Rattle.conspec_parse.specs.Head.{
 };
 
 use crate::fault::PolicyFault;
-use crate::forms::{behind, is_short, name_at, number_at};
+use crate::forms::{following, is_short, name_at, number_at};
 use conspec_tokens::{Token, front_at, is_next, rest_of};
 use conspec_tree::{Var, is_variable};
 use mon_base::{Bytes, List};
 use std::alloc::Global;
 
-/// The number behind `MAXINT`, from 1 to 1,000,000,000, and the tokens behind `STATE`.
+/// The number after `MAXINT`, from 1 to 1,000,000,000, and the tokens after `STATE`.
 #[tactic(auto, unfolding(crate::specs::Head::header_at))]
 pub fn header_at(tokens: &[Token]) -> Result<(i32, &[Token]), PolicyFault>
     ensures { AnswersAs PolicyFault.Memory (λ r. (r.0, r.1.now)) result (header_at tokens.now) }
 {
-    let number = behind("MAXINT", tokens)?;
+    let number = following("MAXINT", tokens)?;
     let (maxint, scope) = number_at(number)?;
     if maxint < 1 || maxint > 1_000_000_000 {
         return Err(PolicyFault::Range {
             at: front_at(number),
         });
     }
-    let session = behind("SCOPE", scope)?;
-    let security = behind("Session", session)?;
-    let state = behind("SECURITY", security)?;
-    let rest = behind("STATE", state)?;
+    let session = following("SCOPE", scope)?;
+    let security = following("Session", session)?;
+    let state = following("SECURITY", security)?;
+    let rest = following("STATE", state)?;
     Ok((maxint as i32, rest))
 }
 
@@ -86,8 +86,8 @@ fn begins_variable(tokens: &[Token]) -> bool
     is_next("int", tokens) || is_next("bool", tokens)
 }
 
-/// Puts the variable of this name and kind, whose first value has to stand behind `=`, onto the variables, and gives
-/// the tokens behind it.
+/// Puts the variable of this name and kind, whose first value has to stand after `=`, onto the variables, and gives
+/// the tokens after it.
 fn variable_of<'a>(
     alloc: Global,
     maxint: i32,
@@ -98,14 +98,14 @@ fn variable_of<'a>(
 ) -> Result<&'a [Token], PolicyFault>
     requires { length vars.old < 16 }
     ensures exact { AnswersAs {Y = Items Var × Items Token} PolicyFault.Memory (λ rest. (vars.new, rest.now)) result
-        (behind (codes "=") tokens.now then λ equals. first_at maxint is_bool equals
-        then λ first. behind (codes ";") first.1
+        (following (codes "=") tokens.now then λ equals. first_at maxint is_bool equals
+        then λ first. following (codes ";") first.1
         then λ ended. Ok (vars.old ++ (record { name = name.now; is_bool = is_bool; first = first.0 }) ∷ [], ended)) }
     ensures few { IfOk result (λ _. length vars.new ≤ 16) }
 {
-    let value = behind("=", tokens)?;
+    let value = following("=", tokens)?;
     let (first, end) = first_at(maxint, is_bool, value)?;
-    let rest = behind(";", end)?;
+    let rest = following(";", end)?;
     let name = Bytes::from_slice(alloc, name)?;
     vars.push(Var {
         name,
@@ -115,7 +115,7 @@ fn variable_of<'a>(
     Ok(rest)
 }
 
-/// Puts onto the variables the one that stands first, and gives the tokens behind it.
+/// Puts onto the variables the one that stands first, and gives the tokens after it.
 #[tactic(auto, unfolding(crate::specs::Head::variable_at))]
 fn variable_at<'a>(
     alloc: Global,
@@ -147,7 +147,7 @@ fn variable_at<'a>(
     variable_of(alloc, maxint, name, is_bool, vars, equals)
 }
 
-/// Puts the state variables, at most 16, onto an empty list, and gives the tokens behind them.
+/// Puts the state variables, at most 16, onto an empty list, and gives the tokens after them.
 pub fn variables_at<'a>(
     alloc: Global,
     maxint: i32,

@@ -90,8 +90,8 @@ fn found_method(
     index_at(methods, clauses, phase, at, signature, &desc)
 }
 
-/// The tokens behind the method that stands first, whose names are judged.
-fn behind_method<'a>(
+/// The tokens after the method that stands first, whose names are judged.
+fn after_method<'a>(
     alloc: Global,
     vars: &[Var],
     tokens: &'a [Token],
@@ -103,7 +103,7 @@ fn behind_method<'a>(
     Ok(rest)
 }
 
-/// The listed method with this signature, which stands first, by its index, and the tokens behind it.
+/// The listed method with this signature, which stands first, by its index, and the tokens after it.
 fn listed_method<'a>(
     alloc: Global,
     methods: &[ListedMethod],
@@ -121,11 +121,11 @@ fn listed_method<'a>(
 {
     let at = front_at(tokens);
     let method = found_method(alloc, methods, clauses, phase, returned, at, loose)?;
-    let rest = behind_method(alloc, vars, tokens)?;
+    let rest = after_method(alloc, vars, tokens)?;
     Ok((method, rest))
 }
 
-/// The method that has to stand first, by its index among the listed, its parameters, and the tokens behind it.
+/// The method that has to stand first, by its index among the listed, its parameters, and the tokens after it.
 pub fn method_at<'a>(
     alloc: Global,
     methods: &[ListedMethod],
@@ -149,7 +149,7 @@ pub fn method_at<'a>(
         }
         Err(PolicyFault::Memory) => Err(PolicyFault::Memory),
         Err(fault) => {
-            behind_method(alloc, vars, tokens)?;
+            after_method(alloc, vars, tokens)?;
             Err(fault)
         }
     }

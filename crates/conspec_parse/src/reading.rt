@@ -3,7 +3,7 @@
 ghost use Rattle.std.specs.Prelude.{◌≡◌, ◌<◌, ◌^◌, length, IfOk, MatchResult};
 ghost use Rattle.conspec_parse.specs.declared.fault.PolicyFault.TheVariants as faults;
 ghost use Rattle.mon_base.specs.Answer.{Answers};
-ghost use Rattle.conspec_parse.specs.Meaning.{SpellsPolicy};
+ghost use Rattle.conspec_parse.specs.Meaning.{EncodesPolicy};
 ghost use Rattle.conspec_parse.specs.Policy.{policy_at, reading};
 ghost use Rattle.conspec_tree.specs.Tree.{IsPolicyTree};
 
@@ -21,10 +21,10 @@ pub fn parse(alloc: Global, text: &[u8], listing: &Listing) -> Result<PolicyTree
     requires { length listing.now.methods < 2 ^ 32 }
     // What is read decides the answer, and of several faults which one.
     ensures exact { Answers PolicyFault.Memory result (reading text.now listing.now) }
-    // What is read is spelled so.
-    ensures found { IfOk result (λ t. SpellsPolicy text.now listing.now t) }
-    // What is spelled so is read, unless memory runs out.
-    ensures only { (t : PolicyTree) → SpellsPolicy text.now listing.now t
+    // What is read is encoded so.
+    ensures found { IfOk result (λ t. EncodesPolicy text.now listing.now t) }
+    // What is encoded so is read, unless memory runs out.
+    ensures only { (t : PolicyTree) → EncodesPolicy text.now listing.now t
         → MatchResult result (λ r. r ≡ t) (λ e. e ≡ faults.Memory) }
     // It keeps the limits and ranges, and what its parts name is there and can be asked.
     ensures sound { IfOk result (λ t. IsPolicyTree listing.now t) }

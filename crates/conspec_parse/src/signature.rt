@@ -5,7 +5,7 @@ ghost use Rattle.mon_base.specs.Answer.{AnswersAs};
 ghost use Rattle.mon_base.specs.Reading.{◌>>=◌ as ◌then◌, need};
 ghost use Rattle.conspec_tokens.specs.Front.{front_at, is_next};
 ghost use Rattle.conspec_parse.specs.declared.fault.PolicyFault.TheVariants.{Syntax};
-ghost use Rattle.conspec_parse.specs.Forms.{behind, each};
+ghost use Rattle.conspec_parse.specs.Forms.{following, each};
 ghost use Rattle.conspec_parse.specs.Methods.{
   is_named,
   is_parameter,
@@ -25,7 +25,7 @@ ghost use Rattle.conspec_parse.specs.Methods.{
 };
 
 use crate::fault::PolicyFault;
-use crate::forms::{behind, is_short, name_at};
+use crate::forms::{following, is_short, name_at};
 use crate::type_name::{judged_name, type_at};
 use conspec_tokens::{Token, front_at, is_name, is_next, rest_of};
 use conspec_tree::{Kind, Var, is_variable, kind_or_object};
@@ -132,7 +132,7 @@ fn parameter_name_at<'a>(
     Ok((Some(name), rest))
 }
 
-/// Puts onto the parameters the one that stands first, and gives the tokens behind it.
+/// Puts onto the parameters the one that stands first, and gives the tokens after it.
 #[tactic(auto, unfolding(crate::specs::Methods::parameter_at))]
 fn parameter_at<'a>(
     alloc: Global,
@@ -166,7 +166,7 @@ fn next_parameter<'a>(
     ensures { AnswersAs PolicyFault.Memory (λ rest. (params.new, rest.now)) result
         (next_parameter judged vars.now params.old tokens.now) }
 {
-    let left = behind(",", tokens)?;
+    let left = following(",", tokens)?;
     parameter_at(alloc, judged, vars, params, left)
 }
 
@@ -222,7 +222,7 @@ fn parameters_at<'a>(
     }
 }
 
-/// Puts the parameters between brackets, which have to stand first, onto an empty list, and gives the tokens behind
+/// Puts the parameters between brackets, which have to stand first, onto an empty list, and gives the tokens after
 /// them.
 #[tactic(auto, unfolding(crate::specs::Methods::bracketed))]
 fn bracketed<'a>(
@@ -235,12 +235,12 @@ fn bracketed<'a>(
     requires { params.old ≡ [] }
     ensures { AnswersAs PolicyFault.Memory (λ rest. (params.new, rest.now)) result (bracketed judged vars.now tokens.now) }
 {
-    let opened = behind("(", tokens)?;
+    let opened = following("(", tokens)?;
     let closed = parameters_at(alloc, judged, vars, params, opened)?;
-    behind(")", closed)
+    following(")", closed)
 }
 
-/// The name of a class's part or of a method, and the tokens behind it.
+/// The name of a class's part or of a method, and the tokens after it.
 fn part_at(alloc: Global, judged: bool, tokens: &[Token]) -> Result<(Bytes, &[Token]), PolicyFault>
     ensures { AnswersAs PolicyFault.Memory (λ r. (r.0, r.1.now)) result (part_at judged tokens.now) }
 {
@@ -266,7 +266,7 @@ fn class_under(parts: Parts) -> Result<Bytes, NoMemory>
     Ok(class)
 }
 
-/// The part behind the dot that has to stand first, and the tokens behind it. Nothing stands below the last part.
+/// The part after the dot that has to stand first, and the tokens after it. Nothing stands below the last part.
 fn part_below(
     alloc: Global,
     judged: bool,
@@ -275,18 +275,18 @@ fn part_below(
 ) -> Result<(Bytes, &[Token]), PolicyFault>
     ensures { AnswersAs PolicyFault.Memory (λ r. (r.0, r.1.now)) result
         (need (not is_last) (Syntax (front_at tokens.now))
-        then λ below. behind (codes ".") tokens.now then λ dot. part_at judged dot) }
+        then λ below. following (codes ".") tokens.now then λ dot. part_at judged dot) }
 {
     if is_last {
         return Err(PolicyFault::Syntax {
             at: front_at(tokens),
         });
     }
-    let part = behind(".", tokens)?;
+    let part = following(".", tokens)?;
     part_at(alloc, judged, part)
 }
 
-/// The parts so far, and below them the one behind the dot. Nothing stands below a constructor.
+/// The parts so far, and below them the one after the dot. Nothing stands below a constructor.
 #[tactic(auto, unfolding(crate::specs::Methods::next_step))]
 fn next_step<'a>(
     alloc: Global,
@@ -348,7 +348,7 @@ fn path_at(alloc: Global, judged: bool, tokens: &[Token]) -> Result<(Path, &[Tok
     }
 }
 
-/// The method that has to stand first, with its parameters, and the tokens behind them. Where names are judged they
+/// The method that has to stand first, with its parameters, and the tokens after them. Where names are judged they
 /// are not too long, and a parameter's name is no other's.
 #[tactic(auto, unfolding(crate::specs::Methods::signature_at, crate::specs::Methods::bracketed))]
 pub fn signature_at<'a>(

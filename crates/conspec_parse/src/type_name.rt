@@ -14,12 +14,12 @@ ghost use Rattle.conspec_parse.specs.Types.{
   array_of,
   type_at,
 };
-ghost use Rattle.api_listing.specs.Descriptor.{class_spelled};
+ghost use Rattle.api_listing.specs.Descriptor.{class_encoded};
 ghost use Rattle.conspec_tokens.specs.Front.{is_next};
 ghost use Rattle.conspec_parse.specs.Forms.{each};
 
 use crate::fault::PolicyFault;
-use crate::forms::{behind, is_short, name_at};
+use crate::forms::{following, is_short, name_at};
 use conspec_tokens::{Token, front_at, is_next, rest_of};
 use conspec_tree::Kind;
 use mon_base::{Bytes, NoMemory};
@@ -85,7 +85,7 @@ fn plain_type(alloc: Global, tokens: &[Token]) -> Result<Option<TypeName>, NoMem
     }
 }
 
-/// Puts onto the names of a class so far the one behind the dot, and gives the tokens behind it.
+/// Puts onto the names of a class so far the one after the dot, and gives the tokens after it.
 #[tactic(auto, unfolding(crate::specs::Types::next_part))]
 fn next_part<'a>(
     judged: bool,
@@ -94,7 +94,7 @@ fn next_part<'a>(
 ) -> Result<&'a [Token], PolicyFault>
     ensures { AnswersAs PolicyFault.Memory (λ rest. (class.new, rest.now)) result (next_part judged class.old tokens.now) }
 {
-    let named = behind(".", tokens)?;
+    let named = following(".", tokens)?;
     let (name, rest) = judged_name(judged, named)?;
     class.push(b'/')?;
     class.extend(name)?;
@@ -131,7 +131,7 @@ fn class_from<'a>(
 
 /// The descriptor of a class.
 fn class_desc(alloc: Global, class: &[u8]) -> Result<Bytes, NoMemory>
-    ensures { IfOk result (λ desc. desc ≡ class_spelled class.now) }
+    ensures { IfOk result (λ desc. desc ≡ class_encoded class.now) }
 {
     let mut desc = Bytes::from_slice(alloc, b"L")?;
     desc.extend(class)?;
@@ -171,13 +171,13 @@ fn element_at(
     }
 }
 
-/// Puts onto the dimensions so far the one that stands first, and gives the tokens behind it.
+/// Puts onto the dimensions so far the one that stands first, and gives the tokens after it.
 #[tactic(auto, unfolding(crate::specs::Types::dimension_at))]
 fn dimension_at<'a>(brackets: &mut Bytes, tokens: &'a [Token]) -> Result<&'a [Token], PolicyFault>
     ensures { AnswersAs PolicyFault.Memory (λ rest. (brackets.new, rest.now)) result (dimension_at brackets.old tokens.now) }
 {
-    let opened = behind("[", tokens)?;
-    let rest = behind("]", opened)?;
+    let opened = following("[", tokens)?;
+    let rest = following("]", opened)?;
     brackets.push(b'[')?;
     Ok(rest)
 }
@@ -213,7 +213,7 @@ fn array_of(brackets: Bytes, element: TypeName) -> Result<TypeName, NoMemory>
     })
 }
 
-/// The type that has to stand first, and the tokens behind it.
+/// The type that has to stand first, and the tokens after it.
 #[tactic(auto, unfolding(crate::specs::Types::type_at))]
 pub fn type_at(
     alloc: Global,

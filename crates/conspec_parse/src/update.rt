@@ -15,7 +15,7 @@ ghost use Rattle.conspec_parse.specs.Updates.{
 };
 
 use crate::fault::PolicyFault;
-use crate::forms::{behind, name_at, number_at};
+use crate::forms::{following, name_at, number_at};
 use crate::guard::constant_at;
 use conspec_tokens::{Token, front_at, is_name, is_next, rest_of};
 use conspec_tree::{Update, Var, all_range_atoms, is_updated, variable_named};
@@ -51,7 +51,7 @@ fn next_sign(tokens: &[Token]) -> Option<bool>
     None
 }
 
-/// Whether the sign that has to stand first is `-`, and the tokens behind it.
+/// Whether the sign that has to stand first is `-`, and the tokens after it.
 fn sign_at(tokens: &[Token]) -> Result<(bool, &[Token]), PolicyFault>
     ensures { AnswersAs PolicyFault.Memory (λ r. (r.0, r.1.now)) result (taken (next_sign tokens.now) tokens.now) }
 {
@@ -128,7 +128,7 @@ fn right_at<'a>(
     }
 }
 
-/// Puts onto the updates the one that has to stand first, and gives the tokens behind it. The longest branch has so
+/// Puts onto the updates the one that has to stand first, and gives the tokens after it. The longest branch has so
 /// many atoms of its own.
 #[tactic(auto, unfolding(crate::specs::Updates::update_at))]
 fn update_at<'a>(
@@ -153,15 +153,15 @@ fn update_at<'a>(
             at: front_at(tokens),
         });
     }
-    let right = behind("=", equals)?;
+    let right = following("=", equals)?;
     let room = atoms.saturating_add(all_range_atoms(updates.as_slice())) < 16;
     let (update, end) = right_at(maxint, room, name, var, right)?;
-    let rest = behind(";", end)?;
+    let rest = following(";", end)?;
     updates.push(update)?;
     Ok(rest)
 }
 
-/// Puts the updates that stand first onto those so far, and gives the tokens behind them.
+/// Puts the updates that stand first onto those so far, and gives the tokens after them.
 fn updates_from<'a>(
     vars: &[Var],
     maxint: i32,
@@ -183,7 +183,7 @@ fn updates_from<'a>(
     Ok(left)
 }
 
-/// Puts the updates between braces, which have to stand first, onto an empty list, and gives the tokens behind them.
+/// Puts the updates between braces, which have to stand first, onto an empty list, and gives the tokens after them.
 /// The longest branch of their guard has so many atoms of its own.
 #[tactic(auto, unfolding(crate::specs::Updates::block_at))]
 pub fn block_at<'a>(
@@ -197,7 +197,7 @@ pub fn block_at<'a>(
     requires none { updates.old ≡ [] }
     ensures { AnswersAs PolicyFault.Memory (λ rest. (updates.new, rest.now)) result (block_at vars.now maxint atoms tokens.now) }
 {
-    let opened = behind("{", tokens)?;
+    let opened = following("{", tokens)?;
     let end = updates_from(vars, maxint, atoms, updates, opened)?;
-    behind("}", end)
+    following("}", end)
 }

@@ -93,7 +93,7 @@ abbrev pub is_wrong : Lexeme → Bool
 is_wrong Wrong = true
 is_wrong other = false
 
--- where the next byte stands. Nothing is read behind bytes that begin no token.
+-- where the next byte stands. Nothing is read after bytes that begin no token.
 abbrev pub next_spot : Piece → Option Spot
 next_spot (Skips spot) = Some spot
 next_spot (Begins lexeme more) = if is_wrong lexeme then None else Some (Inside more)

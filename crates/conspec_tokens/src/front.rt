@@ -16,7 +16,7 @@ ghost use Rattle.conspec_tokens.specs.Front.{
 
 use crate::token::{Lexeme, Token};
 
-/// The tokens behind the first.
+/// The tokens after the first.
 pub fn rest_of(tokens: &[Token]) -> &[Token]
     ensures { result.now ≡ drop 1 tokens.now }
 {

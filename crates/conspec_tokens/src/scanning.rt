@@ -108,7 +108,7 @@ pub fn tokens_of(alloc: Global, text: &[u8]) -> Result<List<Token>, NoMemory>
     Ok(tokens)
 }
 
-/// The tokens, and behind them the one that begins.
+/// The tokens, and after them the one that begins.
 fn with_begun(tokens: List<Token>, at: u64, found: Piece) -> Result<List<Token>, NoMemory>
     ensures { IfOk result (λ more. more ≡ tokens ++ begun at found) }
 {
@@ -120,7 +120,7 @@ fn with_begun(tokens: List<Token>, at: u64, found: Piece) -> Result<List<Token>,
     Ok(tokens)
 }
 
-/// Where the next byte stands: nothing is read behind bytes that begin no token.
+/// Where the next byte stands: nothing is read after bytes that begin no token.
 fn next_spot(found: &Piece) -> Option<Spot>
     ensures { result ≡ next_spot found.now }
 {

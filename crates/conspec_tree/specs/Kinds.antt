@@ -61,6 +61,6 @@ abbrev pub array_kind : ℕ → Element → Kind
 array_kind zero element = element_kind element
 array_kind (suc n) element = kinds.Object
 
--- the kind of a type that a descriptor spells
+-- the kind of a type that a descriptor encodes
 abbrev pub kind_of : FieldType → Kind
 kind_of t = array_kind t.dimensions t.element

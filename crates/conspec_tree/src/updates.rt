@@ -1,4 +1,4 @@
-//! What updates ask of the branches that they stand behind.
+//! What updates ask of the branches that they stand after.
 
 ghost use Rattle.std.specs.Prelude.{◌≡◌, ◌≤◌};
 ghost use Rattle.conspec_tree.specs.Updates.{target, is_updated, range_atoms, all_range_atoms};

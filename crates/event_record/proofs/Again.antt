@@ -101,12 +101,12 @@ pub front_of : (class rest : List ℕ) → take (length class) (class ++ rest) �
 front_of [] rest = refl
 front_of (b ∷ class) rest = ap (λ (t : List ℕ). b ∷ t) (front_of class rest)
 
-behind_suc : (class rest : List ℕ) → drop (suc (length class)) (class ++ 64 ∷ rest) ≡ rest
-behind_suc [] rest = refl
-behind_suc (b ∷ class) rest = behind_suc class rest
+after_suc : (class rest : List ℕ) → drop (suc (length class)) (class ++ 64 ∷ rest) ≡ rest
+after_suc [] rest = refl
+after_suc (b ∷ class) rest = after_suc class rest
 
-pub behind_of : (class rest : List ℕ) → drop (length class + 1) (class ++ 64 ∷ rest) ≡ rest
-behind_of class rest = rw add-one (behind_suc class rest)
+pub after_of : (class rest : List ℕ) → drop (length class + 1) (class ++ 64 ∷ rest) ≡ rest
+after_of class rest = rw add-one (after_suc class rest)
 
 some_of : (class : List ℕ) → class ≢ [] → nat_lt 0 (length class) ≡ true
 some_of [] some = absurd (some refl)
@@ -117,7 +117,7 @@ unfolding object_value object_parts
 object_again class at some small =
     let digits = (decimal_is_IsNumeral at (omega arith)).0 in
     let place : last_at 0 None (class ++ 64 ∷ decimal at) ≡ Some (length class) = last_of class (decimal at) 0 None (no_sign (decimal at) digits.1) ∙ ap Some (omega arith) in
-    let index : index_of (drop (length class + 1) (class ++ 64 ∷ decimal at)) ≡ Some at = ap index_of (behind_of class (decimal at)) ∙ index_again at small in
+    let index : index_of (drop (length class + 1) (class ++ 64 ∷ decimal at)) ≡ Some at = ap index_of (after_of class (decimal at)) ∙ index_again at small in
     rw (place, some_of class some, index, front_of class (64 ∷ decimal at)) refl
 
 class_again : (class : List ℕ) → class ≢ [] → class_value class ≡ Ok (Class class)

@@ -15,9 +15,9 @@ use Rattle.api_listing.specs.declared.descriptor.FieldType.{FieldType}
 use Rattle.api_listing.specs.declared.types.ListedClass.{ListedClass}
 use Rattle.api_listing.specs.declared.types.Listing.{Listing}
 use Rattle.api_listing.specs.BuiltIn.{built_in_classes, class_rows}
-use Rattle.api_listing.specs.Descriptor.{SpellsClass, element_spelled, is_type, type_spelled}
+use Rattle.api_listing.specs.Descriptor.{EncodesClass, element_encoded, is_type, type_encoded}
 use Rattle.api_listing.specs.Lines.{says_something}
-use Rattle.api_listing.specs.Listing.{AreSaid, SpellsListing, class_declared, field_declared, is_known}
+use Rattle.api_listing.specs.Listing.{AreSaid, EncodesListing, class_declared, field_declared, is_known}
 use Rattle.api_listing.specs.Nearest.{class_named as nearest_named}
 use Rattle.api_listing.specs.Words.{is_class_name, is_name_byte}
 use Rattle.api_listing.proofs.ClassBytes.{class_bytes}
@@ -28,7 +28,7 @@ use Rattle.guest_model.proofs.Options.{all_append}
 use Rattle.guest_model.specs.Calling.{second_start}
 use Rattle.guest_model.specs.Parts.{bad_monitor, null_pointer}
 use Rattle.guest_model.specs.Runs.{inner}
-use Rattle.guest_model.specs.Working.{bad_cast, bad_division, bad_item, bad_place, bad_size}
+use Rattle.guest_model.specs.HeapOperations.{bad_cast, bad_division, bad_item, bad_place, bad_size}
 use Rattle.event_record.specs.Printing.{HasNoBreak}
 use Rattle.event_record.proofs.Unbroken.{joined, written}
 use Rattle.event_record.proofs.WrittenLines.{IsNamed}
@@ -102,7 +102,7 @@ class_named (b ∷ name) e = some_name b name (class_bytes IsNoBreak (λ e. omeg
 
 -- ---- types
 
-element_named : (e : Element) → is_type (record { dimensions = 0; element = e }) ≡ true → IsNamed (element_spelled e)
+element_named : (e : Element) → is_type (record { dimensions = 0; element = e }) ≡ true → IsNamed (element_encoded e)
 element_named elements.Boolean h = some_name _ _ (written (codes "Z") refl)
 element_named elements.Byte h = some_name _ _ (written (codes "B") refl)
 element_named elements.Char h = some_name _ _ (written (codes "C") refl)
@@ -114,8 +114,8 @@ deeper_named : (n : ℕ) (text : List ℕ) → IsNamed text → IsNamed (replica
 deeper_named zero text h = h
 deeper_named (suc n) text h = some_name _ _ ((λ e. omega (arith, e), λ e. omega (arith, e)), (deeper_named n text h).1)
 
-pub type_named : (t : FieldType) → is_type t ≡ true → IsNamed (type_spelled t)
-type_named t h = deeper_named t.dimensions (element_spelled t.element) (element_named t.element h)
+pub type_named : (t : FieldType) → is_type t ≡ true → IsNamed (type_encoded t)
+type_named t h = deeper_named t.dimensions (element_encoded t.element) (element_named t.element h)
 
 -- the class in the descriptor of a field
 front_is : (name : List ℕ) (end : List ℕ) → take (length name) (name ++ end) ≡ name
@@ -128,8 +128,8 @@ inner_is name =
     let less : length (name ++ 59 ∷ []) - 1 ≡ length name = omega (arith, long) in
     ap (λ (n : ℕ). take n (name ++ 59 ∷ [])) less ∙ front_is name (59 ∷ [])
 
-pub inner_named : (desc name : List ℕ) → SpellsClass desc name → IsNamed (inner desc)
-inner_named desc name s = subst IsNamed (sym (ap inner s.spelled ∙ inner_is name)) (class_named name s.named)
+pub inner_named : (desc name : List ℕ) → EncodesClass desc name → IsNamed (inner desc)
+inner_named desc name s = subst IsNamed (sym (ap inner s.encoded ∙ inner_is name)) (class_named name s.named)
 
 -- ---- the classes and the fields of a listing
 
@@ -165,16 +165,16 @@ fields_said (line ∷ lines) (Class c ∷ said) are = fields_said lines said are
 fields_said (line ∷ lines) (Method m types ∷ said) are = fields_said lines said are.1
 fields_said (line ∷ lines) (Field id class ∷ said) are = (inner_named id.desc class are.0.1, fields_said lines said are.1)
 
-module _ (text : List ℕ) (listing : Listing) (spells : SpellsListing text listing) where
+module _ (text : List ℕ) (listing : Listing) (encodes : EncodesListing text listing) where
   pub listed_classes : ClassesNamed listing.classes
   listed_classes =
-      subst (λ (l : Listing). ClassesNamed l.classes) (sym spells.listed)
-      (all_append (λ (c : ListedClass). IsNamed c.name) built_in_classes (filter_map class_declared spells.said)
-      (proper built_in_classes built_in_proper) (classes_said (filter says_something spells.lines) spells.said spells.spelled))
+      subst (λ (l : Listing). ClassesNamed l.classes) (sym encodes.listed)
+      (all_append (λ (c : ListedClass). IsNamed c.name) built_in_classes (filter_map class_declared encodes.said)
+      (proper built_in_classes built_in_proper) (classes_said (filter says_something encodes.lines) encodes.said encodes.encoded))
 
   pub listed_fields : FieldsNamed listing.fields
   listed_fields =
-      subst (λ (l : Listing). FieldsNamed l.fields) (sym spells.listed) (fields_said (filter says_something spells.lines) spells.said spells.spelled)
+      subst (λ (l : Listing). FieldsNamed l.fields) (sym encodes.listed) (fields_said (filter says_something encodes.lines) encodes.said encodes.encoded)
 
 -- ---- classes that are known
 

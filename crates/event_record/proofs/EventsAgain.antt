@@ -15,7 +15,7 @@ use Rattle.event_record.specs.declared.entry.Entry.TheVariants.{Seen}
 use Rattle.event_record.specs.Again.{IsPrinted}
 use Rattle.event_record.specs.Entry.{call_event, entry_of, event_line, event_of, except_event, line_of, method_event, result_of, return_event, values_from}
 use Rattle.event_record.specs.Library.{Library}
-use Rattle.event_record.specs.Printing.{HasNoBreak, IsEventOf, IsInWords, IsValue, behind, event_text, event_words, method_listed, result_behind, result_words, value_behind}
+use Rattle.event_record.specs.Printing.{HasNoBreak, IsEventOf, IsInWords, IsValue, following, event_text, event_words, method_listed, result_after, result_words, value_after}
 use Rattle.event_record.specs.Value.{value_word}
 use Rattle.event_record.proofs.Again.{index_again, value_again}
 use Rattle.event_record.proofs.Unbroken.{decimal_word, in_line, no_space, value_is_word, values_are_words, written}
@@ -35,26 +35,26 @@ append_none : (xs : List ℕ) → xs ++ [] ≡ xs
 append_none [] = refl
 append_none (x ∷ xs) = ap (λ (t : List ℕ). x ∷ t) (append_none xs)
 
--- the same as each word behind a space
-pub spaced_is : (word : List ℕ) (words : List (List ℕ)) → word ++ flat_map behind words ≡ spaced word words
+-- the same as each word after a space
+pub spaced_is : (word : List ℕ) (words : List (List ℕ)) → word ++ flat_map following words ≡ spaced word words
 spaced_is word [] = append_none word
 spaced_is word (next ∷ words) = ap (λ (t : List ℕ). word ++ 32 ∷ t) (spaced_is next words)
 
-values_are : (values : List ApiValue) → flat_map value_behind values ≡ flat_map behind (map value_word values)
+values_are : (values : List ApiValue) → flat_map value_after values ≡ flat_map following (map value_word values)
 values_are [] = refl
-values_are (v ∷ values) = ap (λ (t : List ℕ). value_behind v ++ t) (values_are values)
+values_are (v ∷ values) = ap (λ (t : List ℕ). value_after v ++ t) (values_are values)
 
--- a method's words behind the verb and the thread
-head_is : (verb thread class name desc rest : List ℕ) → (verb ++ behind thread ++ (behind class ++ behind name ++ behind desc)) ++ rest ≡ verb ++ (behind thread ++ (behind class ++ (behind name ++ (behind desc ++ rest))))
+-- a method's words after the verb and the thread
+head_is : (verb thread class name desc rest : List ℕ) → (verb ++ following thread ++ (following class ++ following name ++ following desc)) ++ rest ≡ verb ++ (following thread ++ (following class ++ (following name ++ (following desc ++ rest))))
 head_is verb thread class name desc rest = simp append_assoc
 
 -- ---- readings
 
 values_again : (done values : List ApiValue) → AllByRecursion IsValue values → values_from done (map value_word values) ≡ Ok (done ++ values)
-values_again done [] all = ap Ok (sym (none_behind done)) where
-  none_behind : (xs : List ApiValue) → xs ++ [] ≡ xs
-  none_behind [] = refl
-  none_behind (x ∷ xs) = ap (λ (t : List ApiValue). x ∷ t) (none_behind xs)
+values_again done [] all = ap Ok (sym (none_after done)) where
+  none_after : (xs : List ApiValue) → xs ++ [] ≡ xs
+  none_after [] = refl
+  none_after (x ∷ xs) = ap (λ (t : List ApiValue). x ∷ t) (none_after xs)
 values_again done (v ∷ values) all =
     ap (λ (r : Read ApiValue). r >>= λ x. values_from (done ++ x ∷ []) (map value_word values)) (value_again v all.0)
     ∙ values_again (done ++ v ∷ []) values all.1 ∙ ap Ok (append_assoc done (v ∷ []) values)
@@ -68,7 +68,7 @@ words_again library id (Except thread method) is = rw (index_again thread is.num
 
 -- ---- texts
 
--- the first word of an event, and those behind it
+-- the first word of an event, and those after it
 abbrev verb_of : Event → List ℕ
 verb_of (Call thread method args) = codes "call"
 verb_of (Return thread method value) = codes "return"
@@ -99,21 +99,21 @@ words_are id (Call thread method args) = refl
 words_are id (Return thread method value) = refl
 words_are id (Except thread method) = refl
 
-result_is : (value : Option ApiValue) → result_behind value ≡ flat_map behind (result_words value)
+result_is : (value : Option ApiValue) → result_after value ≡ flat_map following (result_words value)
 result_is None = refl
-result_is (Some value) = sym (append_none (value_behind value))
+result_is (Some value) = sym (append_none (value_after value))
 
 module _ (methods : List ListedMethod) (m : ListedMethod) where
   abbrev with_head : List ℕ → ℕ → List ℕ → List ℕ
-  with_head verb thread rest = verb ++ (behind (decimal thread) ++ (behind m.id.class ++ (behind m.id.name ++ (behind m.id.desc ++ rest))))
+  with_head verb thread rest = verb ++ (following (decimal thread) ++ (following m.id.class ++ (following m.id.name ++ (following m.id.desc ++ rest))))
 
-  text_is : (event : Event) → slice_get methods (method_listed event) ≡ Some m → event_text methods event ≡ verb_of event ++ flat_map behind (others_of m.id event)
+  text_is : (event : Event) → slice_get methods (method_listed event) ≡ Some m → event_text methods event ≡ verb_of event ++ flat_map following (others_of m.id event)
   text_is (Call thread method args) there =
-      rw there (head_is (codes "call") (decimal thread) m.id.class m.id.name m.id.desc (flat_map value_behind args) ∙ ap (with_head (codes "call") thread) (values_are args))
+      rw there (head_is (codes "call") (decimal thread) m.id.class m.id.name m.id.desc (flat_map value_after args) ∙ ap (with_head (codes "call") thread) (values_are args))
   text_is (Return thread method value) there =
-      rw there (head_is (codes "return") (decimal thread) m.id.class m.id.name m.id.desc (result_behind value) ∙ ap (with_head (codes "return") thread) (result_is value))
+      rw there (head_is (codes "return") (decimal thread) m.id.class m.id.name m.id.desc (result_after value) ∙ ap (with_head (codes "return") thread) (result_is value))
   text_is (Except thread method) there =
-      rw there (sym (append_none (codes "except" ++ behind (decimal thread) ++ (behind m.id.class ++ behind m.id.name ++ behind m.id.desc))) ∙ head_is (codes "except") (decimal thread) m.id.class m.id.name m.id.desc [])
+      rw there (sym (append_none (codes "except" ++ following (decimal thread) ++ (following m.id.class ++ following m.id.name ++ following m.id.desc))) ∙ head_is (codes "except") (decimal thread) m.id.class m.id.name m.id.desc [])
 
   module _ (library : Library) (event : Event) (there : slice_get methods (method_listed event) ≡ Some m) (is : IsEventOf library m.id event) (whole : IsInWords m.id) where
     text_spaced : event_text methods event ≡ spaced (verb_of event) (others_of m.id event)

@@ -17,7 +17,7 @@ use Rattle.event_record.specs.declared.reading.Told.{Told}
 use Rattle.event_record.specs.Entry.{entry_of}
 use Rattle.event_record.specs.Library.{Library, library_of}
 use Rattle.event_record.specs.Record.{after_line, after_lines, answered, empty_record, ended, goes_on, is_none, is_over, more_steps, over, plain, reading, with_entry, with_event, with_read, with_steps}
-use Rattle.event_record.specs.Spelling.{AreEntries, record_of, steps_of}
+use Rattle.event_record.specs.Encoding.{AreEntries, record_of, steps_of}
 use Rattle.event_record.proofs.LineLaws.{entry_again}
 use Rattle.event_record.proofs.TextLaws.{added, entry_added, some_line}
 
@@ -59,9 +59,9 @@ over_at number r rest f h = by (is_over rest) h where
   by false h = ap line_of (sym (refused_is {X = Record} (Line (number + 1)) f h))
 
 module _ (library : Library) where
-  -- what is read behind a line
-  abbrev behind : ℕ → List (List ℕ) → Told → Result Record RecordFault
-  behind number rest told = cond told.is_last (over number told.after rest) (after_lines library (number + 1) told.after rest)
+  -- what is read after a line
+  abbrev following : ℕ → List (List ℕ) → Told → Result Record RecordFault
+  following number rest told = cond told.is_last (over number told.after rest) (after_lines library (number + 1) told.after rest)
 
   abbrev Later : List (List ℕ) → ℕ → Type 0
   Later rest number = (r : Record) (f : RecordFault) → after_lines library (number + 1) r rest ≡ Err f → number + 1 ≤ line_of f
@@ -73,11 +73,11 @@ module _ (library : Library) where
     last others told true h = omega (arith, over_at number told.after rest f h)
     last others told false h = omega (arith, others told.after f h)
 
-    read : Later rest number → (told : Result Told RecordFault) → after_line library number r line ≡ told → (told >>= behind number rest) ≡ Err f → number ≤ line_of f
+    read : Later rest number → (told : Result Told RecordFault) → after_line library number r line ≡ told → (told >>= following number rest) ≡ Err f → number ≤ line_of f
     read others (Ok told) is h = last others told told.is_last h
     read others (Err e) is h = omega (arith, at_line library number r line f (is ∙ ap (λ (g : RecordFault). Err g) (refused_is {X = Record} e f h)))
 
-    by : Later rest number → (b : Bool) → cond b (Err (Line number)) (after_line library number r line >>= behind number rest) ≡ Err f → number ≤ line_of f
+    by : Later rest number → (b : Bool) → cond b (Err (Line number)) (after_line library number r line >>= following number rest) ≡ Err f → number ≤ line_of f
     by others true h = omega (arith, ap line_of (refused_is {X = Record} (Line number) f h))
     by others false h = read others (after_line library number r line) refl h
 
@@ -107,18 +107,18 @@ module _ (library : Library) where
     lines_stay : (xs : List (List ℕ)) (number : ℕ) (r : Record) → line_of f < number + length xs → after_lines library number r (xs ++ ys) ≡ Err f → after_lines library number r (xs ++ zs) ≡ Err f
     lines_stay [] number r before h = absurd (omega (arith, before, at_least ys number r f h))
     lines_stay (x ∷ xs) number r before h = whole (read (λ next. lines_stay xs (number + 1) next (omega (arith, before))) (after_line library number r x) refl (sym there ∙ h)) where
-      there : cond (is_none (xs ++ ys)) (Err (Line number)) (after_line library number r x >>= behind number (xs ++ ys)) ≡ (after_line library number r x >>= behind number (xs ++ ys))
-      there = ap (λ (b : Bool). cond b (Err (Line number)) (after_line library number r x >>= behind number (xs ++ ys))) (some_parts xs ys some)
+      there : cond (is_none (xs ++ ys)) (Err (Line number)) (after_line library number r x >>= following number (xs ++ ys)) ≡ (after_line library number r x >>= following number (xs ++ ys))
+      there = ap (λ (b : Bool). cond b (Err (Line number)) (after_line library number r x >>= following number (xs ++ ys))) (some_parts xs ys some)
 
-      whole : (after_line library number r x >>= behind number (xs ++ zs)) ≡ Err f → cond (is_none (xs ++ zs)) (Err (Line number)) (after_line library number r x >>= behind number (xs ++ zs)) ≡ Err f
-      whole h = ap (λ (b : Bool). cond b (Err (Line number)) (after_line library number r x >>= behind number (xs ++ zs))) (some_parts xs zs others) ∙ h
+      whole : (after_line library number r x >>= following number (xs ++ zs)) ≡ Err f → cond (is_none (xs ++ zs)) (Err (Line number)) (after_line library number r x >>= following number (xs ++ zs)) ≡ Err f
+      whole h = ap (λ (b : Bool). cond b (Err (Line number)) (after_line library number r x >>= following number (xs ++ zs))) (some_parts xs zs others) ∙ h
 
       last : Goes xs number → (told : Told) (b : Bool) → cond b (over number told.after (xs ++ ys)) (after_lines library (number + 1) told.after (xs ++ ys)) ≡ Err f
           → cond b (over number told.after (xs ++ zs)) (after_lines library (number + 1) told.after (xs ++ zs)) ≡ Err f
       last others told true h = over_stays xs number told.after (omega (arith, before)) h
       last others told false h = others told.after h
 
-      read : Goes xs number → (told : Result Told RecordFault) → after_line library number r x ≡ told → (told >>= behind number (xs ++ ys)) ≡ Err f → (after_line library number r x >>= behind number (xs ++ zs)) ≡ Err f
+      read : Goes xs number → (told : Result Told RecordFault) → after_line library number r x ≡ told → (told >>= following number (xs ++ ys)) ≡ Err f → (after_line library number r x >>= following number (xs ++ zs)) ≡ Err f
       read others (Ok told) is h = rw is (last others told told.is_last h)
       read others (Err e) is h = rw is h
 

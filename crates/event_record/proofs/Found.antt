@@ -1,4 +1,4 @@
--- What is read is spelled so: numbers and values.
+-- What is read is encoded so: numbers and values.
 use Rattle.std.proofs.Common.{◌≡◌, ◌≢◌, ◌≤ℤ◌, ◌⊎◌, inl, inr, ℕ, ◌+◌, ◌-◌, ◌*◌, ◌/◌, ◌%◌, ◌<◌, ◌^◌, ℤ, pos, negsuc, Bool, true, false, cond, List, [], ◌∷◌, ◌++◌, length, take, drop, Option, Some, None, Result, Ok, Err, refl, sym, ap, ◌∙◌, subst, arith, FitsSigned, append_assoc}
 use Rattle.std.specs.Prelude.{◌&&◌, ◌==◌, nat_le, nat_lt, int_le, bytes_eq, codes, decimal, ok_or, option_and_then}
 use Rattle.std.specs.Fmt.{signed_decimal}
@@ -17,7 +17,7 @@ use Rattle.api_listing.specs.declared.events.ApiValue.TheVariants.{Int, Null, Te
 use Rattle.event_record.specs.Number.{as_index, as_int, index_of, int_of, number_of}
 use Rattle.event_record.specs.Printing.{HasNoBreak, IsValue}
 use Rattle.event_record.specs.Value.{begins, byte_at, bytes_from, class_value, digit_at, hex, hex_at, hex_byte, hex_digit, int_value, last_at, object_parts, object_value, text_value, value_at, value_word}
-use Rattle.event_record.proofs.Again.{behind_of, front_of}
+use Rattle.event_record.proofs.Again.{after_of, front_of}
 use Rattle.event_record.proofs.Numbers.{number_found}
 use Rattle.event_record.proofs.Unbroken.{front, left}
 
@@ -116,15 +116,15 @@ byte_found high low b h =
     let back : b % 16 ≡ second.0 = omega (arith, sum, x.1, y.1) in
     (rw (front, back, x.0, y.0) refl, omega (arith, sum, x.1, y.1))
 
--- bytes behind those that are done
+-- bytes after those that are done
 record AreBytes (done text out : List ℕ) : Type 0 where
   bytes : List ℕ
   all : out ≡ done ++ bytes
-  spelled : text ≡ flat_map hex_byte bytes
+  encoded : text ≡ flat_map hex_byte bytes
   small : AllByRecursion (λ b. b < 256) bytes
 
 bytes_found : (done text out : List ℕ) → bytes_from done text ≡ Ok out → AreBytes done text out
-bytes_found done [] out h = record { bytes = []; all = same ∙ sym (append-nil done); spelled = refl; small = tt } where
+bytes_found done [] out h = record { bytes = []; all = same ∙ sym (append-nil done); encoded = refl; small = tt } where
   same : out ≡ done
   same = cc
 bytes_found done (b ∷ []) out h = absurd cc
@@ -135,7 +135,7 @@ bytes_found done (high ∷ low ∷ rest) out h =
     record {
       bytes = first.0 ∷ later.bytes;
       all = later.all ∙ append_assoc done (first.0 ∷ []) later.bytes;
-      spelled = ap (λ (t : List ℕ). t ++ rest) byte.0 ∙ ap (λ (t : List ℕ). hex_byte first.0 ++ t) later.spelled;
+      encoded = ap (λ (t : List ℕ). t ++ rest) byte.0 ∙ ap (λ (t : List ℕ). hex_byte first.0 ++ t) later.encoded;
       small = (byte.1, later.small);
     }
 
@@ -147,10 +147,10 @@ hex_found text bytes h =
     (λ dash e.
     let some = then_ok (need (nat_lt 0 (length text)) NoForm) (λ some. bytes_from [] text) bytes e in
     let read = bytes_found [] text bytes some.2 in
-    by read.bytes read.all read.spelled read.small (ltb-true 0 (length text) (need_ok (nat_lt 0 (length text)) NoForm some.0 some.1))) where
+    by read.bytes read.all read.encoded read.small (ltb-true 0 (length text) (need_ok (nat_lt 0 (length text)) NoForm some.0 some.1))) where
       by : (bs : List ℕ) → bytes ≡ bs → text ≡ flat_map hex_byte bs → AllByRecursion (λ b. b < 256) bs → 0 < length text → (text ≡ hex bytes) × AllByRecursion (λ b. b < 256) bytes
-      by [] is spelled small long = absurd (omega (arith, ap length spelled))
-      by (b ∷ bs) is spelled small long = subst (λ (xs : List ℕ). (text ≡ hex xs) × AllByRecursion (λ x. x < 256) xs) (sym is) (spelled, small)
+      by [] is encoded small long = absurd (omega (arith, ap length encoded))
+      by (b ∷ bs) is encoded small long = subst (λ (xs : List ℕ). (text ≡ hex xs) × AllByRecursion (λ x. x < 256) xs) (sym is) (encoded, small)
 
 -- ---- objects
 
@@ -158,7 +158,7 @@ hex_found text bytes h =
 record IsLastAt (text : List ℕ) (from place : ℕ) : Type 0 where
   class : List ℕ
   digits : List ℕ
-  spelled : text ≡ class ++ 64 ∷ digits
+  encoded : text ≡ class ++ 64 ∷ digits
   at : place ≡ from + length class
 
 last_found : (text : List ℕ) (from : ℕ) (known : Option ℕ) (place : ℕ) → last_at from known text ≡ Some place → (known ≡ Some place) ⊎ IsLastAt text from place
@@ -170,12 +170,12 @@ last_found (b ∷ text) from known place h = later (last_found text (from + 1) (
       (λ sign f.
       let same : from ≡ place = cc in
       let all : b ∷ text ≡ 64 ∷ text = ap (λ (x : ℕ). x ∷ text) (eqb-true b 64 sign) in
-      inr (record { class = []; digits = text; spelled = all; at = omega (arith, same) }))
+      inr (record { class = []; digits = text; encoded = all; at = omega (arith, same) }))
       (λ sign f. inl f)
 
   later : (cond (b == 64) (Some from) known ≡ Some place) ⊎ IsLastAt text (from + 1) place → (known ≡ Some place) ⊎ IsLastAt (b ∷ text) from place
   later (inl e) = here e
-  later (inr is) = inr (record { class = b ∷ is.class; digits = is.digits; spelled = ap (λ (t : List ℕ). b ∷ t) is.spelled; at = omega (arith, is.at) })
+  later (inr is) = inr (record { class = b ∷ is.class; digits = is.digits; encoded = ap (λ (t : List ℕ). b ∷ t) is.encoded; at = omega (arith, is.at) })
 
 abbrev Found : List ℕ → ApiValue → Type 0
 Found word value = (word ≡ value_word value) × IsValue value
@@ -190,20 +190,20 @@ object_found text value clear h = at_place (last_found text 0 None first.0 (some
   first = then_ok (ok_or (last_at 0 None text) NoForm) (object_parts text) value h
 
   parts : (class digits : List ℕ) → text ≡ class ++ 64 ∷ digits → first.0 ≡ length class → Found (codes "obj:" ++ text) value
-  parts class digits spelled at =
-      let read : object_parts (class ++ 64 ∷ digits) (length class) ≡ Ok value = subst (λ (p : ℕ). object_parts (class ++ 64 ∷ digits) p ≡ Ok value) at (subst (λ (t : List ℕ). object_parts t first.0 ≡ Ok value) spelled first.2) in
+  parts class digits encoded at =
+      let read : object_parts (class ++ 64 ∷ digits) (length class) ≡ Ok value = subst (λ (p : ℕ). object_parts (class ++ 64 ∷ digits) p ≡ Ok value) at (subst (λ (t : List ℕ). object_parts t first.0 ≡ Ok value) encoded first.2) in
       let some = then_ok (need (nat_lt 0 (length class)) NoForm) (λ some. ok_or (index_of (drop (length class + 1) (class ++ 64 ∷ digits))) NoForm >>= λ n. Ok (Obj (take (length class) (class ++ 64 ∷ digits)) n)) value read in
       let number = then_ok (ok_or (index_of (drop (length class + 1) (class ++ 64 ∷ digits))) NoForm) (λ n. Ok (Obj (take (length class) (class ++ 64 ∷ digits)) n)) value some.2 in
-      let index = index_found digits number.0 (ap index_of (sym (behind_of class digits)) ∙ some_ok (index_of (drop (length class + 1) (class ++ 64 ∷ digits))) NoForm number.0 number.1) in
+      let index = index_found digits number.0 (ap index_of (sym (after_of class digits)) ∙ some_ok (index_of (drop (length class + 1) (class ++ 64 ∷ digits))) NoForm number.0 number.1) in
       let object : Obj class number.0 ≡ value = ap (λ (c : List ℕ). Obj c number.0) (sym (front_of class (64 ∷ digits))) ∙ ok_is number.2 in
       let long = ltb-true 0 (length class) (need_ok (nat_lt 0 (length class)) NoForm some.0 some.1) in
-      let word : codes "obj:" ++ text ≡ value_word (Obj class number.0) = ap (λ (t : List ℕ). codes "obj:" ++ t) (spelled ∙ ap (λ (t : List ℕ). class ++ 64 ∷ t) index.0) in
-      let whole : HasNoBreak class = front (λ (b : ℕ). (b ≢ 32) × (b ≢ 10)) class (64 ∷ digits) (subst HasNoBreak spelled clear) in
+      let word : codes "obj:" ++ text ≡ value_word (Obj class number.0) = ap (λ (t : List ℕ). codes "obj:" ++ t) (encoded ∙ ap (λ (t : List ℕ). class ++ 64 ∷ t) index.0) in
+      let whole : HasNoBreak class = front (λ (b : ℕ). (b ≢ 32) × (b ≢ 10)) class (64 ∷ digits) (subst HasNoBreak encoded clear) in
       subst (Found (codes "obj:" ++ text)) object (word, (some_class class long, whole, index.1))
 
   at_place : (None ≡ Some first.0) ⊎ IsLastAt text 0 first.0 → Found (codes "obj:" ++ text) value
   at_place (inl e) = absurd (none_some first.0 e)
-  at_place (inr is) = parts is.class is.digits is.spelled (omega (arith, is.at))
+  at_place (inr is) = parts is.class is.digits is.encoded (omega (arith, is.at))
 
 text_found : (text : List ℕ) (value : ApiValue) → text_value text ≡ Ok value → Found (codes "text:" ++ text) value
 unfolding text_value
@@ -236,12 +236,12 @@ value_found word value clear h =
     (λ null e. either (Found word value) (begins (codes "text:") word) (text_value (drop 5 word)) objects (Ok value) e
     (λ text f. subst (λ (w : List ℕ). Found w value) (sym (begins_is (codes "text:") word text)) (text_found (drop 5 word) value f))
     (λ text f. either (Found word value) (begins (codes "obj:") word) (object_value (drop 4 word)) classes (Ok value) f
-    (λ object g. subst (λ (w : List ℕ). Found w value) (sym (begins_is (codes "obj:") word object)) (object_found (drop 4 word) value (behind 4) g))
+    (λ object g. subst (λ (w : List ℕ). Found w value) (sym (begins_is (codes "obj:") word object)) (object_found (drop 4 word) value (following 4) g))
     (λ object g. either (Found word value) (begins (codes "class:") word) (class_value (drop 6 word)) (int_value word) (Ok value) g
-    (λ class i. subst (λ (w : List ℕ). Found w value) (sym (begins_is (codes "class:") word class)) (class_found (drop 6 word) value (behind 6) i))
+    (λ class i. subst (λ (w : List ℕ). Found w value) (sym (begins_is (codes "class:") word class)) (class_found (drop 6 word) value (following 6) i))
     (λ class i. number_value_found word value i)))) where
-      behind : (n : ℕ) → HasNoBreak (drop n word)
-      behind n = left (λ (b : ℕ). (b ≢ 32) × (b ≢ 10)) n word clear
+      following : (n : ℕ) → HasNoBreak (drop n word)
+      following n = left (λ (b : ℕ). (b ≢ 32) × (b ≢ 10)) n word clear
 
       classes : Read ApiValue
       classes = cond (begins (codes "class:") word) (class_value (drop 6 word)) (int_value word)

@@ -8,7 +8,7 @@ use Rattle.mon_base.specs.declared.method.MethodId.{MethodId}
 use Rattle.api_listing.specs.BuiltIn.{is_method}
 use Rattle.api_listing.specs.declared.types.ListedMethod.{ListedMethod}
 use Rattle.event_record.specs.Library.{index_in}
-use Rattle.event_record.specs.Spelling.{IsFirst}
+use Rattle.event_record.specs.Encoding.{IsFirst}
 use Rattle.event_record.proofs.Found.{either}
 use Rattle.event_record.proofs.Naming.{same_id}
 

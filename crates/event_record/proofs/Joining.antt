@@ -1,4 +1,4 @@
--- Joined plain steps: how they go on, and that their line stands before the entries behind them.
+-- Joined plain steps: how they go on, and that their line stands before the entries after them.
 use Rattle.std.proofs.Common.{◌≡◌, ◌≢◌, ℕ, suc, zero, add-one, ◌+◌, arith, Bool, true, false, cond, List, [], ◌∷◌, ◌++◌, refl, sym, ap, ◌∙◌, append_assoc}
 use Rattle.std.specs.Prelude.{◌==◌}
 use Rattle.std.specs.List.{flat_map}
@@ -10,7 +10,7 @@ use Rattle.api_listing.specs.declared.types.ListedMethod.{ListedMethod}
 use Rattle.event_record.specs.declared.entry.Entry.{Entry}
 use Rattle.event_record.specs.declared.entry.Entry.TheVariants.{Go, Answer, Seen, End}
 use Rattle.event_record.specs.declared.writing.Joined.{Joined}
-use Rattle.event_record.specs.Joined.{joined_line, lines_behind, plains_before}
+use Rattle.event_record.specs.Joined.{joined_line, lines_after, plains_before}
 use Rattle.event_record.specs.Printing.{event_line}
 use Rattle.event_record.specs.Writing.{answer_line, entry_line, plain_before}
 
@@ -62,12 +62,12 @@ module _ (methods : List ListedMethod) where
       let some : (suc count == 0) ≡ false = grind arith in
       rw some (ap text_of (plains_are thread count entries apart))
 
-  -- what is joined and then put behind the old text
+  -- what is joined and then put after the old text
   pub written : (old : List ℕ) (thread count : ℕ) (entries : List Entry) → IsApart thread entries → (old ++ joined_line thread count) ++ text_of entries ≡ old ++ text_of (plains_before thread count entries)
   written old thread count entries apart = append_assoc old (joined_line thread count) (text_of entries) ∙ ap (λ (t : List ℕ). old ++ t) (sym (line_first thread count entries apart))
 
   abbrev old_and : List ℕ → Joined → List Entry → List ℕ
-  old_and old joined entries = old ++ lines_behind methods joined entries
+  old_and old joined entries = old ++ lines_after methods joined entries
 
   pub one_joined : (old : List ℕ) (joined : Joined) (thread : ℕ) (entries : List Entry) → joined.thread ≡ thread
       → old_and old (record { thread = thread; count = joined.count + 1 }) entries ≡ old_and old joined (plain_before thread entries)

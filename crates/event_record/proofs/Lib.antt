@@ -16,7 +16,7 @@ mod ListingWords
 mod WrittenLines
 mod ClassNames
 mod Shown
-mod NamedWork
+mod NamedOperation
 mod ShownCalls
 mod ShownAnswers
 mod ShownRuns

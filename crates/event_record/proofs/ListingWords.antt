@@ -17,13 +17,13 @@ use Rattle.api_listing.specs.declared.types.ListedClass.{ListedClass}
 use Rattle.api_listing.specs.declared.types.ListedMethod.{ListedMethod}
 use Rattle.api_listing.specs.declared.types.Listing.{Listing}
 use Rattle.api_listing.specs.BuiltIn.{built_in_classes, class_rows, is_method}
-use Rattle.api_listing.specs.Descriptor.{SpellsDescriptor, element_spelled, method_spelled, result_spelled, type_spelled}
-use Rattle.api_listing.specs.Lines.{SpellsKind, says_something}
-use Rattle.api_listing.specs.Listing.{AreSaid, SpellsListing, class_declared, has_method, is_known, listing_of, method_declared, stands_already}
+use Rattle.api_listing.specs.Descriptor.{EncodesDescriptor, element_encoded, method_encoded, result_encoded, type_encoded}
+use Rattle.api_listing.specs.Lines.{EncodesKind, says_something}
+use Rattle.api_listing.specs.Listing.{AreSaid, EncodesListing, class_declared, has_method, is_known, listing_of, method_declared, stands_already}
 use Rattle.api_listing.specs.Words.{pieces}
 use Rattle.event_record.specs.Entry.{gives_nothing}
 use Rattle.event_record.specs.Printing.{HasNoBreak, IsInWords}
-use Rattle.event_record.specs.Spelling.{IsFirst}
+use Rattle.event_record.specs.Encoding.{IsFirst}
 use Rattle.event_record.proofs.Indices.{is_itself}
 use Rattle.event_record.proofs.Unbroken.{IsInLine, front, lines_have_no_newline, words_have_no_break}
 
@@ -74,9 +74,9 @@ built_in_fine = refl
 abbrev AreWords : List (List ℕ) → Type 0
 AreWords words = AllByRecursion HasNoBreak words
 
-class_word : (words : List (List ℕ)) (c : ListedClass) (b : Bool) → AreWords words → SpellsKind b words c → HasNoBreak c.name
-class_word words c true all spelled = let a = subst AreWords spelled.spelled all in a.1.0
-class_word words c false all spelled = let a = subst AreWords spelled.spelled all in a.1.0
+class_word : (words : List (List ℕ)) (c : ListedClass) (b : Bool) → AreWords words → EncodesKind b words c → HasNoBreak c.name
+class_word words c true all encoded = let a = subst AreWords encoded.encoded all in a.1.0
+class_word words c false all encoded = let a = subst AreWords encoded.encoded all in a.1.0
 
 classes_in_words : (lines : List (List ℕ)) (said : List Declaration) → AllByRecursion (λ (line : List ℕ). AreWords (pieces 32 line)) lines
     → AreSaid lines said → AllByRecursion (λ (c : ListedClass). HasNoBreak c.name) (filter_map class_declared said)
@@ -84,7 +84,7 @@ classes_in_words [] [] all are = tt
 classes_in_words [] (d ∷ said) all are = absurd are
 classes_in_words (line ∷ lines) [] all are = absurd are
 classes_in_words (line ∷ lines) (Class c ∷ said) all are =
-    (class_word (pieces 32 line) c c.is_interface all.0 are.0.spelled, classes_in_words lines said all.1 are.1)
+    (class_word (pieces 32 line) c c.is_interface all.0 are.0.encoded, classes_in_words lines said all.1 are.1)
 classes_in_words (line ∷ lines) (Method m types ∷ said) all are = classes_in_words lines said all.1 are.1
 classes_in_words (line ∷ lines) (Field id class ∷ said) all are = classes_in_words lines said all.1 are.1
 
@@ -92,7 +92,7 @@ classes_in_words (line ∷ lines) (Field id class ∷ said) all are = classes_in
 record IsWellListed (m : ListedMethod) : Type 0 where
   pub words : IsInWords m.id
   pub types : MethodType
-  pub spelled : SpellsDescriptor m.id.desc types
+  pub encoded : EncodesDescriptor m.id.desc types
 
 methods_in_words : (lines : List (List ℕ)) (said : List Declaration) → AllByRecursion (λ (line : List ℕ). AreWords (pieces 32 line)) lines
     → AreSaid lines said → AllByRecursion IsWellListed (filter_map method_declared said)
@@ -101,8 +101,8 @@ methods_in_words [] (d ∷ said) all are = absurd are
 methods_in_words (line ∷ lines) [] all are = absurd are
 methods_in_words (line ∷ lines) (Class c ∷ said) all are = methods_in_words lines said all.1 are.1
 methods_in_words (line ∷ lines) (Method m types ∷ said) all are =
-    let a = subst AreWords are.0.0.spelled all.0 in (
-      record { words = record { class = a.1.0; name = a.1.1.0; desc = a.1.1.1.0 }; types = types; spelled = are.0.1 },
+    let a = subst AreWords are.0.0.encoded all.0 in (
+      record { words = record { class = a.1.0; name = a.1.1.0; desc = a.1.1.1.0 }; types = types; encoded = are.0.1 },
       methods_in_words lines said all.1 are.1,
     )
 methods_in_words (line ∷ lines) (Field id class ∷ said) all are = methods_in_words lines said all.1 are.1
@@ -172,24 +172,24 @@ module _ (said : List Declaration) (once : (before after : List Declaration) (d 
 
 -- ---- the end of a descriptor
 
--- the last byte of a text, behind this one
+-- the last byte of a text, after this one
 abbrev last_of : ℕ → List ℕ → ℕ
 last_of b [] = b
 last_of b (c ∷ text) = last_of c text
 
-last_behind : (b : ℕ) (before : List ℕ) (c : ℕ) (text : List ℕ) → last_of b (before ++ c ∷ text) ≡ last_of c text
-last_behind b [] c text = refl
-last_behind b (d ∷ before) c text = last_behind d before c text
+last_after : (b : ℕ) (before : List ℕ) (c : ℕ) (text : List ℕ) → last_of b (before ++ c ∷ text) ≡ last_of c text
+last_after b [] c text = refl
+last_after b (d ∷ before) c text = last_after d before c text
 
-element_ends : (b : ℕ) (e : Element) → (last_of b (element_spelled e) == 86) ≡ false
+element_ends : (b : ℕ) (e : Element) → (last_of b (element_encoded e) == 86) ≡ false
 element_ends b elements.Boolean = refl
 element_ends b elements.Byte = refl
 element_ends b elements.Char = refl
 element_ends b elements.Short = refl
 element_ends b elements.Int = refl
-element_ends b (elements.Class name) = ap (λ (n : ℕ). n == 86) (last_behind 76 name 59 [])
+element_ends b (elements.Class name) = ap (λ (n : ℕ). n == 86) (last_after 76 name 59 [])
 
-type_ends : (b n : ℕ) (e : Element) → (last_of b (replicate n 91 ++ element_spelled e) == 86) ≡ false
+type_ends : (b n : ℕ) (e : Element) → (last_of b (replicate n 91 ++ element_encoded e) == 86) ≡ false
 type_ends b zero e = element_ends b e
 type_ends b (suc n) e = type_ends 91 n e
 
@@ -203,42 +203,42 @@ short_drop (c ∷ before) a b =
 -- A text that ends so has this last byte.
 ends_in : (text : List ℕ) (k a b : ℕ) → drop k text ≡ a ∷ b ∷ [] → (c : ℕ) → last_of c text ≡ b
 ends_in text k a b e c =
-    ap (λ (t : List ℕ). last_of c t) (sym (take-append-drop k text) ∙ ap (λ (t : List ℕ). take k text ++ t) e) ∙ last_behind c (take k text) a (b ∷ [])
+    ap (λ (t : List ℕ). last_of c t) (sym (take-append-drop k text) ∙ ap (λ (t : List ℕ). take k text ++ t) e) ∙ last_after c (take k text) a (b ∷ [])
 
-pub tells_result : (desc : List ℕ) (types : MethodType) → desc ≡ method_spelled types → gives_nothing desc ≡ not (is_some types.result)
-tells_result desc types spelled = ap gives_nothing spelled ∙ by types.result where
-  by : (result : Option FieldType) → gives_nothing (40 ∷ (flat_map type_spelled types.arguments ++ 41 ∷ result_spelled result)) ≡ not (is_some result)
+pub tells_result : (desc : List ℕ) (types : MethodType) → desc ≡ method_encoded types → gives_nothing desc ≡ not (is_some types.result)
+tells_result desc types encoded = ap gives_nothing encoded ∙ by types.result where
+  by : (result : Option FieldType) → gives_nothing (40 ∷ (flat_map type_encoded types.arguments ++ 41 ∷ result_encoded result)) ≡ not (is_some result)
   by None =
-      (bytes_eq-Decides (drop (length (40 ∷ (flat_map type_spelled types.arguments ++ 41 ∷ 86 ∷ [])) - 2) (40 ∷ (flat_map type_spelled types.arguments ++ 41 ∷ 86 ∷ []))) (codes ")V")).1
-      (short_drop (40 ∷ flat_map type_spelled types.arguments) 41 86)
+      (bytes_eq-Decides (drop (length (40 ∷ (flat_map type_encoded types.arguments ++ 41 ∷ 86 ∷ [])) - 2) (40 ∷ (flat_map type_encoded types.arguments ++ 41 ∷ 86 ∷ []))) (codes ")V")).1
+      (short_drop (40 ∷ flat_map type_encoded types.arguments) 41 86)
   by (Some t) = of (gives_nothing whole) refl where
     whole : List ℕ
-    whole = 40 ∷ (flat_map type_spelled types.arguments ++ 41 ∷ type_spelled t)
+    whole = 40 ∷ (flat_map type_encoded types.arguments ++ 41 ∷ type_encoded t)
 
     of : (b : Bool) → gives_nothing whole ≡ b → gives_nothing whole ≡ false
     of false is = is
     of true is =
         let ends : drop (length whole - 2) whole ≡ 41 ∷ 86 ∷ [] = (bytes_eq-Decides (drop (length whole - 2) whole) (codes ")V")).0 is in
         let last : last_of 0 whole ≡ 86 = ends_in whole (length whole - 2) 41 86 ends 0 in
-        let behind : last_of 0 whole ≡ last_of 41 (type_spelled t) = last_behind 40 (flat_map type_spelled types.arguments) 41 (type_spelled t) in
+        let following : last_of 0 whole ≡ last_of 41 (type_encoded t) = last_after 40 (flat_map type_encoded types.arguments) 41 (type_encoded t) in
         let none = type_ends 41 t.dimensions t.element in
-        absurd (false≢true (sym none ∙ ap (λ (n : ℕ). n == 86) (sym behind ∙ last)))
+        absurd (false≢true (sym none ∙ ap (λ (n : ℕ). n == 86) (sym following ∙ last)))
 
 -- ---- what a listing has
 
-module _ (text : List ℕ) (listing : Listing) (spells : SpellsListing text listing) where
-  in_words : AllByRecursion (λ (line : List ℕ). AreWords (pieces 32 line)) (filter says_something spells.lines)
+module _ (text : List ℕ) (listing : Listing) (encodes : EncodesListing text listing) where
+  in_words : AllByRecursion (λ (line : List ℕ). AreWords (pieces 32 line)) (filter says_something encodes.lines)
   in_words =
-      all_filtered (λ (line : List ℕ). AreWords (pieces 32 line)) says_something spells.lines
-      (lines_in_words spells.lines (front (AllByRecursion IsInLine) spells.lines ([] ∷ [])
-      (subst (AllByRecursion (AllByRecursion IsInLine)) spells.ended (lines_have_no_newline text))))
+      all_filtered (λ (line : List ℕ). AreWords (pieces 32 line)) says_something encodes.lines
+      (lines_in_words encodes.lines (front (AllByRecursion IsInLine) encodes.lines ([] ∷ [])
+      (subst (AllByRecursion (AllByRecursion IsInLine)) encodes.ended (lines_have_no_newline text))))
 
   -- a class that is known is named by a word
   class_names : AllByRecursion (λ (c : ListedClass). HasNoBreak c.name) listing.classes
   class_names =
-      subst (λ (l : Listing). AllByRecursion (λ (c : ListedClass). HasNoBreak c.name) l.classes) (sym spells.listed)
-      (all_both (λ (c : ListedClass). HasNoBreak c.name) built_in_classes (filter_map class_declared spells.said)
-      (fine_names built_in_classes built_in_fine) (classes_in_words (filter says_something spells.lines) spells.said in_words spells.spelled))
+      subst (λ (l : Listing). AllByRecursion (λ (c : ListedClass). HasNoBreak c.name) l.classes) (sym encodes.listed)
+      (all_both (λ (c : ListedClass). HasNoBreak c.name) built_in_classes (filter_map class_declared encodes.said)
+      (fine_names built_in_classes built_in_fine) (classes_in_words (filter says_something encodes.lines) encodes.said in_words encodes.encoded))
 
   pub known_word : (class : List ℕ) → is_known listing.classes class ≡ true → HasNoBreak class
   known_word class known = by listing.classes class_names known where
@@ -251,23 +251,23 @@ module _ (text : List ℕ) (listing : Listing) (spells : SpellsListing text list
 
   well_listed : (index : ℕ) (m : ListedMethod) → slice_get listing.methods index ≡ Some m → IsWellListed m
   well_listed index m there =
-      all_get IsWellListed (filter_map method_declared spells.said) index m
-      (methods_in_words (filter says_something spells.lines) spells.said in_words spells.spelled)
-      (ap (λ (l : Listing). slice_get l.methods index) (sym spells.listed) ∙ there)
+      all_get IsWellListed (filter_map method_declared encodes.said) index m
+      (methods_in_words (filter says_something encodes.lines) encodes.said in_words encodes.encoded)
+      (ap (λ (l : Listing). slice_get l.methods index) (sym encodes.listed) ∙ there)
 
   pub method_words : (index : ℕ) (m : ListedMethod) → slice_get listing.methods index ≡ Some m → IsInWords m.id
   method_words index m there = (well_listed index m there).words
 
-  pub method_types : (index : ℕ) (m : ListedMethod) → slice_get listing.methods index ≡ Some m → (types : MethodType) × SpellsDescriptor m.id.desc types
-  method_types index m there = let w = well_listed index m there in (w.types, w.spelled)
+  pub method_types : (index : ℕ) (m : ListedMethod) → slice_get listing.methods index ≡ Some m → (types : MethodType) × EncodesDescriptor m.id.desc types
+  method_types index m there = let w = well_listed index m there in (w.types, w.encoded)
 
   pub method_first : (index : ℕ) (m : ListedMethod) → slice_get listing.methods index ≡ Some m → IsFirst listing.methods m.id index
   method_first index m there =
-      let at_said : slice_get (filter_map method_declared spells.said) index ≡ Some m = ap (λ (l : Listing). slice_get l.methods index) (sym spells.listed) ∙ there in
-      let new = new_from spells.said spells.once [] spells.said refl index m at_said in
+      let at_said : slice_get (filter_map method_declared encodes.said) index ≡ Some m = ap (λ (l : Listing). slice_get l.methods index) (sym encodes.listed) ∙ there in
+      let new = new_from encodes.said encodes.once [] encodes.said refl index m at_said in
       record {
         method = m;
         there = there;
         named = refl;
-        first = λ j n low at. new.1 j n low (ap (λ (l : Listing). slice_get l.methods j) (sym spells.listed) ∙ at);
+        first = λ j n low at. new.1 j n low (ap (λ (l : Listing). slice_get l.methods j) (sym encodes.listed) ∙ at);
       }

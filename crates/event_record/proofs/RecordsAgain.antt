@@ -1,4 +1,4 @@
--- What is printed is read again: the lines of events with an end line behind them.
+-- What is printed is read again: the lines of events with an end line after them.
 use Rattle.std.proofs.Common.{◌≡◌, ℕ, ◌<◌, ◌^◌, List, [], ◌∷◌, ◌++◌, length, map, Ok, refl, ap, ap₂, ◌∙◌, append_assoc, arith}
 use Rattle.std.specs.Prelude.{◌==◌, codes, decimal}
 use Rattle.std.specs.List.{AllByRecursion, flat_map, join_with_byte}
@@ -13,7 +13,7 @@ use Rattle.event_record.specs.Again.{IsPrinted, end_line}
 use Rattle.event_record.specs.Library.{library_of}
 use Rattle.event_record.specs.Printing.{HasNoBreak, event_line, event_text}
 use Rattle.event_record.specs.Record.{reading}
-use Rattle.event_record.specs.Spelling.{AreEntries, Ending, Finished, Deadlock, Stopped, Budget, Device, Running, IsEnding, SpellsEnd, ending_words, events_of, steps_of}
+use Rattle.event_record.specs.Encoding.{AreEntries, Ending, Finished, Deadlock, Stopped, Budget, Device, Running, IsEnding, EncodesEnd, ending_words, events_of, steps_of}
 use Rattle.event_record.proofs.EventsAgain.{line_is_whole, line_words, spaced_pieces}
 use Rattle.event_record.proofs.TextLaws.{text_again}
 use Rattle.event_record.proofs.Unbroken.{decimal_word, in_line, no_newline, signed_word, written}
@@ -47,8 +47,8 @@ joined_pieces (word ∷ words) some clear = spaced_pieces word words clear.0 cle
 abbrev pub end_text : Ending → List ℕ
 end_text ending = join_with_byte 32 (ending_words ending)
 
-pub end_is_spelled : (ending : Ending) → IsEnding ending → SpellsEnd (pieces 32 (end_text ending))
-end_is_spelled ending is = record { ending = ending; spelled = joined_pieces (ending_words ending) (some_words ending) (end_has_words ending is); is = is }
+pub end_is_encoded : (ending : Ending) → IsEnding ending → EncodesEnd (pieces 32 (end_text ending))
+end_is_encoded ending is = record { ending = ending; encoded = joined_pieces (ending_words ending) (some_words ending) (end_has_words ending is); is = is }
 
 -- ---- the entries
 
@@ -91,7 +91,7 @@ module _ (listing : Listing) (ending : Ending) (end : IsEnding ending) where
   are_entries [] all = tt
   are_entries (event ∷ events) all =
       let is = all.0 in
-      (record { id = is.method.id; spelled = line_words listing.methods is.method (library_of listing) event is.there is.is is.words; is = is.is }, tt, are_entries events all.1)
+      (record { id = is.method.id; encoded = line_words listing.methods is.method (library_of listing) event is.there is.is is.words; is = is.is }, tt, are_entries events all.1)
 
   pub events_again : (events : List Event) → AllPrinted events → reading (text_of events) listing ≡ Ok (made [] events)
   events_again events all =
@@ -100,8 +100,8 @@ module _ (listing : Listing) (ending : Ending) (end : IsEnding ending) where
         last = end_text ending;
         entries = map Seen events;
         ended = lines_are events all;
-        spelled = are_entries events all;
-        over = end_is_spelled ending end;
+        encoded = are_entries events all;
+        over = end_is_encoded ending end;
         told = ap₂ made (no_steps events) (all_events events);
         few = omega arith;
       })

@@ -17,11 +17,11 @@ use Rattle.api_listing.specs.declared.descriptor.MethodType.{MethodType}
 use Rattle.api_listing.specs.declared.types.ListedMethod.{ListedMethod}
 use Rattle.api_listing.specs.BuiltIn.{throwable}
 use Rattle.api_listing.proofs.DescriptorLaws.{method_again}
-use Rattle.api_listing.specs.Listing.{SpellsListing, is_known}
+use Rattle.api_listing.specs.Listing.{EncodesListing, is_known}
 use Rattle.bytecode_model.specs.declared.program.Program.{Program}
 use Rattle.bytecode_model.specs.Classes.{is_below, is_interface}
 use Rattle.bytecode_model.specs.Sound.{IsSound}
-use Rattle.bytecode_model.specs.Standing.{AreLiterals}
+use Rattle.bytecode_model.specs.LinkedClasses.{AreLiterals}
 use Rattle.bytecode_model.specs.Targets.{AreNamed}
 use Rattle.guest_heap.specs.declared.frame.Frame.{Frame}
 use Rattle.guest_heap.specs.declared.object.Object.{Object}
@@ -48,7 +48,7 @@ use Rattle.event_record.specs.Entry.{gives_nothing}
 use Rattle.event_record.specs.Library.{library_of}
 use Rattle.event_record.specs.Printing.{IsGiven, IsValue, method_listed}
 use Rattle.event_record.specs.RunLines.{AreLinesFrom, LinesOfRunsAreTold, RecordsOfRunsAreReadAgain}
-use Rattle.event_record.specs.Spelling.{IsAnswer}
+use Rattle.event_record.specs.Encoding.{IsAnswer}
 use Rattle.event_record.specs.Writing.{IsChoice, IsTold, NamesWord}
 use Rattle.event_record.proofs.ClassNames.{holds_at}
 use Rattle.event_record.proofs.Indices.{first_is_index}
@@ -112,7 +112,7 @@ of_lines P (line ∷ lines) all =
 
 -- ---- answers
 
-module _ (laws : Laws) (program : Program) (text : List ℕ) (spells : SpellsListing text program.listing) where
+module _ (laws : Laws) (program : Program) (text : List ℕ) (encodes : EncodesListing text program.listing) where
   abbrev Tells : ApiAnswer → Type 0
   Tells answer = IsAnswer (library_of program.listing) answer × NamesWord answer
 
@@ -126,12 +126,12 @@ module _ (laws : Laws) (program : Program) (text : List ℕ) (spells : SpellsLis
   answer_told heap result receiver arguments (answers.Fresh class) fit written =
       let f = and_parts (of_class result (λ name. is_interface program name || is_below program class name)) (is_listed_class program class) fit in
       let known = listed_known program class f.1 in
-      (known, known_word text program.listing spells class known)
+      (known, known_word text program.listing encodes class known)
   answer_told heap result receiver arguments (answers.Arg i) fit written = (written, tt)
   answer_told heap result receiver arguments answers.Receiver fit written = (tt, tt)
   answer_told heap result receiver arguments (answers.Throws class) fit written =
       let a = and_parts (is_known program.listing.classes class) (is_below program class throwable) fit in
-      (a.0, known_word text program.listing spells class a.0)
+      (a.0, known_word text program.listing encodes class a.0)
 
   choice_told : (machine : Machine) (number : ℕ) (frames : List Frame) (doing : Doing) (choice : Choice)
       → MayStep program machine number frames doing choice → IsChoiceWritten choice → IsChoice (library_of program.listing) choice
@@ -208,9 +208,9 @@ module _ (laws : Laws) (program : Program) (text : List ℕ) (spells : SpellsLis
   gives_as_told : (index : ℕ) (m : ListedMethod) → slice_get program.listing.methods index ≡ Some m
       → gives_nothing m.id.desc ≡ not (is_some (types_of m.id.desc).result)
   gives_as_told index m there =
-      let t = method_types text program.listing spells index m there in
+      let t = method_types text program.listing encodes index m there in
       let read : types_of m.id.desc ≡ t.0 = ap types_read (method_again m.id.desc t.0 t.1) in
-      tells_result m.id.desc t.0 t.1.spelled ∙ ap (λ (types : MethodType). not (is_some types.result)) (sym read)
+      tells_result m.id.desc t.0 t.1.encoded ∙ ap (λ (types : MethodType). not (is_some types.result)) (sym read)
 
   returned_told : (n index thread : ℕ) (m : ListedMethod) (value : Option ApiValue) → slice_get program.listing.methods index ≡ Some m → n ≤ 2 ^ 32
       → (is_some value ≡ is_some (types_of m.id.desc).result) × IsNumberFor (types_of m.id.desc).result value
@@ -227,11 +227,11 @@ module _ (laws : Laws) (program : Program) (text : List ℕ) (spells : SpellsLis
     method = m;
     there = there;
     is = record {
-      there = first_is_index program.listing.methods m.id (method_listed event) (method_first text program.listing spells (method_listed event) m there);
+      there = first_is_index program.listing.methods m.id (method_listed event) (method_first text program.listing encodes (method_listed event) m there);
       numbered = numbered;
       given = given;
     };
-    words = method_words text program.listing spells (method_listed event) m there;
+    words = method_words text program.listing encodes (method_listed event) m there;
   }
 
   -- what is known of an event of the run
@@ -294,23 +294,23 @@ module _ (laws : Laws) (program : Program) (text : List ℕ) (spells : SpellsLis
         by (Some event) h rest = (h, rest)
 
 pub lines_of_runs_are_told : Laws → LinesOfRunsAreTold
-lines_of_runs_are_told laws program text lines spells sound standing named literals are few brings =
-    let written = run_written program text spells sound standing named literals laws.enabled lines are brings in
+lines_of_runs_are_told laws program text lines encodes sound standing named literals are few brings =
+    let written = run_written program text encodes sound standing named literals laws.enabled lines are brings in
     let steps : List Step = map step_of lines in
     let n : ℕ = suc (length program.listing.fields) + length steps in
     let many : length steps ≡ length lines = length-map lines step_of in
     let le : n ≤ 2 ^ 32 = omega (arith, few, many) in
     let is : trace program steps ≡ events_in lines = trace_is program lines (start_of program) are in
-    let known = known_all laws program text spells n (events_in lines)
+    let known = known_all laws program text encodes n (events_in lines)
     (subst (AllByRecursion (IsInRange program)) is (laws.range program sound named literals steps))
     (subst (AllByRecursion (IsGivenSo program)) is (laws.given program steps))
     (subst (AllByRecursion (IsOfListed program)) is (laws.listed program sound named steps))
-    (subst (AllByRecursion (ShowsBelow n)) is (laws.shown program steps)) (written_events laws program text spells lines written) in
-    let told = steps_told laws program text spells (2 ^ 32) lines (start_of program) are (omega (arith, few)) written in
-    lines_told laws program text spells n lines le told (of_lines (IsKnown laws program text spells n) lines known)
+    (subst (AllByRecursion (ShowsBelow n)) is (laws.shown program steps)) (written_events laws program text encodes lines written) in
+    let told = steps_told laws program text encodes (2 ^ 32) lines (start_of program) are (omega (arith, few)) written in
+    lines_told laws program text encodes n lines le told (of_lines (IsKnown laws program text encodes n) lines known)
 
 pub records_of_runs_again : Laws → RecordsOfRunsAreReadAgain
-records_of_runs_again laws program text lines end spells sound standing named literals are brings few value =
+records_of_runs_again laws program text lines end encodes sound standing named literals are brings few value =
     let fields : length program.listing.fields ≤ 20000 = sound.listed.fields in
     run_again program.listing lines end
-    (lines_of_runs_are_told laws program text lines spells sound standing named literals are (omega (arith, fields, few)) brings) few value
+    (lines_of_runs_are_told laws program text lines encodes sound standing named literals are (omega (arith, fields, few)) brings) few value

@@ -29,7 +29,7 @@ use Rattle.guest_model.specs.declared.machine.Step.{Step}
 use Rattle.guest_model.specs.Monitors.{entered, left}
 use Rattle.guest_model.specs.Places.{insn_at, insn_in, method_at}
 use Rattle.guest_frames.specs.Stepping.{after, frame_stepped}
-use Rattle.guest_model.specs.Standing.{IsAt}
+use Rattle.guest_model.specs.ClosedPlaces.{IsAt}
 use Rattle.guest_model.specs.Parts.{bad_monitor, constant_value, null_pointer, result_of}
 use Rattle.guest_frames.specs.Values.{fits, is_null, values_moved, values_seen}
 use Rattle.guest_model.proofs.Effects.{effect_keeps}
@@ -55,10 +55,10 @@ use Rattle.guest_model.specs.Stepping.{
   returns,
   running_stepped,
   throws_top,
-  works,
+  operates,
 }
-use Rattle.guest_model.specs.Working.{worked}
-use Rattle.guest_model.proofs.Comings.{Comes, work_comes}
+use Rattle.guest_model.specs.HeapOperations.{heap_result}
+use Rattle.guest_model.proofs.HeapResults.{Comes, result_comes}
 use Rattle.guest_model.proofs.Staying.{threads_keep}
 use Rattle.std.proofs.Common.{ℤ, ◌≡◌, ◌<◌, Bool, true, false, cond, length, subst, ap, arith}
 use Rattle.std.specs.Prelude.{pos, ◌||◌, IfSome}
@@ -75,14 +75,14 @@ use Rattle.guest_model.specs.Calls.{types_of}
 use Rattle.guest_model.specs.Changes.{applied}
 use Rattle.guest_model.specs.Enabled.{MayStep, StepsAreEnabled}
 use Rattle.guest_model.specs.Layout.{first_value, is_of_references}
-use Rattle.guest_model.specs.Working.{kept, name_named, truth}
-use Rattle.guest_model.proofs.Comings.{Lasts}
+use Rattle.guest_model.specs.HeapOperations.{kept, name_named, truth}
+use Rattle.guest_model.proofs.HeapResults.{Lasts}
 use Rattle.guest_model.proofs.Effects.{NamesOnly}
 use Rattle.guest_model.proofs.Options.{all_set, map_of}
 use Rattle.event_record.specs.declared.writing.Line.{Line}
 use Rattle.event_record.specs.RunLines.{AnswersBytes, AreLinesFrom, BringsBytes}
 use Rattle.event_record.proofs.ClassNames.{ClassesNamed, bad_monitor_named, holds_at, null_pointer_named}
-use Rattle.event_record.proofs.NamedWork.{Comes as ComesNamed, work_named}
+use Rattle.event_record.proofs.NamedOperation.{Comes as ComesNamed, operation_named}
 use Rattle.event_record.proofs.Shown.{AreShown, FewArguments, FrameShown, Good, GoodIf, HeapShown, IsShown, LiteralsAreBytes, ObjectShown, ThreadShown, WaitsShown, WorldShown, after_shown, fitted_shown, held_shown, returned_good, shown_kept, throws_good, throws_new_good, went_on}
 use Rattle.event_record.proofs.ShownAnswers.{answered_good, null_good}
 use Rattle.event_record.proofs.ShownCalls.{calls_good}
@@ -195,17 +195,17 @@ module _ (program : Program) (known : IsNamedProgram program) where
     acts_good : (world : World) (f : Option Frame) → WorldShown program world → IfThere (FrameShown program) f → GoodIf program (acts_on world a f)
     acts_good world f words on = went_on program world a.thread f a.below words on below
 
-    goes_behind : (world : World) (items : List Value) → WorldShown program world → AreShown program items → GoodIf program (acts_on world a (after a.frame items))
-    goes_behind world items words all = acts_good world (after a.frame items) words (after_shown program a.frame items frame all)
+    goes_after : (world : World) (items : List Value) → WorldShown program world → AreShown program items → GoodIf program (acts_on world a (after a.frame items))
+    goes_after world items words all = acts_good world (after a.frame items) words (after_shown program a.frame items frame all)
 
     -- with one operand less
     goes_less : (world : World) → WorldShown program world → GoodIf program (acts_on world a (after a.frame (drop 1 a.frame.stack.items)))
-    goes_less world words = goes_behind world (drop 1 a.frame.stack.items) words (all_drop (IsShown program) 1 a.frame.stack.items frame.1)
+    goes_less world words = goes_after world (drop 1 a.frame.stack.items) words (all_drop (IsShown program) 1 a.frame.stack.items frame.1)
 
     comes_good : (world : World) (made : Result (World × List Value) Name) → WorldShown program world
         → Comes (IsShown program) (ValuesShown program) made → ComesNamed program made → GoodIf program (comes_to program world a made)
     comes_good world (Ok made) words comes named =
-        goes_behind made.0 made.1 (record { heap = comes.0.heap; named = named; statics = comes.0.statics }) comes.1
+        goes_after made.0 made.1 (record { heap = comes.0.heap; named = named; statics = comes.0.statics }) comes.1
     comes_good world (Err class) words comes named = throws_here world class named words
 
     enters_good : (world : World) (on : Value) → WorldShown program world → GoodIf program (enters program world a on)
@@ -237,16 +237,16 @@ module _ (program : Program) (known : IsNamedProgram program) where
 
     module _ (machine : Machine) (words : WorldShown program (world_of machine)) (insn : Insn) (ref : Target)
         (there : IsAt program a.frame.class a.frame.method a.frame.at insn ref) where
-      works_good : (what : Heap) → GoodIf program (works program (world_of machine) a what ref)
-      works_good what =
-          if_then IsGood _ (worked program (world_of machine) what ref a.frame.stack.items)
+      operates_good : (what : Heap) → GoodIf program (operates program (world_of machine) a what ref)
+      operates_good what =
+          if_then IsGood _ (heap_result program (world_of machine) what ref a.frame.stack.items)
           (λ made e. comes_good (world_of machine) made words
           (is_there (Comes (IsShown program) (ValuesShown program)) _ made
-          (work_comes (IsShown program) (ObjectShown program) (ValuesShown program) (λ class. Unit {0}) (values_last program) program
+          (result_comes (IsShown program) (ObjectShown program) (ValuesShown program) (λ class. Unit {0}) (values_last program) program
           (world_of machine) (record { heap = words.heap; statics = words.statics }) a.frame.stack.items
           frame.1 what ref (λ constant. known.shown a.frame.class a.frame.method a.frame.at insn ref there) (λ class field named. tt)) e)
           (is_there (ComesNamed program) _ made
-          (work_named program (world_of machine) words.named a.frame.stack.items what ref
+          (operation_named program (world_of machine) words.named a.frame.stack.items what ref
           (known.named a.frame.class a.frame.method a.frame.at insn ref there)) e))
 
       heap_good : (what : Heap) → GoodIf program (heap_stepped program machine a what ref)
@@ -257,20 +257,20 @@ module _ (program : Program) (known : IsNamedProgram program) where
       heap_good heap.Enter = if_then IsGood _ (slice_get a.frame.stack.items 0) (λ v e. enters_good (world_of machine) v words)
       heap_good heap.Exit = if_then IsGood _ (slice_get a.frame.stack.items 0) (λ v e. leaves_good (world_of machine) v words)
       heap_good (heap.Return kind) = returns_good (world_of machine) kind words
-      heap_good heap.Constant = works_good heap.Constant
-      heap_good (heap.ReadItem item) = works_good (heap.ReadItem item)
-      heap_good (heap.WriteItem item) = works_good (heap.WriteItem item)
-      heap_good (heap.Divide remainder) = works_good (heap.Divide remainder)
-      heap_good heap.ReadStatic = works_good heap.ReadStatic
-      heap_good heap.WriteStatic = works_good heap.WriteStatic
-      heap_good heap.ReadField = works_good heap.ReadField
-      heap_good heap.WriteField = works_good heap.WriteField
-      heap_good heap.New = works_good heap.New
-      heap_good (heap.NewArray kind) = works_good (heap.NewArray kind)
-      heap_good heap.NewArrayOf = works_good heap.NewArrayOf
-      heap_good heap.Length = works_good heap.Length
-      heap_good heap.Cast = works_good heap.Cast
-      heap_good heap.IsInstance = works_good heap.IsInstance
+      heap_good heap.Constant = operates_good heap.Constant
+      heap_good (heap.ReadItem item) = operates_good (heap.ReadItem item)
+      heap_good (heap.WriteItem item) = operates_good (heap.WriteItem item)
+      heap_good (heap.Divide remainder) = operates_good (heap.Divide remainder)
+      heap_good heap.ReadStatic = operates_good heap.ReadStatic
+      heap_good heap.WriteStatic = operates_good heap.WriteStatic
+      heap_good heap.ReadField = operates_good heap.ReadField
+      heap_good heap.WriteField = operates_good heap.WriteField
+      heap_good heap.New = operates_good heap.New
+      heap_good (heap.NewArray kind) = operates_good (heap.NewArray kind)
+      heap_good heap.NewArrayOf = operates_good heap.NewArrayOf
+      heap_good heap.Length = operates_good heap.Length
+      heap_good heap.Cast = operates_good heap.Cast
+      heap_good heap.IsInstance = operates_good heap.IsInstance
 
       alone_shown : IfThere (FrameShown program) (frame_stepped insn a.frame)
       alone_shown =

@@ -9,14 +9,14 @@ use Rattle.class_codec.specs.declared.tree.ClassFile.{ClassFile}
 use Rattle.class_codec.specs.declared.tree.Const.{Const}
 use Rattle.class_codec.specs.declared.tree.Const.TheVariants as constants
 use Rattle.class_codec.specs.declared.tree.Member.{Member}
-use Rattle.class_codec.specs.Fits.{CanSpell, FitsConst, IsTextByte}
+use Rattle.class_codec.specs.Fits.{IsEncodable, FitsConst, IsTextByte}
 use Rattle.class_codec.specs.Pool.{text_of, utf8_at}
 use Rattle.insn_codec.specs.declared.insn.Insn.{Insn}
 use Rattle.api_listing.specs.declared.descriptor.FieldType.{FieldType}
 use Rattle.api_listing.specs.declared.types.ListedClass.{ListedClass}
-use Rattle.api_listing.specs.Descriptor.{SpellsType, whole_type}
+use Rattle.api_listing.specs.Descriptor.{EncodesType, whole_type}
 use Rattle.api_listing.specs.Fault.{Read}
-use Rattle.api_listing.specs.Listing.{SpellsListing, is_known}
+use Rattle.api_listing.specs.Listing.{EncodesListing, is_known}
 use Rattle.api_listing.proofs.DescriptorLaws.{method_again, type_answer_found}
 use Rattle.bytecode_model.specs.declared.program.LinkedClass.{LinkedClass}
 use Rattle.bytecode_model.specs.declared.program.Program.{Program}
@@ -28,7 +28,7 @@ use Rattle.bytecode_model.specs.Heads.{desc_of, head_of, is_static}
 use Rattle.bytecode_model.specs.Operands.{place_of, strings_in, text_of_string, use_of}
 use Rattle.bytecode_model.specs.SearchOrder.{Name, is_one_of, with_name}
 use Rattle.bytecode_model.specs.Sound.{IsSound, IsSoundClass}
-use Rattle.bytecode_model.specs.Standing.{AreLiterals, AreStanding}
+use Rattle.bytecode_model.specs.LinkedClasses.{AreLiterals, AreLinkedClasses}
 use Rattle.bytecode_model.specs.Targets.{AreNamed, is_type, item_is_known, takes_array}
 use Rattle.guest_heap.specs.declared.value.Value.{Value}
 use Rattle.guest_heap.specs.declared.value.Value.TheVariants as values
@@ -37,7 +37,7 @@ use Rattle.guest_model.specs.Enabled.{StepsAreEnabled}
 use Rattle.guest_model.specs.Layout.{constant_bytes, first_value, is_of_references, starting_value, two_bytes, value_of_constant, value_told}
 use Rattle.guest_model.specs.Places.{class_index}
 use Rattle.guest_model.specs.Runs.{initialisers, inner, start_of}
-use Rattle.guest_model.specs.Standing.{IsAt}
+use Rattle.guest_model.specs.ClosedPlaces.{IsAt}
 use Rattle.guest_model.specs.Throwing.{bare_object}
 use Rattle.guest_model.proofs.Insns.{has_insn}
 use Rattle.guest_model.proofs.Options.{and_then_of, some_is, IfThere, if_none, if_some, if_either, if_then, if_mapped, is_there, there_or, all_get, all_append, all_map, all_mapped}
@@ -100,7 +100,7 @@ strings_bytes pool [] each = tt
 strings_bytes pool (c ∷ others) each =
     one_more (text_of_string pool c) (filter_map (text_of_string pool) others) (string_bytes pool each c) (strings_bytes pool others each)
 
-all_strings : (files : List ClassFile) → AllByRecursion CanSpell files → AreBytes (flat_map strings_in files)
+all_strings : (files : List ClassFile) → AllByRecursion IsEncodable files → AreBytes (flat_map strings_in files)
 all_strings [] all = tt
 all_strings (file ∷ files) all =
     all_append IsBytes (strings_in file) (flat_map strings_in files) (strings_bytes file.pool file.pool all.0.pool.each)
@@ -115,9 +115,9 @@ each_once [] names have all = have
 each_once (text ∷ texts) names have all =
     each_once texts (with_name names text) (named_or (is_one_of names text) names text have all.0) all.1
 
-all_spell : (classes : List LinkedClass) → AllByRecursion IsSoundClass classes
-    → AllByRecursion CanSpell (map (λ (c : LinkedClass). c.file) classes)
-all_spell classes all = all_mapped IsSoundClass CanSpell (λ (c : LinkedClass). c.file) classes (λ c sound. sound.fits) all
+all_encode : (classes : List LinkedClass) → AllByRecursion IsSoundClass classes
+    → AllByRecursion IsEncodable (map (λ (c : LinkedClass). c.file) classes)
+all_encode classes all = all_mapped IsSoundClass IsEncodable (λ (c : LinkedClass). c.file) classes (λ c sound. sound.fits) all
 
 -- ---- classes
 
@@ -129,8 +129,8 @@ name_at_named (c ∷ classes) all (suc index) less = name_at_named classes all.1
 -- the items of an array that is known
 read_named : (known : List ListedClass) (text : List ℕ) (read : Read FieldType) → whole_type text ≡ read → item_is_known known read ≡ true → IsNamed text
 read_named known text (Ok t) is e =
-    let spells : SpellsType text t = type_answer_found text (Ok t) is in
-    subst IsNamed (sym spells.spelled) (type_named t spells.named)
+    let encodes : EncodesType text t = type_answer_found text (Ok t) is in
+    subst IsNamed (sym encodes.encoded) (type_named t encodes.named)
 read_named known text (Err fault) is e = absurd cc
 
 type_text_named : (classes : List ListedClass) → ClassesNamed classes → (arrays : Bool) (text : List ℕ) → is_type classes arrays text ≡ true → IsNamed text
@@ -148,12 +148,12 @@ heads_named [] sound named = tt
 heads_named (c ∷ classes) sound named =
     (subst IsNamed sound.0.name (named 0 c refl), heads_named classes sound.1 (λ own class there. named (suc own) class there))
 
-module _ (program : Program) (text : List ℕ) (spells : SpellsListing text program.listing) (sound : IsSound program) (standing : AreStanding program)
+module _ (program : Program) (text : List ℕ) (encodes : EncodesListing text program.listing) (sound : IsSound program) (standing : AreLinkedClasses program)
     (named : AreNamed program) (literals : AreLiterals program) where
   literals_bytes : AreBytes program.literals
   literals_bytes =
       subst AreBytes (sym literals.are)
-      (each_once (flat_map strings_in (unlinked program)) [] tt (all_strings (unlinked program) (all_spell program.classes sound.classes)))
+      (each_once (flat_map strings_in (unlinked program)) [] tt (all_strings (unlinked program) (all_encode program.classes sound.classes)))
 
   each_bytes : LiteralsAreBytes program
   each_bytes index =
@@ -163,12 +163,12 @@ module _ (program : Program) (text : List ℕ) (spells : SpellsListing text prog
   all_classes : ClassesNamed (classes_of program)
   all_classes =
       all_append (λ (c : ListedClass). IsNamed c.name) program.listing.classes (map (λ (c : LinkedClass). head_of c.file) program.classes)
-      (listed_classes text program.listing spells)
+      (listed_classes text program.listing encodes)
       (heads_named program.classes sound.classes (λ own class there. class_named class.name (standing own class there).named))
 
   few_arguments : FewArguments program
   few_arguments index m there =
-      let t = method_types text program.listing spells index m there in
+      let t = method_types text program.listing encodes index m there in
       let read : types_of m.id.desc ≡ t.0 = ap types_read (method_again m.id.desc t.0 t.1) in
       let count : arity m.id.desc ≡ length t.0.arguments = ap (λ (types : _). length types.arguments) read in
       let most = t.1.places in
@@ -215,7 +215,7 @@ module _ (program : Program) (text : List ℕ) (spells : SpellsListing text prog
     named = names_named;
     literals = each_bytes;
     few = few_arguments;
-    classes = listed_classes text program.listing spells;
+    classes = listed_classes text program.listing encodes;
   }
 
   -- ---- what the static fields begin with
@@ -263,7 +263,7 @@ module _ (program : Program) (text : List ℕ) (spells : SpellsListing text prog
       named =
           all_append ObjectNamed _ _
           (all_mapped (λ (f : MethodId). IsNamed (inner f.desc)) ObjectNamed (λ (f : MethodId). bare_object (inner f.desc)) program.listing.fields
-          (λ f is. is) (listed_fields text program.listing spells)) (strings_named, tt);
+          (λ f is. is) (listed_fields text program.listing encodes)) (strings_named, tt);
       statics =
           all_mapped IsSoundClass (AreShown program) (λ (c : LinkedClass). map (starting_value program c.file) c.file.fields) program.classes
           class_shown sound.classes;

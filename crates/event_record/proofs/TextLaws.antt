@@ -1,4 +1,4 @@
--- What is read of a text is spelled so, and what is spelled so is read.
+-- What is read of a text is encoded so, and what is encoded so is read.
 use Rattle.std.proofs.Common.{◌≡◌, ◌≢◌, ℕ, ◌+◌, ◌≤◌, true, false, cond, List, [], ◌∷◌, ◌++◌, length, replicate, Result, Ok, Err, refl, sym, ap, ap₂, ◌∙◌, subst, arith, append_assoc, length-append}
 use Rattle.std.specs.Prelude.{nat_lt, IfOk, MatchResult}
 use Rattle.std.specs.List.{AllByRecursion, flat_map}
@@ -21,7 +21,7 @@ use Rattle.mon_base.specs.Answer.{Answers, Fails}
 use Rattle.event_record.specs.Library.{Library, library_of}
 use Rattle.event_record.specs.Printing.{HasNoBreak}
 use Rattle.event_record.specs.Record.{after_line, after_lines, answered, empty_record, ended, goes_on, is_none, is_over, more_steps, over, plain, reading, with_entry, with_read, with_steps}
-use Rattle.event_record.specs.Spelling.{AreEntries, GoesOn, SpellsEnd, SpellsEntry, SpellsRecord, events_of, record_of, steps_of}
+use Rattle.event_record.specs.Encoding.{AreEntries, GoesOn, EncodesEnd, EncodesEntry, EncodesRecord, events_of, record_of, steps_of}
 use Rattle.event_record.proofs.Found.{either, ok_is, then_ok}
 use Rattle.event_record.proofs.LineLaws.{entry_again, entry_found}
 use Rattle.event_record.proofs.Unbroken.{lines_have_no_newline, words_have_no_break}
@@ -29,7 +29,7 @@ use Rattle.event_record.proofs.Unbroken.{lines_have_no_newline, words_have_no_br
 abbrev pub made : List Step → List Event → Record
 made steps events = record { steps = steps; events = events }
 
--- the record with an entry behind it, and with several
+-- the record with an entry after it, and with several
 abbrev pub added : Record → Entry → Record
 added r entry = made (r.steps ++ steps_of entry) (r.events ++ events_of entry)
 
@@ -83,7 +83,7 @@ added_found number r End told on few h = absurd on
 
 -- ---- again
 
-lines_again : (library : Library) (last : List ℕ) → SpellsEnd (pieces 32 last) → (lines : List (List ℕ)) (entries : List Entry) (number : ℕ) (r : Record) → AreEntries library lines entries
+lines_again : (library : Library) (last : List ℕ) → EncodesEnd (pieces 32 last) → (lines : List (List ℕ)) (entries : List Entry) (number : ℕ) (r : Record) → AreEntries library lines entries
     → length (r.steps ++ flat_map steps_of entries) ≤ 1000000 → after_lines library number r (lines ++ last ∷ [] ∷ []) ≡ Ok (with_all r entries)
 unfolding after_line
 lines_again library last end [] [] number r are few = rw (entry_again library (pieces 32 last) End end) (ap Ok (with_none r))
@@ -95,22 +95,22 @@ lines_again library last end (line ∷ lines) (entry ∷ entries) number r are f
     rw (some_line lines last ([] ∷ []), entry_again library (pieces 32 line) entry are.0, entry_added number r entry are.1 fewer)
     (lines_again library last end lines entries (number + 1) (added r entry) are.2 steps ∙ ap Ok (with_more r entry entries))
 
-pub text_again : (listing : Listing) (text : List ℕ) (r : Record) → SpellsRecord listing text r → reading text listing ≡ Ok r
+pub text_again : (listing : Listing) (text : List ℕ) (r : Record) → EncodesRecord listing text r → reading text listing ≡ Ok r
 unfolding reading
 text_again listing text r s =
     let few : length (record_of s.entries).steps ≤ 1000000 = subst (λ (x : Record). length x.steps ≤ 1000000) s.told s.few in
-    ap (after_lines (library_of listing) 1 empty_record) s.ended ∙ lines_again (library_of listing) s.last s.over s.lines s.entries 1 empty_record s.spelled few ∙ ap Ok (sym s.told)
+    ap (after_lines (library_of listing) 1 empty_record) s.ended ∙ lines_again (library_of listing) s.last s.over s.lines s.entries 1 empty_record s.encoded few ∙ ap Ok (sym s.told)
 
 -- ---- found
 
--- what is read behind a record
+-- what is read after a record
 record IsRead (library : Library) (r out : Record) (parts : List (List ℕ)) : Type 0 where
   lines : List (List ℕ)
   last : List ℕ
   entries : List Entry
   ended : parts ≡ lines ++ last ∷ [] ∷ []
-  spelled : AreEntries library lines entries
-  over : SpellsEnd (pieces 32 last)
+  encoded : AreEntries library lines entries
+  over : EncodesEnd (pieces 32 last)
   told : out ≡ with_all r entries
   few : length out.steps ≤ 1000000
 
@@ -133,7 +133,7 @@ module _ (library : Library) (line : List ℕ) (rest : List (List ℕ)) (clear :
   abbrev after : Told → Result Record RecordFault
   after told = cond told.is_last (over number told.after rest) (after_lines library (number + 1) told.after rest)
 
-  ends : (told : Told) → SpellsEnd (pieces 32 line) → ended r ≡ told → after told ≡ Ok out → IsRead library r out (line ∷ rest)
+  ends : (told : Told) → EncodesEnd (pieces 32 line) → ended r ≡ told → after told ≡ Ok out → IsRead library r out (line ∷ rest)
   ends told end same h =
       either (IsRead library r out (line ∷ rest)) (is_over rest) (Ok r) (Err (Line (number + 1))) (Ok out) (subst (λ (t : Told). after t ≡ Ok out) (sym same) h)
       (λ nothing e.
@@ -143,15 +143,15 @@ module _ (library : Library) (line : List ℕ) (rest : List (List ℕ)) (clear :
         last = line;
         entries = [];
         ended = all;
-        spelled = tt;
+        encoded = tt;
         over = end;
         told = sym (ok_is e) ∙ with_none r;
         few = subst (λ (x : Record). length x.steps ≤ 1000000) (ok_is e) few;
       })
       (λ nothing e. absurd cc)
 
-  goes : (entry : Entry) (told : Told) → GoesOn entry → SpellsEntry library (pieces 32 line) entry → with_entry number r entry ≡ Ok told → after told ≡ Ok out → IsRead library r out (line ∷ rest)
-  goes entry told on spelled is h =
+  goes : (entry : Entry) (told : Told) → GoesOn entry → EncodesEntry library (pieces 32 line) entry → with_entry number r entry ≡ Ok told → after told ≡ Ok out → IsRead library r out (line ∷ rest)
+  goes entry told on encoded is h =
       let step = added_found number r entry told on few is in
       let later = others (number + 1) (added r entry) out step.1 (subst (λ (t : Told). after t ≡ Ok out) step.0 h) in
       record {
@@ -159,7 +159,7 @@ module _ (library : Library) (line : List ℕ) (rest : List (List ℕ)) (clear :
         last = later.last;
         entries = entry ∷ later.entries;
         ended = ap (λ (xs : List (List ℕ)). line ∷ xs) later.ended;
-        spelled = (spelled, on, later.spelled);
+        encoded = (encoded, on, later.encoded);
         over = later.over;
         told = later.told ∙ with_more r entry later.entries;
         few = later.few;
@@ -182,15 +182,15 @@ lines_found library (line ∷ rest) clear number r out few h =
     let read = then_ok (with_read number r (entry_of library (pieces 32 line))) (λ told. cond told.is_last (over number told.after rest) (after_lines library (number + 1) told.after rest)) out e in
     line_found library line rest (words_have_no_break line clear.0) some (lines_found library rest clear.1) number r out few (entry_of library (pieces 32 line)) read.0 refl read.1 read.2)
 
-pub text_found : (listing : Listing) (text : List ℕ) (r : Record) → reading text listing ≡ Ok r → SpellsRecord listing text r
+pub text_found : (listing : Listing) (text : List ℕ) (r : Record) → reading text listing ≡ Ok r → EncodesRecord listing text r
 unfolding reading
 text_found listing text r h =
     let read = lines_found (library_of listing) (pieces 10 text) (lines_have_no_newline text) 1 empty_record r (omega arith) h in
-    record { lines = read.lines; last = read.last; entries = read.entries; ended = read.ended; spelled = read.spelled; over = read.over; told = read.told; few = read.few }
+    record { lines = read.lines; last = read.last; entries = read.entries; ended = read.ended; encoded = read.encoded; over = read.over; told = read.told; few = read.few }
 
 -- ---- a call that answers what is read
 
-pub answer_found : (listing : Listing) (text : List ℕ) (result : Result Record RecordFault) → Answers Memory result (reading text listing) → IfOk result (λ r. SpellsRecord listing text r)
+pub answer_found : (listing : Listing) (text : List ℕ) (result : Result Record RecordFault) → Answers Memory result (reading text listing) → IfOk result (λ r. EncodesRecord listing text r)
 answer_found listing text (Ok r) h = text_found listing text r h
 answer_found listing text (Err e) h = tt
 
@@ -198,6 +198,6 @@ refused : (e : RecordFault) (r : Record) (read : Result Record RecordFault) → 
 refused Memory r read h is = refl
 refused (Line line) r read h is = let told : read ≡ Err (Line line) = h (λ same. cc) in absurd cc
 
-pub answer_only : (listing : Listing) (text : List ℕ) (result : Result Record RecordFault) → Answers Memory result (reading text listing) → (r : Record) → SpellsRecord listing text r → MatchResult result (λ x. x ≡ r) (λ e. e ≡ Memory)
+pub answer_only : (listing : Listing) (text : List ℕ) (result : Result Record RecordFault) → Answers Memory result (reading text listing) → (r : Record) → EncodesRecord listing text r → MatchResult result (λ x. x ≡ r) (λ e. e ≡ Memory)
 answer_only listing text (Ok x) h r s = ok_is (sym h ∙ text_again listing text r s)
 answer_only listing text (Err e) h r s = refused e r (reading text listing) h (text_again listing text r s)

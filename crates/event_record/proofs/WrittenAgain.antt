@@ -20,12 +20,12 @@ use Rattle.event_record.specs.declared.writing.EndLine.TheVariants as ends
 use Rattle.event_record.specs.declared.writing.Line.{Line}
 use Rattle.event_record.specs.Again.{IsPrinted, end_line}
 use Rattle.event_record.specs.Library.{Library, library_of}
-use Rattle.event_record.specs.Printing.{HasNoBreak, behind, event_text}
+use Rattle.event_record.specs.Printing.{HasNoBreak, following, event_text}
 use Rattle.event_record.specs.Record.{plain, reading}
-use Rattle.event_record.specs.Spelling.{AreEntries, Ending, GoesOn, IsAnswer, IsEnding, IsStopValue, SpellsEntry, answer_words, ending_words, events_of, steps_of, steps_told}
+use Rattle.event_record.specs.Encoding.{AreEntries, Ending, GoesOn, IsAnswer, IsEnding, IsStopValue, EncodesEntry, answer_words, ending_words, events_of, steps_of, steps_told}
 use Rattle.event_record.specs.Writing.{IsChoice, IsTold, NamesWord, choice_before, ending_of, entries_of, entry_line, event_before, plain_before, record_text, run_of}
 use Rattle.event_record.proofs.EventsAgain.{line_is_whole, line_words, spaced_is, spaced_pieces}
-use Rattle.event_record.proofs.RecordsAgain.{end_has_words, end_is_spelled, end_text}
+use Rattle.event_record.proofs.RecordsAgain.{end_has_words, end_is_encoded, end_text}
 use Rattle.event_record.proofs.TextLaws.{made, text_again}
 use Rattle.event_record.proofs.Unbroken.{decimal_word, hex_word, in_line, no_newline, signed_word, written}
 
@@ -43,7 +43,7 @@ answer_has_words library (answers.Throws class) is names = (written (codes "thro
 
 -- a line before its newline
 abbrev unended : List ℕ → List (List ℕ) → List ℕ
-unended verb words = verb ++ flat_map behind words
+unended verb words = verb ++ flat_map following words
 
 words_in : (verb : List ℕ) (words : List (List ℕ)) → HasNoBreak verb → AllByRecursion HasNoBreak words → pieces 32 (unended verb words) ≡ verb ∷ words
 words_in verb words clear all = ap (pieces 32) (spaced_is verb words) ∙ spaced_pieces verb words clear all
@@ -165,7 +165,7 @@ module _ (listing : Listing) where
   record IsLine (entry : Entry) : Type 0 where
     ended : entry_line listing.methods entry ≡ entry_text entry ++ 10 ∷ []
     whole : AllByRecursion (λ b. b ≢ 10) (entry_text entry)
-    spelled : SpellsEntry (library_of listing) (pieces 32 (entry_text entry)) entry
+    encoded : EncodesEntry (library_of listing) (pieces 32 (entry_text entry)) entry
     on : GoesOn entry
 
   is_line : (entry : Entry) → IsGood entry → length (steps_of entry) ≤ 1000000 → IsLine entry
@@ -177,7 +177,7 @@ module _ (listing : Listing) where
       record {
         ended = refl;
         whole = whole_line (codes "go") all verb words;
-        spelled = record { spelled = words_in (codes "go") all verb words; numbered = good.0; some = good.1; few = omega (arith, low) };
+        encoded = record { encoded = words_in (codes "go") all verb words; numbered = good.0; some = good.1; few = omega (arith, low) };
         on = tt;
       }
   is_line (Answer thread answer) good few =
@@ -187,14 +187,14 @@ module _ (listing : Listing) where
       record {
         ended = refl;
         whole = whole_line (codes "answer") all verb words;
-        spelled = record { spelled = words_in (codes "answer") all verb words; numbered = good.0; is = good.1 };
+        encoded = record { encoded = words_in (codes "answer") all verb words; numbered = good.0; is = good.1 };
         on = tt;
       }
   is_line (Seen event) good few =
       record {
         ended = refl;
         whole = line_is_whole listing.methods good.method (library_of listing) event good.there good.is good.words;
-        spelled = record { id = good.method.id; spelled = line_words listing.methods good.method (library_of listing) event good.there good.is good.words; is = good.is };
+        encoded = record { id = good.method.id; encoded = line_words listing.methods good.method (library_of listing) event good.there good.is good.words; is = good.is };
         on = tt;
       }
   is_line End good few = absurd good
@@ -212,7 +212,7 @@ module _ (listing : Listing) where
   are_entries [] all few = tt
   are_entries (entry ∷ entries) all few =
       let is = is_line entry all.0 (first_few entry entries few) in
-      (is.spelled, is.on, are_entries entries all.1 (rest_few entry entries few))
+      (is.encoded, is.on, are_entries entries all.1 (rest_few entry entries few))
 
   module _ (ending : Ending) (end : IsEnding ending) where
     abbrev text_of : List Entry → List ℕ
@@ -244,8 +244,8 @@ module _ (listing : Listing) where
         last = end_text ending;
         entries = entries;
         ended = lines_are ending is entries good fewer;
-        spelled = are_entries entries good fewer;
-        over = end_is_spelled ending is;
+        encoded = are_entries entries good fewer;
+        over = end_is_encoded ending is;
         told = ap₂ made (all_steps lines) (all_events lines);
         few = steps;
       })

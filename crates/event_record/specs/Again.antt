@@ -10,7 +10,7 @@ use Rattle.event_record.specs.Entry.{entry_of}
 use Rattle.event_record.specs.Library.{Library, library_of}
 use Rattle.event_record.specs.Printing.{IsEventOf, IsInWords, event_line, event_text, method_listed}
 use Rattle.event_record.specs.Record.{reading}
-use Rattle.event_record.specs.Spelling.{Ending, IsEnding, ending_words}
+use Rattle.event_record.specs.Encoding.{Ending, IsEnding, ending_words}
 
 -- The event is of a method that the methods have under its index and the library finds there, and that is named in words.
 pub record IsPrinted (library : Library) (methods : List ListedMethod) (event : Event) : Type 0 where
@@ -28,7 +28,7 @@ EventIsReadAgain = (library : Library) (methods : List ListedMethod) (event : Ev
 abbrev pub end_line : Ending → List ℕ
 end_line ending = join_with_byte 32 (ending_words ending) ++ 10 ∷ []
 
--- The lines of events and an end line behind them are read as the record of these events, without steps.
+-- The lines of events and an end line after them are read as the record of these events, without steps.
 abbrev pub EventsAreReadAgain : Type 0
 EventsAreReadAgain = (listing : Listing) (events : List Event) (ending : Ending)
     → AllByRecursion (IsPrinted (library_of listing) listing.methods) events → IsEnding ending

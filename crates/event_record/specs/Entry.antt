@@ -39,7 +39,7 @@ bare_answer kind =
     else if is kind (codes "receiver") then Ok answers.Receiver
     else Err NoForm
 
--- an answer with a word behind it; its classes are known
+-- an answer with a word after it; its classes are known
 unfoldable pub int_answer : List ℕ → Read ApiAnswer
 int_answer word = ok_or (int_of word) NoForm >>= λ n. Ok (answers.Int n)
 
@@ -77,7 +77,7 @@ answer_line library thread kind rest = do
 
 -- ---- events
 
--- the values behind these
+-- the values after these
 abbrev pub values_from : List ApiValue → List (List ℕ) → Read (List ApiValue)
 values_from values [] = Ok values
 values_from values (word ∷ words) = value_at word >>= λ value. values_from (values ++ value ∷ []) words

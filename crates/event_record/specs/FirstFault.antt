@@ -6,14 +6,14 @@ use Rattle.event_record.specs.declared.entry.Entry.{Entry}
 use Rattle.event_record.specs.declared.fault.RecordFault.TheVariants.{Line}
 use Rattle.event_record.specs.Library.{library_of}
 use Rattle.event_record.specs.Record.{reading}
-use Rattle.event_record.specs.Spelling.{AreEntries, record_of}
+use Rattle.event_record.specs.Encoding.{AreEntries, record_of}
 
--- A fault at line n stays, whatever stands behind the first n lines.
+-- A fault at line n stays, whatever stands after the first n lines.
 abbrev pub FaultStays : Type 0
 FaultStays = (listing : Listing) (n : ℕ) (front a b : List ℕ) → IsLines n front
     → reading (front ++ a) listing ≡ Err (Line n) → reading (front ++ b) listing ≡ Err (Line n)
 
--- Behind good lines, none of which is the end line, the next one is at fault where no newline is behind it, as where there is none.
+-- After good lines, none of which is the end line, the next one is at fault where no newline is after it, as where there is none.
 abbrev pub EndIsMissed : Type 0
 EndIsMissed = (listing : Listing) (text last : List ℕ) (lines : List (List ℕ)) (entries : List Entry)
     → pieces 10 text ≡ lines ++ last ∷ [] → AreEntries (library_of listing) lines entries → length (record_of entries).steps ≤ 1000000

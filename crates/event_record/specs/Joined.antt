@@ -7,7 +7,7 @@ use Rattle.event_record.specs.declared.entry.Entry.{Entry}
 use Rattle.event_record.specs.declared.writing.EndLine.{EndLine}
 use Rattle.event_record.specs.declared.writing.EndLine.TheVariants as ends
 use Rattle.event_record.specs.declared.writing.Joined.{Joined}
-use Rattle.event_record.specs.Printing.{behind}
+use Rattle.event_record.specs.Printing.{following}
 use Rattle.event_record.specs.Writing.{entry_line, go_line, plain_before}
 
 -- so many plain steps of a thread before these entries
@@ -19,19 +19,19 @@ plains_before thread (suc count) entries = plain_before thread (plains_before th
 abbrev pub joined_line : ℕ → ℕ → List ℕ
 joined_line thread count = if count == 0 then [] else go_line thread count
 
--- the lines of the entries behind joined steps
-abbrev pub lines_behind : List ListedMethod → Joined → List Entry → List ℕ
-lines_behind methods joined entries = flat_map (entry_line methods) (plains_before joined.thread joined.count entries)
+-- the lines of the entries after joined steps
+abbrev pub lines_after : List ListedMethod → Joined → List Entry → List ℕ
+lines_after methods joined entries = flat_map (entry_line methods) (plains_before joined.thread joined.count entries)
 
 -- Whatever entries follow: what is written and joined now is what was before, with what is put before those entries.
 abbrev pub WritesOn : List ListedMethod → List ℕ → Joined → (List Entry → List Entry) → List ℕ → Joined → Type 0
-WritesOn methods old was before new now = (entries : List Entry) → new ++ lines_behind methods now entries ≡ old ++ lines_behind methods was (before entries)
+WritesOn methods old was before new now = (entries : List Entry) → new ++ lines_after methods now entries ≡ old ++ lines_after methods was (before entries)
 
 -- the end line up to the number of the steps
 abbrev pub end_head : EndLine → List ℕ
 end_head ends.Finished = codes "end finished"
 end_head ends.Deadlock = codes "end deadlock"
-end_head (ends.Stopped value) = codes "end stopped" ++ behind (signed_decimal value)
+end_head (ends.Stopped value) = codes "end stopped" ++ following (signed_decimal value)
 end_head ends.Budget = codes "end budget"
 end_head ends.Device = codes "end device"
 end_head ends.Running = codes "end running"

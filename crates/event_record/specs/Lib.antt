@@ -4,7 +4,7 @@ pub mod Value
 pub mod Entry
 pub mod Record
 pub mod Printing
-pub mod Spelling
+pub mod Encoding
 pub mod Again
 pub mod Writing
 pub mod RunLines

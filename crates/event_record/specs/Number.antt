@@ -1,4 +1,4 @@
--- Numbers among the words of a record: decimal digits without zeros in front, behind `-` below zero. (docs/RECORDS.md)
+-- Numbers among the words of a record: decimal digits without zeros in front, after `-` below zero. (docs/RECORDS.md)
 use Rattle.std.specs.Prelude.{ℕ, ℤ, pos, negsuc, neg_ℤ, ◌^◌, ◌&&◌, ◌==◌, Bool, true, false, nat_lt, int_le, bytes_eq, List, [], ◌∷◌, Option, Some, None, option_and_then, if◌then◌else◌}
 use Rattle.std.specs.Fmt.{signed_decimal}
 use Rattle.std.specs.Str.Parse.{digits_value}

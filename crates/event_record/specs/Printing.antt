@@ -15,36 +15,36 @@ use Rattle.event_record.specs.Library.{Library}
 use Rattle.event_record.specs.Value.{value_word}
 
 -- a space and a word
-abbrev pub behind : List ℕ → List ℕ
-behind word = 32 ∷ word
+abbrev pub following : List ℕ → List ℕ
+following word = 32 ∷ word
 
-abbrev pub value_behind : ApiValue → List ℕ
-value_behind value = behind (value_word value)
+abbrev pub value_after : ApiValue → List ℕ
+value_after value = following (value_word value)
 
-abbrev pub result_behind : Option ApiValue → List ℕ
-result_behind None = []
-result_behind (Some value) = value_behind value
+abbrev pub result_after : Option ApiValue → List ℕ
+result_after None = []
+result_after (Some value) = value_after value
 
-abbrev pub method_behind : ListedMethod → List ℕ
-method_behind m = behind m.id.class ++ behind m.id.name ++ behind m.id.desc
+abbrev pub method_after : ListedMethod → List ℕ
+method_after m = following m.id.class ++ following m.id.name ++ following m.id.desc
 
 -- the class, name and descriptor of the method with this index
-abbrev pub named_behind : List ListedMethod → ℕ → List ℕ
-named_behind methods method = option_map_or method_behind (slice_get methods method) []
+abbrev pub named_after : List ListedMethod → ℕ → List ℕ
+named_after methods method = option_map_or method_after (slice_get methods method) []
 
 abbrev pub head_text : List ℕ → ℕ → List ListedMethod → ℕ → List ℕ
-head_text verb thread methods method = verb ++ behind (decimal thread) ++ named_behind methods method
+head_text verb thread methods method = verb ++ following (decimal thread) ++ named_after methods method
 
 abbrev pub event_text : List ListedMethod → Event → List ℕ
-event_text methods (Call thread method args) = head_text (codes "call") thread methods method ++ flat_map value_behind args
-event_text methods (Return thread method value) = head_text (codes "return") thread methods method ++ result_behind value
+event_text methods (Call thread method args) = head_text (codes "call") thread methods method ++ flat_map value_after args
+event_text methods (Return thread method value) = head_text (codes "return") thread methods method ++ result_after value
 event_text methods (Except thread method) = head_text (codes "except") thread methods method
 
 -- the event without its thread
 abbrev pub threadless_text : List ListedMethod → Event → List ℕ
-threadless_text methods (Call thread method args) = codes "call" ++ named_behind methods method ++ flat_map value_behind args
-threadless_text methods (Return thread method value) = codes "return" ++ named_behind methods method ++ result_behind value
-threadless_text methods (Except thread method) = codes "except" ++ named_behind methods method
+threadless_text methods (Call thread method args) = codes "call" ++ named_after methods method ++ flat_map value_after args
+threadless_text methods (Return thread method value) = codes "return" ++ named_after methods method ++ result_after value
+threadless_text methods (Except thread method) = codes "except" ++ named_after methods method
 
 -- the line of an event
 abbrev pub event_line : List ListedMethod → Event → List ℕ

@@ -1,4 +1,4 @@
--- What a record is, which record a text spells, and how a text is read. (docs/RECORDS.md)
+-- What a record is, which record a text encodes, and how a text is read. (docs/RECORDS.md)
 use Rattle.std.specs.Prelude.{ℕ, ◌+◌, ◌&&◌, nat_lt, Bool, true, false, List, [], ◌∷◌, ◌++◌, length, replicate, Result, Ok, Err, if◌then◌else◌}
 use Rattle.mon_base.specs.Reading.{◌>>=◌}
 use Rattle.api_listing.specs.Fault.{Read}
@@ -61,16 +61,16 @@ abbrev pub is_none : {X : Type 0} → List X → Bool
 is_none [] = true
 is_none (x ∷ xs) = false
 
--- Behind the newline of the end line stands nothing.
+-- After the newline of the end line stands nothing.
 abbrev pub is_over : List (List ℕ) → Bool
 is_over [] = true
 is_over (last ∷ rest) = is_none last && is_none rest
 
--- what the end line gives, with what stands behind its newline
+-- what the end line gives, with what stands after its newline
 abbrev pub over : ℕ → Record → List (List ℕ) → Result Record RecordFault
 over number r rest = if is_over rest then Ok r else Err (Line (number + 1))
 
--- what is read of these lines, of which the first has this number; the last of them has no newline behind it
+-- what is read of these lines, of which the first has this number; the last of them has no newline after it
 abbrev pub after_lines : Library → ℕ → Record → List (List ℕ) → Result Record RecordFault
 after_lines library number r [] = Err (Line number)
 after_lines library number r (line ∷ rest) =

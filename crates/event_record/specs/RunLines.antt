@@ -3,10 +3,10 @@ use Rattle.std.specs.Prelude.{◌≡◌, ◌≤◌, ◌<◌, ◌+◌, ◌^◌, �
 use Rattle.std.specs.List.{AllByRecursion}
 use Rattle.api_listing.specs.declared.events.ApiAnswer.{ApiAnswer}
 use Rattle.api_listing.specs.declared.events.ApiAnswer.TheVariants as answers
-use Rattle.api_listing.specs.Listing.{SpellsListing}
+use Rattle.api_listing.specs.Listing.{EncodesListing}
 use Rattle.bytecode_model.specs.declared.program.Program.{Program}
 use Rattle.bytecode_model.specs.Sound.{IsSound}
-use Rattle.bytecode_model.specs.Standing.{AreLiterals, AreStanding}
+use Rattle.bytecode_model.specs.LinkedClasses.{AreLiterals, AreLinkedClasses}
 use Rattle.bytecode_model.specs.Targets.{AreNamed}
 use Rattle.guest_model.specs.declared.machine.Choice.{Choice}
 use Rattle.guest_model.specs.declared.machine.Choice.TheVariants as choices
@@ -16,7 +16,7 @@ use Rattle.guest_model.specs.Stepping.{stepped}
 use Rattle.event_record.specs.declared.writing.EndLine.{EndLine}
 use Rattle.event_record.specs.declared.writing.Line.{Line}
 use Rattle.event_record.specs.Record.{reading}
-use Rattle.event_record.specs.Spelling.{IsStopValue}
+use Rattle.event_record.specs.Encoding.{IsStopValue}
 use Rattle.event_record.specs.Writing.{IsTold, ending_of, record_text, run_of}
 
 -- ---- the lines of a run
@@ -53,15 +53,15 @@ BringsBytes (choices.Answer answer) = AnswersBytes answer
 -- bits, and the texts that the library answers are made of bytes.
 abbrev pub LinesOfRunsAreTold : Type 0
 LinesOfRunsAreTold =
-    (program : Program) (text : List ℕ) (lines : List Line) → SpellsListing text program.listing → IsSound program → AreStanding program
+    (program : Program) (text : List ℕ) (lines : List Line) → EncodesListing text program.listing → IsSound program → AreLinkedClasses program
     → AreNamed program → AreLiterals program → AreLinesOf program lines → suc (length program.listing.fields) + length lines ≤ 2 ^ 32
     → AllByRecursion (λ (line : Line). BringsBytes line.step.choice) lines → AllByRecursion (IsTold program.listing) lines
 
 -- So the record of a run of a linked program, of at most 1,000,000 steps, is read as that run.
 abbrev pub RecordsOfRunsAreReadAgain : Type 0
 RecordsOfRunsAreReadAgain =
-    (program : Program) (text : List ℕ) (lines : List Line) (end : EndLine) → SpellsListing text program.listing → IsSound program
-    → AreStanding program → AreNamed program → AreLiterals program → AreLinesOf program lines
+    (program : Program) (text : List ℕ) (lines : List Line) (end : EndLine) → EncodesListing text program.listing → IsSound program
+    → AreLinkedClasses program → AreNamed program → AreLiterals program → AreLinesOf program lines
     → AllByRecursion (λ (line : Line). BringsBytes line.step.choice) lines
     → length lines ≤ 1000000 → IsStopValue (ending_of end (length lines))
     → reading (record_text program.listing lines end) program.listing ≡ Ok (run_of lines)

@@ -1,4 +1,4 @@
--- Values as words: how they are spelled, and how they are read. (docs/RECORDS.md)
+-- Values as words: how they are encoded, and how they are read. (docs/RECORDS.md)
 use Rattle.std.specs.Prelude.{ℕ, ◌+◌, ◌-◌, ◌*◌, ◌/◌, ◌%◌, ◌==◌, ◌&&◌, Bool, nat_eq, nat_le, nat_lt, bytes_eq, codes, List, [], ◌∷◌, ◌++◌, length, take, drop, decimal, Option, Some, None, Ok, Err, ok_or, if◌then◌else◌}
 use Rattle.std.specs.Fmt.{signed_decimal}
 use Rattle.std.specs.List.{flat_map, starts_with}
@@ -9,7 +9,7 @@ use Rattle.api_listing.specs.declared.events.ApiValue.TheVariants.{Int, Null, Te
 use Rattle.api_listing.specs.declared.fault.FormFault.TheVariants.{NoForm}
 use Rattle.event_record.specs.Number.{int_of, index_of}
 
--- ---- spelling
+-- ---- encoding
 
 abbrev pub hex_digit : ℕ → ℕ
 hex_digit n = if nat_lt n 10 then 48 + n else 87 + n
@@ -40,7 +40,7 @@ digit_at b =
 abbrev pub byte_at : ℕ → ℕ → Read ℕ
 byte_at high low = digit_at high >>= λ h. digit_at low >>= λ l. Ok (16 * h + l)
 
--- these bytes, and behind them those of the pairs of digits
+-- these bytes, and after them those of the pairs of digits
 abbrev pub bytes_from : List ℕ → List ℕ → Read (List ℕ)
 bytes_from bytes [] = Ok bytes
 bytes_from bytes (b ∷ []) = Err NoForm
@@ -58,7 +58,7 @@ last_at place known (b ∷ text) = last_at (place + 1) (if b == 64 then Some pla
 unfoldable pub text_value : List ℕ → Read ApiValue
 text_value text = hex_at text >>= λ bytes. Ok (Text bytes)
 
--- the class before the place, and the number behind it
+-- the class before the place, and the number after it
 unfoldable pub object_parts : List ℕ → ℕ → Read ApiValue
 object_parts text place = do
   some ← need (nat_lt 0 place) NoForm

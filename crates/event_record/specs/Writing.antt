@@ -16,9 +16,9 @@ use Rattle.event_record.specs.declared.writing.EndLine.TheVariants as ends
 use Rattle.event_record.specs.declared.writing.Line.{Line}
 use Rattle.event_record.specs.Again.{IsPrinted, end_line}
 use Rattle.event_record.specs.Library.{Library, library_of}
-use Rattle.event_record.specs.Printing.{HasNoBreak, behind, event_line}
+use Rattle.event_record.specs.Printing.{HasNoBreak, following, event_line}
 use Rattle.event_record.specs.Record.{reading}
-use Rattle.event_record.specs.Spelling.{Ending, Finished, Deadlock, Stopped, Budget, Device, Running, IsAnswer, IsStopValue, answer_words}
+use Rattle.event_record.specs.Encoding.{Ending, Finished, Deadlock, Stopped, Budget, Device, Running, IsAnswer, IsStopValue, answer_words}
 
 -- ---- the entries
 
@@ -49,9 +49,9 @@ entries_of (line ∷ lines) = line_before line (entries_of lines)
 
 -- ---- their lines
 
--- a word, and others each behind a space
+-- a word, and others each after a space
 abbrev pub words_line : List ℕ → List (List ℕ) → List ℕ
-words_line verb words = verb ++ flat_map behind words ++ 10 ∷ []
+words_line verb words = verb ++ flat_map following words ++ 10 ∷ []
 
 abbrev pub go_line : ℕ → ℕ → List ℕ
 go_line thread count = words_line (codes "go") (decimal thread ∷ decimal count ∷ [])

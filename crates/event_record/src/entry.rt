@@ -164,7 +164,7 @@ fn bare_answer(kind: &[u8]) -> Result<ApiAnswer, FormFault>
     }
 }
 
-/// An answer with a word behind it.
+/// An answer with a word after it.
 #[tactic(auto, unfolding(crate::specs::Entry::answer_with))]
 fn answer_with(
     alloc: Global,

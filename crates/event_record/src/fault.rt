@@ -10,8 +10,8 @@ use thiserror::Error;
 /// What is wrong with the text. `line` counts from 1.
 #[derive(Clone, Copy, Debug, Error)]
 pub enum RecordFault {
-    /// The first line that has no form of a record, that brings the steps above 1,000,000, that stands behind the end line,
-    /// or that has no newline behind it; or the line behind the last, where there is no end line.
+    /// The first line that has no form of a record, that brings the steps above 1,000,000, that stands after the end line,
+    /// or that has no newline after it; or the line after the last, where there is no end line.
     #[error("line {line} is no line of a record")]
     Line { line: u64 },
     /// Memory ran out.

@@ -3,7 +3,7 @@
 ghost use Rattle.event_record.specs.FirstFault.{EndIsMissed, FaultStays};
 
 /// Texts that agree up to the line of the fault have the same fault. Where the fault is that no end line is there, it is at
-/// the line behind the last one.
+/// the line after the last one.
 pub fn faults_stay()
     ensures stays { FaultStays }
     ensures missed { EndIsMissed }

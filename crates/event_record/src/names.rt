@@ -6,7 +6,7 @@ ghost use Rattle.api_listing.specs.Seen.{has_name};
 ghost use Rattle.api_listing.specs.declared.types.ListedMethod.{ListedMethod};
 ghost use Rattle.mon_base.specs.declared.method.MethodId.{MethodId};
 ghost use Rattle.event_record.specs.Library.{AddsFirst, AreNames, index_in, place_listed};
-ghost use Rattle.event_record.specs.Spelling.{IsFirst};
+ghost use Rattle.event_record.specs.Encoding.{IsFirst};
 
 use api_listing::{ListedClass, ListedMethod, Listing};
 use mon_base::{Bytes, MethodId, NoMemory};

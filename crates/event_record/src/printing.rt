@@ -7,15 +7,15 @@ ghost use Rattle.event_record.specs.Again.{EventIsReadAgain, EventsAreReadAgain}
 ghost use Rattle.event_record.specs.Printing.{
   HasNoBreak,
   IsValue,
-  behind,
+  following,
   event_line,
   event_text,
   head_text,
-  method_behind,
-  named_behind,
-  result_behind,
+  method_after,
+  named_after,
+  result_after,
   threadless_text,
-  value_behind,
+  value_after,
 };
 ghost use Rattle.event_record.specs.Value.{hex, hex_byte, hex_digit, value_at, value_word};
 
@@ -164,7 +164,7 @@ fn push_head(
 }
 
 fn push_named(out: &mut Bytes, methods: &[ListedMethod], method: u32) -> Result<(), NoMemory>
-    ensures { OnOk result (out.new ≡ out.old ++ named_behind methods.now method) }
+    ensures { OnOk result (out.new ≡ out.old ++ named_after methods.now method) }
 {
     match methods.get(method as usize) {
         Some(method) => push_method(out, method),
@@ -173,40 +173,40 @@ fn push_named(out: &mut Bytes, methods: &[ListedMethod], method: u32) -> Result<
 }
 
 fn push_method(out: &mut Bytes, method: &ListedMethod) -> Result<(), NoMemory>
-    ensures { OnOk result (out.new ≡ out.old ++ method_behind method.now) }
+    ensures { OnOk result (out.new ≡ out.old ++ method_after method.now) }
 {
-    push_behind(out, &method.id.class)?;
-    push_behind(out, &method.id.name)?;
-    push_behind(out, &method.id.desc)
+    push_after(out, &method.id.class)?;
+    push_after(out, &method.id.name)?;
+    push_after(out, &method.id.desc)
 }
 
-fn push_behind(out: &mut Bytes, word: &Bytes) -> Result<(), NoMemory>
-    ensures { OnOk result (out.new ≡ out.old ++ behind word.now) }
+fn push_after(out: &mut Bytes, word: &Bytes) -> Result<(), NoMemory>
+    ensures { OnOk result (out.new ≡ out.old ++ following word.now) }
 {
     out.push(b' ')?;
     out.extend(word.as_slice())
 }
 
 fn push_result(out: &mut Bytes, value: &Option<ApiValue>) -> Result<(), NoMemory>
-    ensures { OnOk result (out.new ≡ out.old ++ result_behind value.now) }
+    ensures { OnOk result (out.new ≡ out.old ++ result_after value.now) }
 {
     match value {
-        Some(value) => push_value_behind(out, value),
+        Some(value) => push_value_after(out, value),
         None => Ok(()),
     }
 }
 
 fn push_values(out: &mut Bytes, values: &[ApiValue]) -> Result<(), NoMemory>
-    ensures { OnOk result (out.new ≡ out.old ++ flat_map value_behind values.now) }
+    ensures { OnOk result (out.new ≡ out.old ++ flat_map value_after values.now) }
 {
     for value in values {
-        push_value_behind(out, value)?;
+        push_value_after(out, value)?;
     }
     Ok(())
 }
 
-fn push_value_behind(out: &mut Bytes, value: &ApiValue) -> Result<(), NoMemory>
-    ensures { OnOk result (out.new ≡ out.old ++ value_behind value.now) }
+fn push_value_after(out: &mut Bytes, value: &ApiValue) -> Result<(), NoMemory>
+    ensures { OnOk result (out.new ≡ out.old ++ value_after value.now) }
 {
     out.push(b' ')?;
     push_value(out, value)

@@ -17,7 +17,7 @@ ghost use Rattle.event_record.specs.Record.{
   reading,
   with_entry,
 };
-ghost use Rattle.event_record.specs.Spelling.{SpellsRecord};
+ghost use Rattle.event_record.specs.Encoding.{EncodesRecord};
 
 use crate::entry::{Entry, entry_of};
 use crate::fault::RecordFault;
@@ -42,15 +42,15 @@ pub struct Told {
     pub is_last: bool,
 }
 
-/// The record that the text spells over the classes and methods of the listing, or its first line that is wrong.
+/// The record that the text encodes over the classes and methods of the listing, or its first line that is wrong.
 pub fn read_record(alloc: Global, text: &[u8], listing: &Listing) -> Result<Record, RecordFault>
     requires listed { length listing.now.methods < 2 ^ 32 }
     // What is read decides the answer, and which line is the first that is wrong.
     ensures exact { Answers RecordFault.Memory result (reading text.now listing.now) }
-    // What is read is spelled so.
-    ensures found { IfOk result (λ r. SpellsRecord listing.now text.now r) }
-    // What is spelled so is read, unless memory runs out.
-    ensures only { (told : Record) → SpellsRecord listing.now text.now told
+    // What is read is encoded so.
+    ensures found { IfOk result (λ r. EncodesRecord listing.now text.now r) }
+    // What is encoded so is read, unless memory runs out.
+    ensures only { (told : Record) → EncodesRecord listing.now text.now told
         → MatchResult result (λ read. read ≡ told) (λ e. e ≡ Memory) }
 {
     read_text(alloc, text, listing)
@@ -96,7 +96,7 @@ fn empty_record(alloc: Global) -> Record
     }
 }
 
-/// What the end line gives, with what stands behind its newline.
+/// What the end line gives, with what stands after its newline.
 fn over(number: u64, so_far: Record, rest: &[&[u8]]) -> Result<Record, RecordFault>
     requires { number + 1 < 2 ^ 64 }
     ensures { Answers RecordFault.Memory result (over number so_far (map (λ p. p.now) rest.now)) }

@@ -31,11 +31,11 @@ pub fn value_at(alloc: Global, word: &[u8]) -> Result<ApiValue, FormFault>
     if is_text(word, "null") {
         Ok(ApiValue::Null)
     } else if begins("text:", word) {
-        text_value(alloc, behind(word, 5))
+        text_value(alloc, following(word, 5))
     } else if begins("obj:", word) {
-        object_value(alloc, behind(word, 4))
+        object_value(alloc, following(word, 4))
     } else if begins("class:", word) {
-        class_value(alloc, behind(word, 6))
+        class_value(alloc, following(word, 6))
     } else {
         int_value(word)
     }
@@ -47,8 +47,8 @@ fn begins(front: &str, text: &[u8]) -> bool
     text.starts_with(front.as_bytes())
 }
 
-/// What stands behind the first `n` bytes, or nothing.
-fn behind(text: &[u8], n: usize) -> &[u8]
+/// What stands after the first `n` bytes, or nothing.
+fn following(text: &[u8], n: usize) -> &[u8]
     ensures { result.now ≡ drop n text.now }
 {
     if n < text.len() { &text[n..] } else { &[] }
@@ -122,7 +122,7 @@ fn int_value(text: &[u8]) -> Result<ApiValue, FormFault>
     Ok(ApiValue::Int(n))
 }
 
-/// The bytes that pairs of digits spell, or `-` for none.
+/// The bytes that pairs of digits encode, or `-` for none.
 #[tactic(auto, unfolding(crate::specs::Value::hex_at))]
 pub fn hex_at(alloc: Global, text: &[u8]) -> Result<Bytes, FormFault>
     ensures { Answers FormFault.Memory result (hex_at text.now) }

@@ -6,14 +6,14 @@ ghost use Rattle.api_listing.specs.Words.{pieces};
 use mon_base::{Bytes, List, NoMemory};
 use std::alloc::{AllocError, Global};
 
-/// The pieces of the text before, between and behind the places of the byte.
+/// The pieces of the text before, between and after the places of the byte.
 pub fn parts_of(alloc: Global, text: &[u8], byte: u8) -> Result<Vec<&[u8]>, AllocError>
     ensures { IfOk result (λ v. map (λ p. p.now) v.items ≡ pieces byte text.now) }
 {
     text.split(|b| *b == byte).collect(alloc)
 }
 
-/// The words of a line, each behind one space.
+/// The words of a line, each after one space.
 pub fn words_of(alloc: Global, line: &[u8]) -> Result<List<Bytes>, NoMemory>
     ensures { IfOk result (λ words. words ≡ pieces 32 line.now) }
 {

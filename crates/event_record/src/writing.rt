@@ -6,9 +6,9 @@ ghost use Rattle.std.specs.List.{flat_map};
 ghost use Rattle.api_listing.specs.declared.types.ListedMethod.{ListedMethod};
 ghost use Rattle.event_record.specs.Again.{end_line};
 ghost use Rattle.event_record.specs.Joined.{WritesOn, end_head, joined_line};
-ghost use Rattle.event_record.specs.Printing.{behind, event_line};
+ghost use Rattle.event_record.specs.Printing.{following, event_line};
 ghost use Rattle.event_record.specs.RunLines.{LinesOfRunsAreTold, RecordsOfRunsAreReadAgain};
-ghost use Rattle.event_record.specs.Spelling.{answer_words};
+ghost use Rattle.event_record.specs.Encoding.{answer_words};
 ghost use Rattle.event_record.specs.Value.{hex};
 ghost use Rattle.event_record.specs.Writing.{
   RecordsAreReadAgain,
@@ -204,8 +204,8 @@ fn push_joined(out: &mut Bytes, joined: Joined) -> Result<(), NoMemory>
         return Ok(());
     }
     out.extend(b"go")?;
-    push_count_behind(out, u64::from(joined.thread))?;
-    push_count_behind(out, joined.count)?;
+    push_count_after(out, u64::from(joined.thread))?;
+    push_count_after(out, joined.count)?;
     out.extend(b"\n")
 }
 
@@ -213,29 +213,29 @@ fn push_answer(out: &mut Bytes, thread: u32, answer: &ApiAnswer) -> Result<(), N
     ensures { OnOk result (out.new ≡ out.old ++ answer_line thread answer.now) }
 {
     out.extend(b"answer")?;
-    push_count_behind(out, u64::from(thread))?;
+    push_count_after(out, u64::from(thread))?;
     push_answer_words(out, answer)?;
     out.extend(b"\n")
 }
 
 fn push_answer_words(out: &mut Bytes, answer: &ApiAnswer) -> Result<(), NoMemory>
-    ensures { OnOk result (out.new ≡ out.old ++ flat_map behind (answer_words answer.now)) }
+    ensures { OnOk result (out.new ≡ out.old ++ flat_map following (answer_words answer.now)) }
 {
     match answer {
         ApiAnswer::Nothing => push_word(out, b"nothing"),
         ApiAnswer::Int(n) => {
             push_word(out, b"int")?;
-            push_int_behind(out, *n)
+            push_int_after(out, *n)
         }
         ApiAnswer::Null => push_word(out, b"null"),
         ApiAnswer::Text(bytes) => {
             push_word(out, b"text")?;
-            push_hex_behind(out, bytes.as_slice())
+            push_hex_after(out, bytes.as_slice())
         }
         ApiAnswer::Fresh(class) => push_words(out, b"fresh", class.as_slice()),
         ApiAnswer::Arg(place) => {
             push_word(out, b"arg")?;
-            push_count_behind(out, u64::from(*place))
+            push_count_after(out, u64::from(*place))
         }
         ApiAnswer::Receiver => push_word(out, b"receiver"),
         ApiAnswer::Throws(class) => push_words(out, b"throws", class.as_slice()),
@@ -247,7 +247,7 @@ fn push_end(out: &mut Bytes, end: EndLine, count: u64) -> Result<(), NoMemory>
     ensures { OnOk result (out.new ≡ out.old ++ end_line (ending_of end count)) }
 {
     push_end_head(out, end)?;
-    push_count_behind(out, count)?;
+    push_count_after(out, count)?;
     out.extend(b"\n")
 }
 
@@ -259,7 +259,7 @@ fn push_end_head(out: &mut Bytes, end: EndLine) -> Result<(), NoMemory>
         EndLine::Deadlock => out.extend(b"end deadlock"),
         EndLine::Stopped(value) => {
             out.extend(b"end stopped")?;
-            push_int_behind(out, value)
+            push_int_after(out, value)
         }
         EndLine::Budget => out.extend(b"end budget"),
         EndLine::Device => out.extend(b"end device"),
@@ -267,38 +267,38 @@ fn push_end_head(out: &mut Bytes, end: EndLine) -> Result<(), NoMemory>
     }
 }
 
-// ---- words behind a space
+// ---- words after a space
 
 fn push_word(out: &mut Bytes, word: &[u8]) -> Result<(), NoMemory>
-    ensures { OnOk result (out.new ≡ out.old ++ behind word.now) }
+    ensures { OnOk result (out.new ≡ out.old ++ following word.now) }
 {
     out.push(b' ')?;
     out.extend(word)
 }
 
 fn push_words(out: &mut Bytes, first: &[u8], second: &[u8]) -> Result<(), NoMemory>
-    ensures { OnOk result (out.new ≡ out.old ++ (behind first.now ++ behind second.now)) }
+    ensures { OnOk result (out.new ≡ out.old ++ (following first.now ++ following second.now)) }
 {
     push_word(out, first)?;
     push_word(out, second)
 }
 
-fn push_count_behind(out: &mut Bytes, n: u64) -> Result<(), NoMemory>
-    ensures { OnOk result (out.new ≡ out.old ++ behind (decimal n)) }
+fn push_count_after(out: &mut Bytes, n: u64) -> Result<(), NoMemory>
+    ensures { OnOk result (out.new ≡ out.old ++ following (decimal n)) }
 {
     out.push(b' ')?;
     push_count(out, n)
 }
 
-fn push_int_behind(out: &mut Bytes, n: i32) -> Result<(), NoMemory>
-    ensures { OnOk result (out.new ≡ out.old ++ behind (signed_decimal n)) }
+fn push_int_after(out: &mut Bytes, n: i32) -> Result<(), NoMemory>
+    ensures { OnOk result (out.new ≡ out.old ++ following (signed_decimal n)) }
 {
     out.push(b' ')?;
     push_number(out, i64::from(n))
 }
 
-fn push_hex_behind(out: &mut Bytes, bytes: &[u8]) -> Result<(), NoMemory>
-    ensures { OnOk result (out.new ≡ out.old ++ behind (hex bytes.now)) }
+fn push_hex_after(out: &mut Bytes, bytes: &[u8]) -> Result<(), NoMemory>
+    ensures { OnOk result (out.new ≡ out.old ++ following (hex bytes.now)) }
 {
     out.push(b' ')?;
     push_hex(out, bytes)

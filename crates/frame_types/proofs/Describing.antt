@@ -2,7 +2,7 @@
 use Rattle.std.proofs.Common.{◌≡◌, ℕ, zero, suc, ◌+◌, ◌-◌, ◌<◌, ◌≤◌, List, [], ◌∷◌, Some, None, refl, arith}
 use Rattle.bytecode_model.specs.Described.{Descriptor, next_type, types_at}
 
--- with i of n types behind, one more
+-- with i of n types after, one more
 pub types_some : (n i : ℕ) (text : List ℕ) (r : Descriptor × List ℕ) → i < n → next_type text ≡ Some r → types_at (n - i) text ≡ r.0 ∷ types_at (n - (i + 1)) r.1
 unfolding types_at
 types_some n i text r less e =

@@ -1,12 +1,12 @@
 //! The types that descriptors tell. (The Java Virtual Machine Specification, section 4.3.)
 
 ghost use Rattle.std.specs.Prelude.{◌≡◌, ◌≤◌, ◌-◌, length, take, option_map};
-ghost use Rattle.bytecode_model.specs.Lending.{type_lent};
+ghost use Rattle.bytecode_model.specs.Borrowing.{type_borrowed};
 ghost use Rattle.bytecode_model.specs.Described.{
   name_length,
   type_length,
   first_type,
-  behind_type,
+  after_type,
   next_type,
   types_at,
   arguments,
@@ -17,7 +17,7 @@ ghost use Rattle.bytecode_model.specs.Described.{
 
 use bytecode_model::TypeRef;
 
-/// How long a class's name at the front is, with the `;` behind it.
+/// How long a class's name at the front is, with the `;` after it.
 fn name_length(text: &[u8]) -> usize
     ensures value { result ≡ name_length text.now }
     ensures fits { result ≤ length text.now }
@@ -54,16 +54,16 @@ fn type_length(text: &[u8]) -> usize
     count
 }
 
-/// The type at the front, and what stands behind it.
+/// The type at the front, and what stands after it.
 fn split_type<'a>(text: &'a [u8]) -> (&'a [u8], &'a [u8])
     ensures first { result.0.now ≡ first_type text.now }
-    ensures behind { result.1.now ≡ behind_type text.now }
+    ensures following { result.1.now ≡ after_type text.now }
 {
     let count = type_length(text);
     text.split_at(count)
 }
 
-/// The type at the front and what stands behind it, unless the arguments end there.
+/// The type at the front and what stands after it, unless the arguments end there.
 pub fn next_type<'a>(text: &'a [u8]) -> Option<(&'a [u8], &'a [u8])>
     ensures { option_map (λ r. (r.0.now, r.1.now)) result ≡ next_type text.now }
 {
@@ -79,7 +79,7 @@ pub fn next_type<'a>(text: &'a [u8]) -> Option<(&'a [u8], &'a [u8])>
     }
 }
 
-/// The text of the arguments' types, with what stands behind them.
+/// The text of the arguments' types, with what stands after them.
 pub fn arguments_text(desc: &[u8]) -> &[u8]
     ensures { arguments desc.now ≡ types_at 255 result.now }
 {
@@ -97,16 +97,16 @@ pub fn arity(desc: &[u8]) -> usize
     let mut count: usize = 0;
     let mut left = arguments_text(desc);
     for _ in 0..255usize {
-        let Some((_, behind)) = next_type(left) else {
+        let Some((_, following)) = next_type(left) else {
             return count;
         };
         count += 1;
-        left = behind;
+        left = following;
     }
     count
 }
 
-/// What stands behind the arguments.
+/// What stands after the arguments.
 pub fn result_text(desc: &[u8]) -> &[u8]
     ensures { result.now ≡ result_text desc.now }
 {
@@ -122,7 +122,7 @@ pub fn result_text(desc: &[u8]) -> &[u8]
 
 /// The type of a field, an argument or a result.
 pub fn type_described(text: &[u8]) -> TypeRef<'_>
-    ensures { type_lent result ≡ type_described text.now }
+    ensures { type_borrowed result ≡ type_described text.now }
 {
     match text {
         [] => TypeRef::Top,
@@ -148,7 +148,7 @@ pub fn without_last(text: &[u8]) -> &[u8]
 
 /// The type of a method's result, or nothing where it has none.
 pub fn result_type(desc: &[u8]) -> Option<TypeRef<'_>>
-    ensures { option_map type_lent result ≡ result_type desc.now }
+    ensures { option_map type_borrowed result ≡ result_type desc.now }
 {
     let text = result_text(desc);
     if text == b"V".as_slice() {

@@ -2,7 +2,7 @@
 //!
 //! None of these calls asks which class is below which: each looks at what it is given alone, at one type, a list of types,
 //! the text of a descriptor, a method or a handler. The rules of typing, which ask that, are those of code_typing.
-//! Types are lent ([`TypeRef`](bytecode_model::TypeRef)), so that nothing but a whole frame takes memory.
+//! Types are borrowed ([`TypeRef`](bytecode_model::TypeRef)), so that nothing but a whole frame takes memory.
 //! (The Java Virtual Machine Specification, sections 4.3 and 4.10; docs/TYPING.md.)
 #![tactic(auto)]
 
@@ -15,7 +15,7 @@ mod methods;
 mod place;
 mod targets;
 mod thrown;
-mod unmade;
+mod uninitialised;
 
 pub use described::{
     arguments_text, arity, next_type, result_text, result_type, type_described, without_last,
@@ -30,4 +30,4 @@ pub use targets::{array_named, class_of, constant_type, read_type};
 pub use thrown::{
     THROWABLE, class_caught, is_alone, local_caught, locals_thrown, stack_thrown, when_thrown,
 };
-pub use unmade::{has_new, has_this, is_made_at, is_same_object, new_at};
+pub use uninitialised::{has_new, has_this, is_made_at, is_same_object, new_at};

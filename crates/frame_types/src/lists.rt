@@ -2,21 +2,21 @@
 
 ghost use Rattle.std.specs.Prelude.{◌≡◌, ◌≤◌, length, reverse};
 ghost use Rattle.insn_codec.specs.Forms.{order_of};
-ghost use Rattle.bytecode_model.specs.Lending.{type_lent};
+ghost use Rattle.bytecode_model.specs.Borrowing.{type_borrowed};
 ghost use Rattle.bytecode_model.specs.Makes.{below, moved_from, topmost, type_at};
 
-use bytecode_model::{TypeRef, lend};
+use bytecode_model::{TypeRef, borrow};
 use cert_format::VType;
 use insn_codec::StackForm;
 
 /// The type in a place, or Top.
 pub fn type_at(list: &[VType], i: usize) -> TypeRef<'_>
-    ensures { type_lent result ≡ type_at list.now i }
+    ensures { type_borrowed result ≡ type_at list.now i }
 {
     let Some(t) = list.get(i) else {
         return TypeRef::Top;
     };
-    lend(t)
+    borrow(t)
 }
 
 /// The operands below the n topmost, and these.
@@ -47,7 +47,7 @@ pub fn put_back(form: StackForm) -> &'static [u8]
 
 /// The operand that a form puts back, counted from the top of those taken.
 pub fn moved_from(depth: u8, taken: &[VType], i: u8) -> TypeRef<'_>
-    ensures { type_lent result ≡ moved_from depth taken.now i }
+    ensures { type_borrowed result ≡ moved_from depth taken.now i }
 {
     type_at(
         taken,

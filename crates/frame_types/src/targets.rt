@@ -2,7 +2,7 @@
 
 ghost use Rattle.std.specs.Prelude.{◌≡◌, option_copied};
 ghost use Rattle.cert_format.specs.declared.typing.VType.TheVariants.{Ref};
-ghost use Rattle.bytecode_model.specs.Lending.{type_lent};
+ghost use Rattle.bytecode_model.specs.Borrowing.{type_borrowed};
 ghost use Rattle.bytecode_model.specs.Makes.{array_named, constant_type, item_type, read_type};
 ghost use Rattle.bytecode_model.specs.InsnPlace.{class_of, target_or_none};
 
@@ -23,7 +23,7 @@ pub fn class_of<'a>(target: Option<&'a Target>) -> &'a [u8]
 
 /// The type of the constant that is named.
 pub fn constant_type<'a>(target: Option<&'a Target>) -> TypeRef<'a>
-    ensures { type_lent result ≡ constant_type (target_or_none (option_copied target.entry)) }
+    ensures { type_borrowed result ≡ constant_type (target_or_none (option_copied target.entry)) }
 {
     match target {
         Some(Target::Number(_)) => TypeRef::Int,
@@ -48,7 +48,7 @@ pub fn array_named(kind: u8) -> &'static [u8]
 
 /// The type of an item of the array of this name.
 fn item_described(name: &[u8]) -> TypeRef<'_>
-    ensures { type_lent result ≡ item_type (Ref name.now) }
+    ensures { type_borrowed result ≡ item_type (Ref name.now) }
 {
     match name {
         [] => TypeRef::Top,
@@ -57,7 +57,7 @@ fn item_described(name: &[u8]) -> TypeRef<'_>
 }
 
 fn read_from(array: &VType) -> TypeRef<'_>
-    ensures { type_lent result ≡ item_type array.now }
+    ensures { type_borrowed result ≡ item_type array.now }
 {
     match array {
         VType::Null => TypeRef::Null,
@@ -68,7 +68,7 @@ fn read_from(array: &VType) -> TypeRef<'_>
 
 /// The type of an item that is read.
 pub fn read_type<'a>(item: Item, taken: &'a [VType]) -> TypeRef<'a>
-    ensures { type_lent result ≡ read_type item taken.now }
+    ensures { type_borrowed result ≡ read_type item taken.now }
 {
     match item {
         Item::Reference => {

@@ -3,10 +3,10 @@
 
 ghost use Rattle.std.specs.Prelude.{◌≡◌, ◌∷◌, [], map, IfOk};
 ghost use Rattle.cert_format.specs.declared.typing.VType.TheVariants.{Ref};
-ghost use Rattle.bytecode_model.specs.Lending.{type_lent};
+ghost use Rattle.bytecode_model.specs.Borrowing.{type_borrowed};
 ghost use Rattle.bytecode_model.specs.Rules.{class_caught, is_alone, is_reference_to, local_caught, when_thrown};
 
-use bytecode_model::{Handler, TypeRef, lend, own};
+use bytecode_model::{Handler, TypeRef, borrow, own};
 use cert_format::{Name, VType};
 use mon_base::{List, NoMemory};
 use std::alloc::Global;
@@ -26,18 +26,18 @@ pub fn class_caught(handler: &Handler) -> &[u8]
 
 /// A local as a handler finds it.
 pub fn when_thrown(t: &VType) -> TypeRef<'_>
-    ensures { type_lent result ≡ when_thrown t.now }
+    ensures { type_borrowed result ≡ when_thrown t.now }
 {
     match t {
         VType::UninitThis => TypeRef::Top,
         VType::Uninit(_) => TypeRef::Top,
-        _ => lend(t),
+        _ => borrow(t),
     }
 }
 
 /// The local of this place as a handler finds it; one that is absent is Top.
 pub fn local_caught(locals: &[VType], j: usize) -> TypeRef<'_>
-    ensures { type_lent result ≡ local_caught locals.now j }
+    ensures { type_borrowed result ≡ local_caught locals.now j }
 {
     let Some(t) = locals.get(j) else {
         return TypeRef::Top;

@@ -1,3 +1,3 @@
 pub mod Stack
 pub mod Heap
-pub mod Lending
+pub mod Borrowing

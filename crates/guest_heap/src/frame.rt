@@ -2,7 +2,7 @@
 
 ghost use Rattle.std.specs.Prelude.{◌≡◌, ◌∷◌, ◌<◌, [], Some, OnOk, OnErr, length, option_copied, slice_get, drop};
 ghost use Rattle.std.specs.Borrow.{sem};
-ghost use Rattle.guest_heap.specs.Lending.{LendsCaller, LendsTop};
+ghost use Rattle.guest_heap.specs.Borrowing.{BorrowsCaller, BorrowsTop};
 
 use crate::stack::Stack;
 use crate::value::Value;
@@ -78,7 +78,7 @@ impl Frames {
     /// The top frame, which can be written.
     pub fn top_mut(&mut self) -> &mut Frame
         requires { 0 < length self.old }
-        ensures* lends { sem 𝓛 (LendsTop self.entry result) }
+        ensures* borrows { sem 𝓛 (BorrowsTop self.entry result) }
         ensures top { slice_get self.old 0 ≡ Some result.now }
     {
         let last = self.items.len() - 1;
@@ -99,7 +99,7 @@ impl Frames {
     /// The frame under the top one, which can be written.
     pub fn caller_mut(&mut self) -> &mut Frame
         requires { 1 < length self.old }
-        ensures* lends { sem 𝓛 (LendsCaller self.entry result) }
+        ensures* borrows { sem 𝓛 (BorrowsCaller self.entry result) }
         ensures caller { slice_get self.old 1 ≡ Some result.now }
     {
         let place = self.items.len() - 2;

@@ -14,7 +14,7 @@ use Rattle.api_listing.specs.declared.events.ApiValue.{ApiValue}
 use Rattle.api_listing.specs.declared.events.ApiValue.TheVariants as api
 use Rattle.api_listing.specs.declared.events.Event.TheVariants as events
 use Rattle.api_listing.specs.declared.types.ListedMethod.{ListedMethod}
-use Rattle.api_listing.specs.Descriptor.{element_spelled}
+use Rattle.api_listing.specs.Descriptor.{element_encoded}
 use Rattle.bytecode_model.specs.declared.program.Program.{Program}
 use Rattle.bytecode_model.specs.Assigning.{reference_of}
 use Rattle.bytecode_model.specs.Classes.{is_below, is_interface}
@@ -49,7 +49,7 @@ use Rattle.guest_model.proofs.Words.{AreWords, FrameWords, Good, GoodIf, IsWord,
 -- ---- which answers a type has
 
 -- a type of numbers is that of no object
-no_object : (n : ℕ) (e : Element) → ((n == 0) && is_primitive e) ≡ true → reference_of (replicate n 91 ++ element_spelled e) ≡ None
+no_object : (n : ℕ) (e : Element) → ((n == 0) && is_primitive e) ≡ true → reference_of (replicate n 91 ++ element_encoded e) ≡ None
 no_object zero elements.Boolean h = refl
 no_object zero elements.Byte h = refl
 no_object zero elements.Char h = refl

@@ -21,7 +21,7 @@ use Rattle.guest_heap.specs.declared.value.Value.TheVariants as values
 use Rattle.guest_model.specs.declared.machine.Machine.{Machine}
 use Rattle.guest_model.specs.Calls.{arity, taken}
 use Rattle.guest_model.specs.Places.{method_at}
-use Rattle.guest_model.specs.Standing.{Places, IsAt, HasInsns, IsClosed}
+use Rattle.guest_model.specs.ClosedPlaces.{Places, IsAt, HasInsns, IsClosed}
 use Rattle.guest_model.specs.Parts.{null_pointer, running}
 use Rattle.guest_frames.specs.Values.{is_null}
 use Rattle.guest_model.specs.declared.builtin.Builtin.{Builtin}
@@ -32,7 +32,7 @@ use Rattle.guest_model.specs.Changes.{World, Change, world_of, ends_thread, ende
 use Rattle.guest_model.specs.Finding.{Given, is_run, method_run}
 use Rattle.guest_model.specs.Kinds.{class_of_value, is_thread}
 use Rattle.guest_model.specs.Seen.{string_of}
-use Rattle.guest_model.proofs.Going.{CallsFrom, Waits, Standing, Well, Good, ended_well, called, went_on, goes_good, behind_call, begun_stands}
+use Rattle.guest_model.proofs.Going.{CallsFrom, Waits, Standing, Well, Good, ended_well, called, went_on, goes_good, after_call, begun_stands}
 use Rattle.guest_model.proofs.Options.{IfThere, if_none, if_some, if_either, if_then, if_made, there_or}
 use Rattle.guest_model.proofs.Throwing.{throws_new_good}
 
@@ -66,7 +66,7 @@ module _ (program : Program) (reached : Places) (sound : HasInsns program) (clos
     past_good world results =
         let waits : Waits program reached c.frame = record { ref = ref; at_call = from } in
         went_on program reached world c.thread c.below _
-        (behind_call program reached sound closed c.frame stands.stand.0 waits (results ++ c.passed.beneath))
+        (after_call program reached sound closed c.frame stands.stand.0 waits (results ++ c.passed.beneath))
         stands.stand.1 stands.wait
 
     receiver_good : (world : World) (f : Value → Option Change) → ((v : Value) → GoodIf (f v)) → GoodIf (on_receiver program world c f)

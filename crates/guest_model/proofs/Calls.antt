@@ -39,7 +39,7 @@ use Rattle.bytecode_model.specs.declared.program.Target.{Target}
 use Rattle.bytecode_model.specs.declared.program.Target.TheVariants as target
 use Rattle.bytecode_model.specs.Heads.{initialiser, is_synchronized, run_name, takes_nothing}
 use Rattle.bytecode_model.specs.SearchOrder.{Name}
-use Rattle.bytecode_model.specs.Standing.{AreStanding, IsStanding, is_main}
+use Rattle.bytecode_model.specs.LinkedClasses.{AreLinkedClasses, IsLinkedMethod, is_main}
 use Rattle.guest_heap.specs.declared.frame.Frame.{Frame}
 use Rattle.guest_heap.specs.declared.object.Monitor.{Monitor}
 use Rattle.guest_heap.specs.declared.object.Object.{Object}
@@ -126,7 +126,7 @@ use Rattle.guest_model.specs.Moving.{
 use Rattle.guest_model.proofs.Enabled.{IsOf, receiver_of}
 use Rattle.guest_model.proofs.Moving.{after_some, free_entered, null_or, object_class, one_there}
 use Rattle.guest_model.proofs.There.{cond_either, get_some, holds_there, map_some, then_some}
-use Rattle.guest_model.proofs.Working.{number_some}
+use Rattle.guest_model.proofs.HeapOperations.{number_some}
 
 -- no other thread holds the lock, if there is one
 abbrev IsFree : List Monitor → ℕ → Option Value → Type 0
@@ -217,11 +217,11 @@ module _ (program : Program) where
       e free))
       (λ held h. refl))
 
-  all_get : (class : LinkedClass) (methods : List Method) (i : ℕ) (m : Method) → AllByRecursion (IsStanding program class) methods
+  all_get : (class : LinkedClass) (methods : List Method) (i : ℕ) (m : Method) → AllByRecursion (IsLinkedMethod program class) methods
       → slice_get methods i ≡ Some m
-      → IsStanding program class m
+      → IsLinkedMethod program class m
   all_get class [] i m all e = absurd cc
-  all_get class (n ∷ methods) zero m all e = subst (IsStanding program class) (same_Some n m e) all.0
+  all_get class (n ∷ methods) zero m all e = subst (IsLinkedMethod program class) (same_Some n m e) all.0
   all_get class (n ∷ methods) (suc i) m all e = all_get class methods i m all.1 e
 
   unlocked_of : (s x y z : Bool) → (s && (x || (y || z))) ≡ false → z ≡ true → s ≡ false
@@ -236,7 +236,7 @@ module _ (program : Program) where
   lock_none false monitors number on e = refl
 
   -- a `run` takes no lock
-  run_free : (monitors : List Monitor) (number : ℕ) (to : Given) (receiver : Option Value) → AreStanding program
+  run_free : (monitors : List Monitor) (number : ℕ) (to : Given) (receiver : Option Value) → AreLinkedClasses program
       → Named program run_name takes_nothing to
       → option_map_or (is_held_by_other monitors number) (lock_wanted program to receiver) false ≡ false
   run_free monitors number to receiver standing named =
@@ -248,7 +248,7 @@ module _ (program : Program) where
 
   run_enters : (world : World) (number : ℕ) (thread : Thread) (frames : List Frame) (class : Name)
       → (to : Given) (receiver : Option Value) (arguments : List Value)
-      → AreStanding program → client_run program class ≡ Some to
+      → AreLinkedClasses program → client_run program class ≡ Some to
       → IsSome (enters_method program world number thread frames to receiver arguments)
   run_enters world number thread frames class to receiver arguments standing e =
       enters_free world number thread frames to receiver arguments (counted_there (nearest_given program run_name takes_nothing class) to e)
@@ -269,7 +269,7 @@ thread_there heap (values.Ref at) h e = map_some thread_in (slice_get heap at) (
 thread_there heap (values.Class index) h e = refl
 thread_there heap (values.Lit index) h e = refl
 
-module _ (program : Program) (machine : Machine) (standing : AreStanding program) (c : Calling)
+module _ (program : Program) (machine : Machine) (standing : AreLinkedClasses program) (c : Calling)
     (room : length c.passed.beneath ≤ c.frame.stack.size) where
   past : (world : World) → IsSome (goes_past world c [])
   past world = map_some _ (after c.frame c.passed.beneath) (after_some c.frame c.passed.beneath room)
@@ -489,7 +489,7 @@ then_at f o x e h = subst (λ (p : Option _). IsSome (option_and_then f p)) (sym
 is_there : {A : Type 0} (o : Option A) (x : A) → o ≡ Some x → IsSome o
 is_there o x e = ap is_some e
 
-module _ (program : Program) (machine : Machine) (standing : AreStanding program) (c : Calling)
+module _ (program : Program) (machine : Machine) (standing : AreLinkedClasses program) (c : Calling)
     (room : length c.passed.beneath ≤ c.frame.stack.size)
     (one : (v : Value) → c.passed.receiver ≡ Some v → length c.passed.beneath < c.frame.stack.size) where
   -- a call of this method on this receiver waits

@@ -46,7 +46,7 @@ use Rattle.guest_model.specs.Finding.{Given, is_run, method_run}
 use Rattle.guest_model.specs.Kinds.{class_of_value, is_thread}
 use Rattle.guest_model.specs.Monitors.{entered, left}
 use Rattle.guest_model.specs.Places.{insn_at, method_at}
-use Rattle.guest_model.specs.Stepping.{Acting, acts_on, acts_throwing, call_stepped, changed, comes_to, doing_stepped, enters, frames_stepped, heap_in, heap_stepped, insn_stepped, is_on_null, leaves, left_with, returns, running_stepped, throws_top, works}
+use Rattle.guest_model.specs.Stepping.{Acting, acts_on, acts_throwing, call_stepped, changed, comes_to, doing_stepped, enters, frames_stepped, heap_in, heap_stepped, insn_stepped, is_on_null, leaves, left_with, returns, running_stepped, throws_top, operates}
 use Rattle.insn_codec.specs.declared.shape.Item.{Item}
 use Rattle.insn_codec.specs.declared.shape.ValueKind.TheVariants as kinds
 use Rattle.guest_frames.specs.Values.{is_null}
@@ -62,7 +62,7 @@ use Rattle.guest_model.specs.Parts.{bad_monitor, constant_value, null_pointer, r
 use Rattle.guest_model.specs.Runs.{exec_from, first_heap, inner, seen, start_of, stepped_or_same, trace_from}
 use Rattle.guest_model.specs.Seen.{object_shown, string_of, value_shown}
 use Rattle.guest_model.specs.Throwing.{bare_object}
-use Rattle.guest_model.specs.Working.{ArrayAt, Worked, array_in, array_made, bad_division, bad_item, bad_place, bad_size, casts, divides, has_items, is_cast, item_kind, item_read, item_written, kept, length_told, makes_array, may_hold, name_named, number_operand, on_array, on_items, on_object, operand_of, place_among, place_named, reads_field, reads_item, reads_static, static_written, worked, writes_field, writes_item, writes_static}
+use Rattle.guest_model.specs.HeapOperations.{ArrayAt, HeapResult, array_in, array_made, bad_division, bad_item, bad_place, bad_size, casts, divides, has_items, is_cast, item_kind, item_read, item_written, kept, length_told, makes_array, may_hold, name_named, number_operand, on_array, on_items, on_object, operand_of, place_among, place_named, reads_field, reads_item, reads_static, static_written, heap_result, writes_field, writes_item, writes_static}
 use Rattle.guest_model.proofs.Options.{IfThere, all_append, all_map, if_either, if_made, if_mapped, if_none, if_some, if_then, is_there, map_of, there_or}
 
 -- ---- lists
@@ -181,7 +181,7 @@ module _ (program : Program) where
     Comes (Ok made) = HasNew made.0
     Comes (Err class) = Unit {0}
 
-    abbrev ComesIf : Worked → Type 0
+    abbrev ComesIf : HeapResult → Type 0
     ComesIf made = IfThere Comes made
 
     module _ (world : World) (was : HasOld world) (items : List Value) where
@@ -191,20 +191,20 @@ module _ (program : Program) where
       thrown : (class : Name) → ComesIf (Some (Err class))
       thrown class = if_some Comes (Err class) tt
 
-      in_array : (at : ℕ) (object : Object) (f : ArrayAt → Worked) → ((a : ArrayAt) → ComesIf (f a)) → ComesIf (option_and_then f (array_in at object))
+      in_array : (at : ℕ) (object : Object) (f : ArrayAt → HeapResult) → ((a : ArrayAt) → ComesIf (f a)) → ComesIf (option_and_then f (array_in at object))
       in_array at object f each = if_then Comes f (array_in at object) (λ a e. each a)
 
-      array_comes : (v : Value) (f : ArrayAt → Worked) → ((a : ArrayAt) → ComesIf (f a)) → ComesIf (on_array world.heap v f)
+      array_comes : (v : Value) (f : ArrayAt → HeapResult) → ((a : ArrayAt) → ComesIf (f a)) → ComesIf (on_array world.heap v f)
       array_comes (values.Int n) f each = if_none Comes
       array_comes values.Null f each = thrown null_pointer
       array_comes (values.Ref at) f each = if_then Comes _ (slice_get world.heap at) (λ object e. in_array at object f each)
       array_comes (values.Class index) f each = if_none Comes
       array_comes (values.Lit index) f each = if_none Comes
 
-      items_come : (item : Item) (v : Value) (f : ArrayAt → Worked) → ((a : ArrayAt) → ComesIf (f a)) → ComesIf (on_items item world.heap v f)
+      items_come : (item : Item) (v : Value) (f : ArrayAt → HeapResult) → ((a : ArrayAt) → ComesIf (f a)) → ComesIf (on_items item world.heap v f)
       items_come item v f each = array_comes v _ (λ a. if_either Comes (has_items item a.desc) (f a) None (each a) (if_none Comes))
 
-      object_comes : (v : Value) (f : ℕ → List Value → Worked) → ((at : ℕ) (fields : List Value) → ComesIf (f at fields))
+      object_comes : (v : Value) (f : ℕ → List Value → HeapResult) → ((at : ℕ) (fields : List Value) → ComesIf (f at fields))
           → ComesIf (on_object world.heap v f)
       object_comes (values.Int n) f each = if_none Comes
       object_comes values.Null f each = thrown null_pointer
@@ -305,28 +305,28 @@ module _ (program : Program) where
       cast_comes : (name : Name) → ComesIf (casts program world name items)
       cast_comes name = if_mapped Comes _ (operand_of kinds.Reference items 0) (λ v e. cast_or (is_cast program world.heap v name) _)
 
-      work_comes : (what : Heap) (ref : Target) → ComesIf (worked program world what ref items)
-      work_comes heap.Constant ref = if_mapped Comes _ (constant_value program ref) (λ v e. of_old world was)
-      work_comes (heap.ReadItem item) ref = read_item_comes item
-      work_comes (heap.WriteItem item) ref = write_item_comes item
-      work_comes (heap.Divide remainder) ref = divides_comes remainder
-      work_comes heap.ReadStatic ref = read_static_comes ref
-      work_comes heap.WriteStatic ref = write_static_comes ref
-      work_comes heap.ReadField ref = read_field_comes ref
-      work_comes heap.WriteField ref = write_field_comes ref
-      work_comes heap.New ref = if_then Comes _ (name_named ref) (λ name e. if_some Comes _ (longer world.heap (new_of program name) old was))
-      work_comes (heap.NewArray kind) ref = array_made_comes (array_named kind)
-      work_comes heap.NewArrayOf ref = if_then Comes _ (name_named ref) (λ name e. array_made_comes (array_of name))
-      work_comes heap.Length ref = length_comes
-      work_comes heap.Cast ref = if_then Comes _ (name_named ref) (λ name e. cast_comes name)
-      work_comes heap.IsInstance ref =
+      result_comes : (what : Heap) (ref : Target) → ComesIf (heap_result program world what ref items)
+      result_comes heap.Constant ref = if_mapped Comes _ (constant_value program ref) (λ v e. of_old world was)
+      result_comes (heap.ReadItem item) ref = read_item_comes item
+      result_comes (heap.WriteItem item) ref = write_item_comes item
+      result_comes (heap.Divide remainder) ref = divides_comes remainder
+      result_comes heap.ReadStatic ref = read_static_comes ref
+      result_comes heap.WriteStatic ref = write_static_comes ref
+      result_comes heap.ReadField ref = read_field_comes ref
+      result_comes heap.WriteField ref = write_field_comes ref
+      result_comes heap.New ref = if_then Comes _ (name_named ref) (λ name e. if_some Comes _ (longer world.heap (new_of program name) old was))
+      result_comes (heap.NewArray kind) ref = array_made_comes (array_named kind)
+      result_comes heap.NewArrayOf ref = if_then Comes _ (name_named ref) (λ name e. array_made_comes (array_of name))
+      result_comes heap.Length ref = length_comes
+      result_comes heap.Cast ref = if_then Comes _ (name_named ref) (λ name e. cast_comes name)
+      result_comes heap.IsInstance ref =
           if_then Comes _ (name_named ref)
           (λ name e. if_mapped Comes _ (operand_of kinds.Reference items 0) (λ v f. of_old world was))
-      work_comes (heap.Call how) ref = if_none Comes
-      work_comes heap.Throw ref = if_none Comes
-      work_comes heap.Enter ref = if_none Comes
-      work_comes heap.Exit ref = if_none Comes
-      work_comes (heap.Return kind) ref = if_none Comes
+      result_comes (heap.Call how) ref = if_none Comes
+      result_comes heap.Throw ref = if_none Comes
+      result_comes heap.Enter ref = if_none Comes
+      result_comes heap.Exit ref = if_none Comes
+      result_comes (heap.Return kind) ref = if_none Comes
 
     -- ---- calls
 
@@ -463,10 +463,10 @@ module _ (program : Program) where
       comes_few (Ok made) h = acts_few made.0 _ h
       comes_few (Err class) h = throws_here class
 
-      works_few : (what : Heap) → FewIf (works program (world_of machine) a what ref)
-      works_few what =
-          if_then Few _ (worked program (world_of machine) what ref a.frame.stack.items)
-          (λ made e. comes_few made (is_there Comes _ made (work_comes (world_of machine) is_old a.frame.stack.items what ref) e))
+      operates_few : (what : Heap) → FewIf (operates program (world_of machine) a what ref)
+      operates_few what =
+          if_then Few _ (heap_result program (world_of machine) what ref a.frame.stack.items)
+          (λ made e. comes_few made (is_there Comes _ made (result_comes (world_of machine) is_old a.frame.stack.items what ref) e))
 
       enters_lock_few : (on : Value) → FewIf (enters program (world_of machine) a on)
       enters_lock_few on =
@@ -499,20 +499,20 @@ module _ (program : Program) where
       heap_few heap.Enter = if_then Few _ (slice_get a.frame.stack.items 0) (λ v e. enters_lock_few v)
       heap_few heap.Exit = if_then Few _ (slice_get a.frame.stack.items 0) (λ v e. leaves_few v)
       heap_few (heap.Return kind) = returns_few kind
-      heap_few heap.Constant = works_few heap.Constant
-      heap_few (heap.ReadItem item) = works_few (heap.ReadItem item)
-      heap_few (heap.WriteItem item) = works_few (heap.WriteItem item)
-      heap_few (heap.Divide remainder) = works_few (heap.Divide remainder)
-      heap_few heap.ReadStatic = works_few heap.ReadStatic
-      heap_few heap.WriteStatic = works_few heap.WriteStatic
-      heap_few heap.ReadField = works_few heap.ReadField
-      heap_few heap.WriteField = works_few heap.WriteField
-      heap_few heap.New = works_few heap.New
-      heap_few (heap.NewArray kind) = works_few (heap.NewArray kind)
-      heap_few heap.NewArrayOf = works_few heap.NewArrayOf
-      heap_few heap.Length = works_few heap.Length
-      heap_few heap.Cast = works_few heap.Cast
-      heap_few heap.IsInstance = works_few heap.IsInstance
+      heap_few heap.Constant = operates_few heap.Constant
+      heap_few (heap.ReadItem item) = operates_few (heap.ReadItem item)
+      heap_few (heap.WriteItem item) = operates_few (heap.WriteItem item)
+      heap_few (heap.Divide remainder) = operates_few (heap.Divide remainder)
+      heap_few heap.ReadStatic = operates_few heap.ReadStatic
+      heap_few heap.WriteStatic = operates_few heap.WriteStatic
+      heap_few heap.ReadField = operates_few heap.ReadField
+      heap_few heap.WriteField = operates_few heap.WriteField
+      heap_few heap.New = operates_few heap.New
+      heap_few (heap.NewArray kind) = operates_few (heap.NewArray kind)
+      heap_few heap.NewArrayOf = operates_few heap.NewArrayOf
+      heap_few heap.Length = operates_few heap.Length
+      heap_few heap.Cast = operates_few heap.Cast
+      heap_few heap.IsInstance = operates_few heap.IsInstance
 
       insn_few : (insn : Insn) → FewIf (insn_stepped program machine a (insn, ref))
       insn_few insn =

@@ -7,7 +7,7 @@ use Rattle.std.proofs.lemmas.List.{length-append, get_or-append-add}
 use Rattle.bytecode_model.specs.Arrays.{is_array}
 use Rattle.bytecode_model.specs.Assigning.{class_name, named}
 
--- a name with the last byte of a descriptor behind it
+-- a name with the last byte of a descriptor after it
 module _ (name : List ℕ) where
   abbrev ended : List ℕ
   ended = name ++ 59 ∷ []

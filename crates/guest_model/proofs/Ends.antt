@@ -135,9 +135,9 @@ module _ (program : Program) (machine : Machine) where
   found (thread ∷ threads) number some = by (λ some. found threads (number + 1) some) (can_step program machine number thread.frames thread.doing) refl some where
     by : (some_can_step program machine (number + 1) threads ≡ true → CanStep (number + 1) threads)
         → (can : Bool) → can_step program machine number thread.frames thread.doing ≡ can → (can || some_can_step program machine (number + 1) threads) ≡ true → CanStep number (thread ∷ threads)
-    by behind true is some = record { place = zero; thread = thread; there = refl; can = subst (λ (n : ℕ). can_step program machine n thread.frames thread.doing ≡ true) (omega arith) is }
-    by behind false is some =
-        let later = behind some in
+    by following true is some = record { place = zero; thread = thread; there = refl; can = subst (λ (n : ℕ). can_step program machine n thread.frames thread.doing ≡ true) (omega arith) is }
+    by following false is some =
+        let later = following some in
         record { place = suc later.place; thread = later.thread; there = later.there; can = subst (λ (n : ℕ). can_step program machine n later.thread.frames later.thread.doing ≡ true) (omega arith) later.can }
 
   or_left : (a b : Bool) → a ≡ true → (a || b) ≡ true

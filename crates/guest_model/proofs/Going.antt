@@ -6,7 +6,7 @@ use Rattle.std.specs.Option.{option_to_list}
 use Rattle.api_listing.specs.declared.events.Event.{Event}
 use Rattle.insn_codec.specs.declared.insn.Insn.{Insn}
 use Rattle.insn_codec.specs.Opcodes.{goes_on as may_go_on}
-use Rattle.insn_codec.specs.Spelling.{opcode_of}
+use Rattle.insn_codec.specs.Encoding.{opcode_of}
 use Rattle.insn_codec.specs.declared.shape.Heap.TheVariants as heap
 use Rattle.insn_codec.specs.declared.shape.How.{How}
 use Rattle.insn_codec.specs.declared.shape.Shape.TheVariants as shapes
@@ -25,7 +25,7 @@ use Rattle.guest_heap.specs.declared.value.Value.{Value}
 use Rattle.guest_model.specs.Calls.{arity}
 use Rattle.guest_model.specs.Places.{method_at}
 use Rattle.guest_frames.specs.Stepping.{after, fitted, moved_to}
-use Rattle.guest_model.specs.Standing.{Places, IsAt, HasInsns, IsCalled, method_of, IsClosed}
+use Rattle.guest_model.specs.ClosedPlaces.{Places, IsAt, HasInsns, IsCalled, method_of, IsClosed}
 use Rattle.guest_model.specs.Parts.{main_argument}
 use Rattle.guest_model.specs.Changes.{Change, World, ended_thread, frame_begun, frame_of, goes, rests, returned, rests_now, with_event}
 use Rattle.guest_model.specs.Finding.{Given}
@@ -127,7 +127,7 @@ module _ (program : Program) (reached : Places) where
   event_good change event good seen = record { well = good.well; begins = good.begins; seen = seen }
 
   module _ (sound : HasInsns program) (closed : IsClosed program reached) where
-    -- control goes on from an instruction behind which it can
+    -- control goes on from an instruction after which it can
     pub next_inside : (frame : Frame) (insn : Insn) (ref : Target) → Stands frame → IsAt program frame.class frame.method frame.at insn ref
         → ends (shape_of insn) ≡ false → IsTrue (reached frame.class frame.method (frame.at + 1))
     next_inside frame insn ref stands there stays =
@@ -136,15 +136,15 @@ module _ (program : Program) (reached : Places) where
         closed.next frame.class frame.method frame.at insn ref (inside frame insn ref stands there) there (frame.at + 1)
         (rw goes (0, omega arith, refl))
 
-    pub behind_insn : (frame : Frame) (insn : Insn) (ref : Target) → Stands frame → IsAt program frame.class frame.method frame.at insn ref
+    pub after_insn : (frame : Frame) (insn : Insn) (ref : Target) → Stands frame → IsAt program frame.class frame.method frame.at insn ref
         → ends (shape_of insn) ≡ false → (items : List Value) (f : Frame) → after frame items ≡ Some f → Stands f
-    behind_insn frame insn ref stands there stays items f e =
+    after_insn frame insn ref stands there stays items f e =
         fitted_stands frame (frame.at + 1) frame.locals items f e (next_inside frame insn ref stands there stays)
 
-    pub behind_call : (frame : Frame) → Stands frame → Waits frame → (items : List Value) (f : Frame) → after frame items ≡ Some f
+    pub after_call : (frame : Frame) → Stands frame → Waits frame → (items : List Value) (f : Frame) → after frame items ≡ Some f
         → Stands f
-    behind_call frame stands waits items f e =
-        behind_insn frame waits.at_call.insn waits.ref stands waits.at_call.there (ap ends waits.at_call.calls) items f e
+    after_call frame stands waits items f e =
+        after_insn frame waits.at_call.insn waits.ref stands waits.at_call.there (ap ends waits.at_call.calls) items f e
 
     -- ---- frames that begin
 
@@ -176,4 +176,4 @@ module _ (program : Program) (reached : Places) where
     returned_good world thread (caller ∷ below) result event stand wait seen =
         if_mapped Good (λ (f : Frame). with_event (goes world thread (f ∷ below)) event) (after caller _)
         (λ f e. event_good (goes world thread (f ∷ below)) event
-        (goes_good world thread (f ∷ below) (record { stand = (behind_call caller stand.0 wait.0 _ f e, stand.1); wait = wait.1 })) seen)
+        (goes_good world thread (f ∷ below) (record { stand = (after_call caller stand.0 wait.0 _ f e, stand.1); wait = wait.1 })) seen)

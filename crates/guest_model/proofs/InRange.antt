@@ -29,7 +29,7 @@ use Rattle.guest_model.specs.declared.machine.Step.{Step}
 use Rattle.guest_model.specs.Monitors.{entered, left}
 use Rattle.guest_model.specs.Places.{insn_at, insn_in, method_at}
 use Rattle.guest_frames.specs.Stepping.{after, frame_stepped}
-use Rattle.guest_model.specs.Standing.{HasInsns, IsAt}
+use Rattle.guest_model.specs.ClosedPlaces.{HasInsns, IsAt}
 use Rattle.guest_model.specs.Parts.{bad_monitor, constant_value, null_pointer, result_of}
 use Rattle.guest_frames.specs.Values.{fits, is_null, values_moved, values_seen}
 use Rattle.guest_model.proofs.Effects.{effect_keeps}
@@ -71,12 +71,12 @@ use Rattle.guest_model.specs.Stepping.{
   returns,
   running_stepped,
   throws_top,
-  works,
+  operates,
 }
-use Rattle.guest_model.specs.Working.{worked}
+use Rattle.guest_model.specs.HeapOperations.{heap_result}
 use Rattle.guest_model.proofs.Always.{EachChangeKeeps, holds_always}
 use Rattle.guest_model.proofs.Answers.{answered_good, null_good}
-use Rattle.guest_model.proofs.Comings.{Comes, work_comes}
+use Rattle.guest_model.proofs.HeapResults.{Comes, result_comes}
 use Rattle.guest_model.proofs.KeptWords.{words_last}
 use Rattle.guest_model.proofs.Passing.{LiteralsAreShort, calls_good}
 use Rattle.guest_model.proofs.Staying.{threads_keep}
@@ -129,16 +129,16 @@ module _ (program : Program) (insns : HasInsns program) (names : NamesWords prog
     acts_good : (world : World) (f : Option Frame) → WorldWords world → IfThere FrameWords f → GoodIf program (acts_on world a f)
     acts_good world f words on = went_on program world a.thread f a.below words on below
 
-    goes_behind : (world : World) (items : List Value) → WorldWords world → AreWords items → GoodIf program (acts_on world a (after a.frame items))
-    goes_behind world items words all = acts_good world (after a.frame items) words (after_words a.frame items frame all)
+    goes_after : (world : World) (items : List Value) → WorldWords world → AreWords items → GoodIf program (acts_on world a (after a.frame items))
+    goes_after world items words all = acts_good world (after a.frame items) words (after_words a.frame items frame all)
 
     -- with one operand less
     goes_less : (world : World) → WorldWords world → GoodIf program (acts_on world a (after a.frame (drop 1 a.frame.stack.items)))
-    goes_less world words = goes_behind world (drop 1 a.frame.stack.items) words (all_drop IsWord 1 a.frame.stack.items frame.1)
+    goes_less world words = goes_after world (drop 1 a.frame.stack.items) words (all_drop IsWord 1 a.frame.stack.items frame.1)
 
     comes_good : (world : World) (made : Result (World × List Value) Name) → WorldWords world → Comes IsWord WorldWords made
         → GoodIf program (comes_to program world a made)
-    comes_good world (Ok made) words comes = goes_behind made.0 made.1 comes.0 comes.1
+    comes_good world (Ok made) words comes = goes_after made.0 made.1 comes.0 comes.1
     comes_good world (Err class) words comes = throws_here world class words
 
     enters_good : (world : World) (on : Value) → WorldWords world → GoodIf program (enters program world a on)
@@ -170,12 +170,12 @@ module _ (program : Program) (insns : HasInsns program) (names : NamesWords prog
 
     module _ (machine : Machine) (words : WorldWords (world_of machine)) (insn : Insn) (ref : Target)
         (there : IsAt program a.frame.class a.frame.method a.frame.at insn ref) where
-      works_good : (what : Heap) → GoodIf program (works program (world_of machine) a what ref)
-      works_good what =
-          if_then IsGood _ (worked program (world_of machine) what ref a.frame.stack.items)
+      operates_good : (what : Heap) → GoodIf program (operates program (world_of machine) a what ref)
+      operates_good what =
+          if_then IsGood _ (heap_result program (world_of machine) what ref a.frame.stack.items)
           (λ made e. comes_good (world_of machine) made words
           (is_there (Comes IsWord WorldWords) _ made
-          (work_comes IsWord ObjectWords WorldWords (λ class. Unit {0}) words_last program (world_of machine) words a.frame.stack.items
+          (result_comes IsWord ObjectWords WorldWords (λ class. Unit {0}) words_last program (world_of machine) words a.frame.stack.items
           frame.1 what ref (λ constant. names a.frame.class a.frame.method a.frame.at insn ref there) (λ class field named. tt)) e))
 
       heap_good : (what : Heap) → GoodIf program (heap_stepped program machine a what ref)
@@ -186,20 +186,20 @@ module _ (program : Program) (insns : HasInsns program) (names : NamesWords prog
       heap_good heap.Enter = if_then IsGood _ (slice_get a.frame.stack.items 0) (λ v e. enters_good (world_of machine) v words)
       heap_good heap.Exit = if_then IsGood _ (slice_get a.frame.stack.items 0) (λ v e. leaves_good (world_of machine) v words)
       heap_good (heap.Return kind) = returns_good (world_of machine) kind words
-      heap_good heap.Constant = works_good heap.Constant
-      heap_good (heap.ReadItem item) = works_good (heap.ReadItem item)
-      heap_good (heap.WriteItem item) = works_good (heap.WriteItem item)
-      heap_good (heap.Divide remainder) = works_good (heap.Divide remainder)
-      heap_good heap.ReadStatic = works_good heap.ReadStatic
-      heap_good heap.WriteStatic = works_good heap.WriteStatic
-      heap_good heap.ReadField = works_good heap.ReadField
-      heap_good heap.WriteField = works_good heap.WriteField
-      heap_good heap.New = works_good heap.New
-      heap_good (heap.NewArray kind) = works_good (heap.NewArray kind)
-      heap_good heap.NewArrayOf = works_good heap.NewArrayOf
-      heap_good heap.Length = works_good heap.Length
-      heap_good heap.Cast = works_good heap.Cast
-      heap_good heap.IsInstance = works_good heap.IsInstance
+      heap_good heap.Constant = operates_good heap.Constant
+      heap_good (heap.ReadItem item) = operates_good (heap.ReadItem item)
+      heap_good (heap.WriteItem item) = operates_good (heap.WriteItem item)
+      heap_good (heap.Divide remainder) = operates_good (heap.Divide remainder)
+      heap_good heap.ReadStatic = operates_good heap.ReadStatic
+      heap_good heap.WriteStatic = operates_good heap.WriteStatic
+      heap_good heap.ReadField = operates_good heap.ReadField
+      heap_good heap.WriteField = operates_good heap.WriteField
+      heap_good heap.New = operates_good heap.New
+      heap_good (heap.NewArray kind) = operates_good (heap.NewArray kind)
+      heap_good heap.NewArrayOf = operates_good heap.NewArrayOf
+      heap_good heap.Length = operates_good heap.Length
+      heap_good heap.Cast = operates_good heap.Cast
+      heap_good heap.IsInstance = operates_good heap.IsInstance
 
       alone_words : IfThere FrameWords (frame_stepped insn a.frame)
       alone_words =

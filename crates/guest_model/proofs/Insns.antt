@@ -9,7 +9,7 @@ use Rattle.bytecode_model.specs.declared.program.Program.{Program}
 use Rattle.bytecode_model.specs.declared.program.Target.{Target}
 use Rattle.bytecode_model.specs.Sound.{IsSound, IsSoundClass, IsSoundMethod}
 use Rattle.guest_model.specs.Places.{insn_in, method_at}
-use Rattle.guest_model.specs.Standing.{HasInsns}
+use Rattle.guest_model.specs.ClosedPlaces.{HasInsns}
 use Rattle.guest_model.proofs.Options.{and_then_of, map_of, all_get}
 
 -- an instruction of a method, and what its operand names

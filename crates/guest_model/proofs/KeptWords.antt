@@ -10,9 +10,9 @@ use Rattle.bytecode_model.specs.SearchOrder.{Name}
 use Rattle.guest_heap.specs.declared.value.Value.{Value}
 use Rattle.guest_heap.specs.declared.value.Value.TheVariants as values
 use Rattle.guest_model.specs.Layout.{first_value, is_of_references}
-use Rattle.guest_model.specs.Working.{kept, kept_number, quotient, truth}
+use Rattle.guest_model.specs.HeapOperations.{kept, kept_number, quotient, truth}
 use Rattle.guest_model.proofs.Arithmetic.{cast_fits, made_of_one_fits, made_of_two_fits}
-use Rattle.guest_model.proofs.Comings.{Lasts}
+use Rattle.guest_model.proofs.HeapResults.{Lasts}
 use Rattle.guest_model.proofs.Options.{all_get, all_set}
 use Rattle.guest_model.proofs.Words.{AreWords, IsWord, ObjectWords, WorldWords, heap_words}
 

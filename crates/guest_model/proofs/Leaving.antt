@@ -19,9 +19,9 @@ use Rattle.guest_heap.specs.Heap.{places_of}
 use Rattle.guest_model.specs.Parts.{constant_value, number_in}
 use Rattle.guest_model.specs.Changes.{World}
 use Rattle.guest_model.specs.Moving.{Leaves, LeavesAsMany}
-use Rattle.guest_model.specs.Working.{
+use Rattle.guest_model.specs.HeapOperations.{
   ArrayAt,
-  Worked,
+  HeapResult,
   array_in,
   array_made,
   casts,
@@ -50,7 +50,7 @@ use Rattle.guest_model.specs.Working.{
 }
 
 module _ (t p n : ℕ) where
-  leaves_then : {A : Type 0} (f : A → Worked) (o : Option A) → ((x : A) → Leaves t p n (f x)) → Leaves t p n (option_and_then f o)
+  leaves_then : {A : Type 0} (f : A → HeapResult) (o : Option A) → ((x : A) → Leaves t p n (f x)) → Leaves t p n (option_and_then f o)
   leaves_then f None each = tt
   leaves_then f (Some x) each = each x
 
@@ -59,12 +59,12 @@ module _ (t p n : ℕ) where
   leaves_map f None each = tt
   leaves_map f (Some x) each = each x
 
-  leaves_map_or : {A : Type 0} (f : A → Worked) (o : Option A) (other : Worked) → ((x : A) → Leaves t p n (f x)) → Leaves t p n other
+  leaves_map_or : {A : Type 0} (f : A → HeapResult) (o : Option A) (other : HeapResult) → ((x : A) → Leaves t p n (f x)) → Leaves t p n other
       → Leaves t p n (option_map_or f o other)
   leaves_map_or f None other each h = h
   leaves_map_or f (Some x) other each h = each x
 
-  leaves_either : (b : Bool) (o q : Worked) → Leaves t p n o → Leaves t p n q → Leaves t p n (cond b o q)
+  leaves_either : (b : Bool) (o q : HeapResult) → Leaves t p n o → Leaves t p n q → Leaves t p n (cond b o q)
   leaves_either true o q h k = h
   leaves_either false o q h k = k
 
@@ -73,7 +73,7 @@ module _ (t p n : ℕ) where
   leaves_either_ok true r q h k = h
   leaves_either_ok false r q h k = k
 
-  leaves_array : (heap : List Object) (v : Value) (f : ArrayAt → Worked) → ((a : ArrayAt) → Leaves t p n (f a))
+  leaves_array : (heap : List Object) (v : Value) (f : ArrayAt → HeapResult) → ((a : ArrayAt) → Leaves t p n (f a))
       → Leaves t p n (on_array heap v f)
   leaves_array heap (values.Int m) f each = tt
   leaves_array heap values.Null f each = tt
@@ -81,11 +81,11 @@ module _ (t p n : ℕ) where
   leaves_array heap (values.Class index) f each = tt
   leaves_array heap (values.Lit index) f each = tt
 
-  leaves_items : (item : Item) (heap : List Object) (v : Value) (f : ArrayAt → Worked) → ((a : ArrayAt) → Leaves t p n (f a))
+  leaves_items : (item : Item) (heap : List Object) (v : Value) (f : ArrayAt → HeapResult) → ((a : ArrayAt) → Leaves t p n (f a))
       → Leaves t p n (on_items item heap v f)
   leaves_items item heap v f each = leaves_array heap v _ (λ a. leaves_either (has_items item a.desc) (f a) None (each a) tt)
 
-  leaves_object : (heap : List Object) (v : Value) (f : ℕ → List Value → Worked)
+  leaves_object : (heap : List Object) (v : Value) (f : ℕ → List Value → HeapResult)
       → ((at : ℕ) (fields : List Value) → Leaves t p n (f at fields)) → Leaves t p n (on_object heap v f)
   leaves_object heap (values.Int m) f each = tt
   leaves_object heap values.Null f each = tt

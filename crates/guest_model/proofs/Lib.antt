@@ -12,9 +12,9 @@ mod Going
 mod Throwing
 mod Calling
 mod Stepping
-pub mod Standing
+pub mod ClosedPlaces
 pub mod Words
-pub mod Comings
+pub mod HeapResults
 mod KeptWords
 mod Passing
 mod Answers
@@ -24,7 +24,7 @@ mod Linked
 mod Listed
 mod There
 mod Enabled
-mod Working
+mod HeapOperations
 mod Leaving
 mod Moving
 mod Calls

@@ -7,7 +7,7 @@ use Rattle.class_codec.specs.declared.tree.ClassFile.{ClassFile}
 use Rattle.class_codec.specs.declared.tree.Const.{Const}
 use Rattle.class_codec.specs.declared.tree.Const.TheVariants as constants
 use Rattle.class_codec.specs.declared.tree.Member.{Member}
-use Rattle.class_codec.specs.Fits.{CanSpell, FitsConst}
+use Rattle.class_codec.specs.Fits.{IsEncodable, FitsConst}
 use Rattle.class_codec.specs.Pool.{text_of, utf8_at}
 use Rattle.insn_codec.specs.declared.insn.Insn.{Insn}
 use Rattle.bytecode_model.specs.declared.program.LinkedClass.{LinkedClass}
@@ -18,12 +18,12 @@ use Rattle.bytecode_model.specs.Heads.{desc_of, is_static}
 use Rattle.bytecode_model.specs.Operands.{index_of, place_of, strings_in, text_of_string}
 use Rattle.bytecode_model.specs.SearchOrder.{is_one_of, with_name}
 use Rattle.bytecode_model.specs.Sound.{IsSound, IsSoundClass}
-use Rattle.bytecode_model.specs.Standing.{AreLiterals}
+use Rattle.bytecode_model.specs.LinkedClasses.{AreLiterals}
 use Rattle.bytecode_model.specs.Targets.{AreNamed}
 use Rattle.guest_heap.specs.declared.value.Value.{Value}
 use Rattle.guest_heap.specs.declared.value.Value.TheVariants as values
 use Rattle.guest_model.specs.Places.{class_index}
-use Rattle.guest_model.specs.Standing.{IsAt}
+use Rattle.guest_model.specs.ClosedPlaces.{IsAt}
 use Rattle.guest_model.proofs.Insns.{has_insn, has_insns}
 use Rattle.guest_model.proofs.Options.{
   and_then_of,
@@ -96,7 +96,7 @@ strings_short pool [] each = tt
 strings_short pool (c ∷ others) each =
     one_more (text_of_string pool c) (filter_map (text_of_string pool) others) (string_short pool each c) (strings_short pool others each)
 
-all_strings : (files : List ClassFile) → AllByRecursion CanSpell files → AreShort (flat_map strings_in files)
+all_strings : (files : List ClassFile) → AllByRecursion IsEncodable files → AreShort (flat_map strings_in files)
 all_strings [] all = tt
 all_strings (file ∷ files) all =
     all_append IsShort (strings_in file) (flat_map strings_in files) (strings_short file.pool file.pool all.0.pool.each)
@@ -111,15 +111,15 @@ each_once [] names have all = have
 each_once (text ∷ texts) names have all =
     each_once texts (with_name names text) (named_or (is_one_of names text) names text have all.0) all.1
 
-all_spell : (classes : List LinkedClass) → AllByRecursion IsSoundClass classes
-    → AllByRecursion CanSpell (map (λ (c : LinkedClass). c.file) classes)
-all_spell classes all = all_mapped IsSoundClass CanSpell (λ (c : LinkedClass). c.file) classes (λ c sound. sound.fits) all
+all_encode : (classes : List LinkedClass) → AllByRecursion IsSoundClass classes
+    → AllByRecursion IsEncodable (map (λ (c : LinkedClass). c.file) classes)
+all_encode classes all = all_mapped IsSoundClass IsEncodable (λ (c : LinkedClass). c.file) classes (λ c sound. sound.fits) all
 
 module _ (program : Program) (sound : IsSound program) (named : AreNamed program) (literals : AreLiterals program) where
   literals_short : AreShort program.literals
   literals_short =
       subst AreShort (sym literals.are)
-      (each_once (flat_map strings_in (unlinked program)) [] tt (all_strings (unlinked program) (all_spell program.classes sound.classes)))
+      (each_once (flat_map strings_in (unlinked program)) [] tt (all_strings (unlinked program) (all_encode program.classes sound.classes)))
 
   each_short : LiteralsAreShort program
   each_short index =

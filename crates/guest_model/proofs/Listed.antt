@@ -11,10 +11,10 @@ use Rattle.bytecode_model.specs.Sound.{IsSound}
 use Rattle.bytecode_model.specs.Targets.{AreNamed}
 use Rattle.guest_model.specs.Runs.{trace}
 use Rattle.guest_model.specs.Seeing.{IsOfListed, SeesListed}
-use Rattle.guest_model.specs.Standing.{IsAt, IsCalled, IsClosed, Places, method_of}
+use Rattle.guest_model.specs.ClosedPlaces.{IsAt, IsCalled, IsClosed, Places, method_of}
 use Rattle.guest_model.proofs.Insns.{has_insn, has_insns}
 use Rattle.guest_model.proofs.Options.{and_then_of}
-use Rattle.guest_model.proofs.Standing.{sees_only_called}
+use Rattle.guest_model.proofs.ClosedPlaces.{sees_only_called}
 
 -- all places
 abbrev anywhere : Places

@@ -9,7 +9,7 @@ use Rattle.insn_codec.specs.declared.shape.How.{How}
 use Rattle.insn_codec.specs.Shapes.{shape_of}
 use Rattle.bytecode_model.specs.declared.program.Program.{Program}
 use Rattle.bytecode_model.specs.declared.program.Target.{Target}
-use Rattle.bytecode_model.specs.Standing.{AreStanding}
+use Rattle.bytecode_model.specs.LinkedClasses.{AreLinkedClasses}
 use Rattle.guest_heap.specs.declared.frame.Frame.{Frame}
 use Rattle.guest_heap.specs.declared.thread.Doing.{Doing}
 use Rattle.guest_heap.specs.declared.thread.Doing.TheVariants as doings
@@ -37,7 +37,7 @@ at : {A : Type 0} (P : A → Type 0) (o : Option A) → IsSomeAnd o P → At P o
 at P None h = absurd h
 at P (Some x) h = record { item = x; is = refl; holds = h }
 
-module _ (program : Program) (standing : AreStanding program) (machine : Machine) where
+module _ (program : Program) (standing : AreLinkedClasses program) (machine : Machine) where
   call_made : (a : Acting) (how : How) (ref : Target) → CanDo program machine a (heap.Call how) ref
       → heap_waits program machine a.number a.frame (heap.Call how) ref ≡ false
       → IsSome (heap_stepped program machine a (heap.Call how) ref)

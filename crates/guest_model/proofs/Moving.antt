@@ -74,11 +74,11 @@ use Rattle.guest_model.specs.Moving.{
   pushed_by,
   taken_by,
 }
-use Rattle.guest_model.specs.Stepping.{Acting, comes_to, enters, leaves, left_with, throws_top, works}
-use Rattle.guest_model.specs.Working.{Worked, worked}
+use Rattle.guest_model.specs.Stepping.{Acting, comes_to, enters, leaves, left_with, throws_top, operates}
+use Rattle.guest_model.specs.HeapOperations.{HeapResult, heap_result}
 use Rattle.guest_model.proofs.Leaving.{leaves_as_many}
 use Rattle.guest_model.proofs.There.{cond_either, get_some, holds_there, map_some, then_some}
-use Rattle.guest_model.proofs.Working.{ready_works}
+use Rattle.guest_model.proofs.HeapOperations.{ready_operates}
 
 -- ---- operands
 
@@ -100,19 +100,19 @@ after_some frame items h = rw (le-ltb frame.stack.size (length items) h) refl
 -- ---- instructions that are ready
 
 -- what an instruction leaves is at most the stack's size, if it does not throw
-abbrev FitsAfter : Frame → Worked → Type 0
+abbrev FitsAfter : Frame → HeapResult → Type 0
 FitsAfter frame None = Unit {0}
 FitsAfter frame (Some (Ok made)) = length made.1 ≤ frame.stack.size
 FitsAfter frame (Some (Err class)) = Unit {0}
 
-fits_after : (frame : Frame) (t p : ℕ) (o : Worked) → Leaves t p (length frame.stack.items) o
+fits_after : (frame : Frame) (t p : ℕ) (o : HeapResult) → Leaves t p (length frame.stack.items) o
     → length frame.stack.items + p ≤ frame.stack.size + t → FitsAfter frame o
 fits_after frame t p None leaves room = tt
 fits_after frame t p (Some (Ok made)) leaves room = omega (arith, leaves, room)
 fits_after frame t p (Some (Err class)) leaves room = tt
 
 module _ (program : Program) where
-  comes_some : (world : World) (a : Acting) (o : Worked) → IsSome o → FitsAfter a.frame o
+  comes_some : (world : World) (a : Acting) (o : HeapResult) → IsSome o → FitsAfter a.frame o
       → IsSome (option_and_then (comes_to program world a) o)
   comes_some world a None h fit = absurd cc
   comes_some world a (Some (Ok made)) h fit = map_some _ (after a.frame made.1) (after_some a.frame made.1 fit)
@@ -121,11 +121,11 @@ module _ (program : Program) where
   ready_step : (machine : Machine) (a : Acting) (what : Heap) (ref : Target)
       → IsReadyFor program (world_of machine) what ref a.frame.stack.items
       → HasRoomFor a.frame what
-      → IsSome (works program (world_of machine) a what ref)
+      → IsSome (operates program (world_of machine) a what ref)
   ready_step machine a what ref h room =
-      let done = worked program (world_of machine) what ref a.frame.stack.items in
+      let done = heap_result program (world_of machine) what ref a.frame.stack.items in
       let leaves = leaves_as_many program (world_of machine) what ref a.frame.stack.items in
-      comes_some (world_of machine) a done (ready_works program (world_of machine) what ref a.frame.stack.items h)
+      comes_some (world_of machine) a done (ready_operates program (world_of machine) what ref a.frame.stack.items h)
       (fits_after a.frame (taken_by what) (pushed_by what) done leaves room)
 
 pub ready_steps : ReadySteps

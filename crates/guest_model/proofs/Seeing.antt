@@ -55,8 +55,8 @@ use Rattle.guest_model.specs.Places.{insn_at, method_at}
 use Rattle.guest_model.specs.Seen.{object_shown, string_of, value_shown, values_shown}
 use Rattle.guest_model.specs.Seeing.{EventsAreOfTheirThread, IsGivenSo, IsNumberFor, SeesGiven, thread_of}
 use Rattle.guest_model.specs.Runs.{seen, start_of, stepped_or_same, trace_from}
-use Rattle.guest_model.specs.Stepping.{Acting, acts_on, call_stepped, changed, comes_to, doing_stepped, enters, frames_stepped, heap_in, heap_stepped, insn_stepped, is_on_null, leaves, left_with, returns, running_stepped, throws_top, works}
-use Rattle.guest_model.specs.Working.{worked}
+use Rattle.guest_model.specs.Stepping.{Acting, acts_on, call_stepped, changed, comes_to, doing_stepped, enters, frames_stepped, heap_in, heap_stepped, insn_stepped, is_on_null, leaves, left_with, returns, running_stepped, throws_top, operates}
+use Rattle.guest_model.specs.HeapOperations.{heap_result}
 use Rattle.guest_model.proofs.Options.{IfThere, all_append, if_either, if_holds, if_made, if_mapped, if_none, if_some, if_then, is_there, map_of, some_and, some_is, there_or}
 
 -- What holds of an event that a step has: of none, of a call, of an exception, and of a return with what an answer gives.
@@ -197,8 +197,8 @@ module _ (program : Program) (number : ℕ) (P : Option Event → Type 0) (none 
     comes_own (Ok made) = acts_own made.0 _
     comes_own (Err class) = if_some SeesOwn _ none
 
-    works_own : (what : Heap) → OwnIf (works program (world_of machine) a what ref)
-    works_own what = if_then SeesOwn _ (worked program (world_of machine) what ref a.frame.stack.items) (λ made e. comes_own made)
+    operates_own : (what : Heap) → OwnIf (operates program (world_of machine) a what ref)
+    operates_own what = if_then SeesOwn _ (heap_result program (world_of machine) what ref a.frame.stack.items) (λ made e. comes_own made)
 
     enters_lock_own : (world : World) (on : Value) → OwnIf (enters program world a on)
     enters_lock_own world on =
@@ -231,20 +231,20 @@ module _ (program : Program) (number : ℕ) (P : Option Event → Type 0) (none 
     heap_own heap.Enter = if_then SeesOwn _ (slice_get a.frame.stack.items 0) (λ v e. enters_lock_own (world_of machine) v)
     heap_own heap.Exit = if_then SeesOwn _ (slice_get a.frame.stack.items 0) (λ v e. leaves_own (world_of machine) v)
     heap_own (heap.Return kind) = returns_own (world_of machine) kind
-    heap_own heap.Constant = works_own heap.Constant
-    heap_own (heap.ReadItem item) = works_own (heap.ReadItem item)
-    heap_own (heap.WriteItem item) = works_own (heap.WriteItem item)
-    heap_own (heap.Divide remainder) = works_own (heap.Divide remainder)
-    heap_own heap.ReadStatic = works_own heap.ReadStatic
-    heap_own heap.WriteStatic = works_own heap.WriteStatic
-    heap_own heap.ReadField = works_own heap.ReadField
-    heap_own heap.WriteField = works_own heap.WriteField
-    heap_own heap.New = works_own heap.New
-    heap_own (heap.NewArray kind) = works_own (heap.NewArray kind)
-    heap_own heap.NewArrayOf = works_own heap.NewArrayOf
-    heap_own heap.Length = works_own heap.Length
-    heap_own heap.Cast = works_own heap.Cast
-    heap_own heap.IsInstance = works_own heap.IsInstance
+    heap_own heap.Constant = operates_own heap.Constant
+    heap_own (heap.ReadItem item) = operates_own (heap.ReadItem item)
+    heap_own (heap.WriteItem item) = operates_own (heap.WriteItem item)
+    heap_own (heap.Divide remainder) = operates_own (heap.Divide remainder)
+    heap_own heap.ReadStatic = operates_own heap.ReadStatic
+    heap_own heap.WriteStatic = operates_own heap.WriteStatic
+    heap_own heap.ReadField = operates_own heap.ReadField
+    heap_own heap.WriteField = operates_own heap.WriteField
+    heap_own heap.New = operates_own heap.New
+    heap_own (heap.NewArray kind) = operates_own (heap.NewArray kind)
+    heap_own heap.NewArrayOf = operates_own heap.NewArrayOf
+    heap_own heap.Length = operates_own heap.Length
+    heap_own heap.Cast = operates_own heap.Cast
+    heap_own heap.IsInstance = operates_own heap.IsInstance
 
     insn_own : (insn : Insn) → OwnIf (insn_stepped program machine a (insn, ref))
     insn_own insn =

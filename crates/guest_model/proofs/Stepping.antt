@@ -33,16 +33,16 @@ use Rattle.guest_model.specs.declared.machine.Machine.{Machine}
 use Rattle.guest_model.specs.Monitors.{entered, left}
 use Rattle.guest_model.specs.Places.{insn_at, insn_in, method_at}
 use Rattle.guest_frames.specs.Stepping.{after, fitted, frame_stepped}
-use Rattle.guest_model.specs.Standing.{Places, IsAt, HasInsns, IsCalled, IsClosed}
+use Rattle.guest_model.specs.ClosedPlaces.{Places, IsAt, HasInsns, IsCalled, IsClosed}
 use Rattle.guest_model.specs.Parts.{bad_monitor, null_pointer, result_of}
 use Rattle.guest_frames.specs.Values.{is_null, values_moved, values_seen}
 use Rattle.guest_model.specs.Answering.{answer_fits, answered, given, thrown_by, thrown_by_library}
 use Rattle.guest_model.specs.Changes.{Change, World, with_monitors, world_of}
 use Rattle.guest_model.specs.Kinds.{class_of_value}
-use Rattle.guest_model.specs.Stepping.{Acting, acts_on, acts_throwing, call_stepped, comes_to, doing_stepped, enters, frames_stepped, heap_in, heap_stepped, insn_stepped, is_on_null, leaves, left_with, returns, running_stepped, throws_top, works}
-use Rattle.guest_model.specs.Working.{worked}
+use Rattle.guest_model.specs.Stepping.{Acting, acts_on, acts_throwing, call_stepped, comes_to, doing_stepped, enters, frames_stepped, heap_in, heap_stepped, insn_stepped, is_on_null, leaves, left_with, returns, running_stepped, throws_top, operates}
+use Rattle.guest_model.specs.HeapOperations.{heap_result}
 use Rattle.guest_model.proofs.Calling.{calls_good}
-use Rattle.guest_model.proofs.Going.{Stands, Waits, TopCalls, DoesWell, Standing, Well, Good, called, fitted_stands, went_on, inside, behind_insn, returned_good}
+use Rattle.guest_model.proofs.Going.{Stands, Waits, TopCalls, DoesWell, Standing, Well, Good, called, fitted_stands, went_on, inside, after_insn, returned_good}
 use Rattle.guest_model.proofs.Options.{and_then_of, IfThere, if_none, if_some, if_either, if_then, if_mapped, there_or}
 use Rattle.guest_model.proofs.Throwing.{throws_good, throws_new_good}
 
@@ -65,28 +65,28 @@ module _ (program : Program) (reached : Places) (sound : HasInsns program) (clos
         → GoodIf (acts_on world a frame)
     acts_good world frame inside = went_on program reached world a.thread a.below frame inside stands.stand.1 stands.wait
 
-    goes_behind : (world : World) (items : List Value) → ends (shape_of insn) ≡ false → GoodIf (acts_on world a (after a.frame items))
-    goes_behind world items stays =
-        acts_good world (after a.frame items) (behind_insn program reached sound closed a.frame insn ref stands.stand.0 there stays items)
+    goes_after : (world : World) (items : List Value) → ends (shape_of insn) ≡ false → GoodIf (acts_on world a (after a.frame items))
+    goes_after world items stays =
+        acts_good world (after a.frame items) (after_insn program reached sound closed a.frame insn ref stands.stand.0 there stays items)
 
     comes_good : (world : World) (made : Result (World × List Value) Name) → ends (shape_of insn) ≡ false
         → GoodIf (comes_to program world a made)
-    comes_good world (Ok made) stays = goes_behind made.0 made.1 stays
+    comes_good world (Ok made) stays = goes_after made.0 made.1 stays
     comes_good world (Err class) stays = throws_here world class
 
-    works_good : (world : World) (what : Heap) → ends (shape_of insn) ≡ false → GoodIf (works program world a what ref)
-    works_good world what stays =
-        if_then IsGood _ (worked program world what ref a.frame.stack.items) (λ made e. comes_good world made stays)
+    operates_good : (world : World) (what : Heap) → ends (shape_of insn) ≡ false → GoodIf (operates program world a what ref)
+    operates_good world what stays =
+        if_then IsGood _ (heap_result program world what ref a.frame.stack.items) (λ made e. comes_good world made stays)
 
     enters_good : (world : World) (on : Value) → ends (shape_of insn) ≡ false → GoodIf (enters program world a on)
     enters_good world on stays =
         if_either IsGood (is_null on) _ _ (throws_here world null_pointer)
         (if_then IsGood _ (entered world.monitors a.number on)
-        (λ held e. goes_behind (with_monitors world held) (drop 1 a.frame.stack.items) stays))
+        (λ held e. goes_after (with_monitors world held) (drop 1 a.frame.stack.items) stays))
 
     left_good : (world : World) (held : Option (List Monitor)) → ends (shape_of insn) ≡ false → GoodIf (left_with program world a held)
     left_good world None stays = throws_here world bad_monitor
-    left_good world (Some held) stays = goes_behind (with_monitors world held) (drop 1 a.frame.stack.items) stays
+    left_good world (Some held) stays = goes_after (with_monitors world held) (drop 1 a.frame.stack.items) stays
 
     leaves_good : (world : World) (on : Value) → ends (shape_of insn) ≡ false → GoodIf (leaves program world a on)
     leaves_good world on stays =
@@ -113,20 +113,20 @@ module _ (program : Program) (reached : Places) (sound : HasInsns program) (clos
     heap_good machine heap.Exit shape =
         if_then IsGood _ (slice_get a.frame.stack.items 0) (λ v e. leaves_good (world_of machine) v (ap ends shape))
     heap_good machine (heap.Return kind) shape = returns_good (world_of machine) kind
-    heap_good machine heap.Constant shape = works_good (world_of machine) heap.Constant (ap ends shape)
-    heap_good machine (heap.ReadItem item) shape = works_good (world_of machine) (heap.ReadItem item) (ap ends shape)
-    heap_good machine (heap.WriteItem item) shape = works_good (world_of machine) (heap.WriteItem item) (ap ends shape)
-    heap_good machine (heap.Divide remainder) shape = works_good (world_of machine) (heap.Divide remainder) (ap ends shape)
-    heap_good machine heap.ReadStatic shape = works_good (world_of machine) heap.ReadStatic (ap ends shape)
-    heap_good machine heap.WriteStatic shape = works_good (world_of machine) heap.WriteStatic (ap ends shape)
-    heap_good machine heap.ReadField shape = works_good (world_of machine) heap.ReadField (ap ends shape)
-    heap_good machine heap.WriteField shape = works_good (world_of machine) heap.WriteField (ap ends shape)
-    heap_good machine heap.New shape = works_good (world_of machine) heap.New (ap ends shape)
-    heap_good machine (heap.NewArray kind) shape = works_good (world_of machine) (heap.NewArray kind) (ap ends shape)
-    heap_good machine heap.NewArrayOf shape = works_good (world_of machine) heap.NewArrayOf (ap ends shape)
-    heap_good machine heap.Length shape = works_good (world_of machine) heap.Length (ap ends shape)
-    heap_good machine heap.Cast shape = works_good (world_of machine) heap.Cast (ap ends shape)
-    heap_good machine heap.IsInstance shape = works_good (world_of machine) heap.IsInstance (ap ends shape)
+    heap_good machine heap.Constant shape = operates_good (world_of machine) heap.Constant (ap ends shape)
+    heap_good machine (heap.ReadItem item) shape = operates_good (world_of machine) (heap.ReadItem item) (ap ends shape)
+    heap_good machine (heap.WriteItem item) shape = operates_good (world_of machine) (heap.WriteItem item) (ap ends shape)
+    heap_good machine (heap.Divide remainder) shape = operates_good (world_of machine) (heap.Divide remainder) (ap ends shape)
+    heap_good machine heap.ReadStatic shape = operates_good (world_of machine) heap.ReadStatic (ap ends shape)
+    heap_good machine heap.WriteStatic shape = operates_good (world_of machine) heap.WriteStatic (ap ends shape)
+    heap_good machine heap.ReadField shape = operates_good (world_of machine) heap.ReadField (ap ends shape)
+    heap_good machine heap.WriteField shape = operates_good (world_of machine) heap.WriteField (ap ends shape)
+    heap_good machine heap.New shape = operates_good (world_of machine) heap.New (ap ends shape)
+    heap_good machine (heap.NewArray kind) shape = operates_good (world_of machine) (heap.NewArray kind) (ap ends shape)
+    heap_good machine heap.NewArrayOf shape = operates_good (world_of machine) heap.NewArrayOf (ap ends shape)
+    heap_good machine heap.Length shape = operates_good (world_of machine) heap.Length (ap ends shape)
+    heap_good machine heap.Cast shape = operates_good (world_of machine) heap.Cast (ap ends shape)
+    heap_good machine heap.IsInstance shape = operates_good (world_of machine) heap.IsInstance (ap ends shape)
 
     frame_stands : is_heap (shape_of insn) ≡ false → (f : Frame) → frame_stepped insn a.frame ≡ Some f → Stands program reached f
     frame_stands alone f e =

@@ -14,7 +14,7 @@ use Rattle.guest_heap.specs.declared.thread.Thread.{Thread}
 use Rattle.guest_heap.specs.declared.value.Value.{Value}
 use Rattle.guest_model.specs.Places.{method_at}
 use Rattle.guest_frames.specs.Stepping.{moved_to}
-use Rattle.guest_model.specs.Standing.{Places, IsClosed}
+use Rattle.guest_model.specs.ClosedPlaces.{Places, IsClosed}
 use Rattle.guest_model.specs.Parts.{thrown_thread}
 use Rattle.guest_model.specs.Throwing.{catches, handler_of, caught_in, unwound}
 use Rattle.guest_model.specs.Changes.{World, throws, throws_new}

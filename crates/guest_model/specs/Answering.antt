@@ -8,7 +8,7 @@ use Rattle.api_listing.specs.declared.events.Event.TheVariants as events
 use Rattle.api_listing.specs.declared.types.ListedClass.{ListedClass}
 use Rattle.api_listing.specs.declared.types.ListedMethod.{ListedMethod}
 use Rattle.api_listing.specs.BuiltIn.{built_in_classes, object}
-use Rattle.api_listing.specs.Descriptor.{type_spelled}
+use Rattle.api_listing.specs.Descriptor.{type_encoded}
 use Rattle.api_listing.specs.Listing.{is_known}
 use Rattle.api_listing.specs.Nearest.{class_named}
 use Rattle.bytecode_model.specs.declared.program.Program.{Program}
@@ -33,7 +33,7 @@ use Rattle.guest_model.specs.Options.{◌>>=◌}
 -- the class, or the array, of a result that is no number
 abbrev pub result_class : Option FieldType → Option Name
 result_class None = None
-result_class (Some t) = reference_of (type_spelled t)
+result_class (Some t) = reference_of (type_encoded t)
 
 -- the result is of a class, and of such a one
 abbrev pub of_class : Option FieldType → (Name → Bool) → Bool

@@ -113,7 +113,7 @@ abbrev pub lock_of : Program → ℕ → Method → Option Value → Option Valu
 lock_of program class method receiver =
     if is_synchronized method.flags then Some (option_map_or (λ (v : Value). v) receiver (values.Class (length program.listing.classes + class))) else None
 
--- a frame of the method, whose locals behind its arguments are null
+-- a frame of the method, whose locals after its arguments are null
 abbrev pub frame_of : Program → Given → Method → Option Value → List Value → Frame
 frame_of program to method receiver arguments =
     let taken = option_to_list receiver ++ arguments in record {
@@ -158,7 +158,7 @@ with_event change event = record { world = change.world; thread = change.thread;
 abbrev pub rests_now : Program → World → Thread → Change
 rests_now program world thread = record { world = world; thread = rests program thread.to_begin; begins = None; stops = None; event = None }
 
--- the caller goes on behind its call with the result, or the thread rests; the library may see it
+-- the caller goes on after its call with the result, or the thread rests; the library may see it
 abbrev pub returned : Program → World → Thread → List Frame → Option Value → Option Event → Option Change
 returned program world thread [] result event = Some (with_event (rests_now program world thread) event)
 returned program world thread (caller ∷ below) result event =

@@ -2,7 +2,7 @@
 use Rattle.bytecode_model.specs.SearchOrder.{Name}
 use Rattle.guest_model.specs.Parts.{bad_monitor, null_pointer}
 use Rattle.guest_model.specs.Calling.{second_start}
-use Rattle.guest_model.specs.Working.{bad_cast, bad_division, bad_item, bad_place, bad_size}
+use Rattle.guest_model.specs.HeapOperations.{bad_cast, bad_division, bad_item, bad_place, bad_size}
 use Rattle.guest_model.specs.declared.thrown.Thrown.{Thrown}
 use Rattle.guest_model.specs.declared.thrown.Thrown.TheVariants as thrown
 

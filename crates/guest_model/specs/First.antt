@@ -45,6 +45,6 @@ abbrev pub places_of_first : List Thread → Option (List ℕ)
 places_of_first threads = option_map (λ (t : Thread). map (λ (f : Frame). f.at) t.frames) (slice_get threads 0)
 
 -- After these steps the one frame of the first thread stands at the second instruction of main.
-abbrev pub GoesOnBehindFirstCall : Type 0
-GoesOnBehindFirstCall = (program : Program) (index listed : ℕ) → BeginsWithCall program index listed → initialisers program ≡ []
+abbrev pub GoesOnAfterFirstCall : Type 0
+GoesOnAfterFirstCall = (program : Program) (index listed : ℕ) → BeginsWithCall program index listed → initialisers program ≡ []
     → places_of_first (exec program (goes_on ∷ is_done ∷ [])).threads ≡ Some (1 ∷ [])

@@ -12,7 +12,7 @@ pub mod Seen
 pub mod Builtins
 pub mod Exceptions
 pub mod Changes
-pub mod Working
+pub mod HeapOperations
 pub mod Calling
 pub mod Answering
 pub mod Permitted
@@ -23,7 +23,7 @@ pub mod Always
 pub mod Staying
 pub mod Seeing
 pub mod Counting
-pub mod Standing
+pub mod ClosedPlaces
 pub mod First
 pub mod Moving
 pub mod Numbers

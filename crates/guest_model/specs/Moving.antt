@@ -39,7 +39,7 @@ use Rattle.bytecode_model.specs.declared.program.Program.{Program}
 use Rattle.bytecode_model.specs.declared.program.Target.{Target}
 use Rattle.bytecode_model.specs.declared.program.Target.TheVariants as target
 use Rattle.bytecode_model.specs.Classes.{classes_of}
-use Rattle.bytecode_model.specs.Standing.{AreStanding}
+use Rattle.bytecode_model.specs.LinkedClasses.{AreLinkedClasses}
 use Rattle.guest_heap.specs.declared.frame.Frame.{Frame}
 use Rattle.guest_heap.specs.declared.object.Monitor.{Monitor}
 use Rattle.guest_heap.specs.declared.object.Object.{Object}
@@ -66,7 +66,7 @@ use Rattle.guest_model.specs.Changes.{World, world_of}
 use Rattle.guest_model.specs.Enabled.{IsEnabled, MayAnswer, heap_waits, is_held_by_other, passed_by}
 use Rattle.guest_model.specs.Layout.{place_of_field}
 use Rattle.guest_model.specs.Stepping.{Acting, call_stepped, changed, heap_in, heap_stepped}
-use Rattle.guest_model.specs.Working.{Worked, has_items, item_kind, worked}
+use Rattle.guest_model.specs.HeapOperations.{HeapResult, has_items, item_kind, heap_result}
 
 -- ---- values
 
@@ -226,9 +226,9 @@ IsReadyFor program world heap.Exit ref items = ⊥
 IsReadyFor program world (heap.Return kind) ref items = ⊥
 
 -- What is ready comes to something.
-abbrev pub ReadyWorks : Type 0
-ReadyWorks = (program : Program) (world : World) (what : Heap) (ref : Target) (items : List Value) → IsReadyFor program world what ref items
-    → IsSome (worked program world what ref items)
+abbrev pub ReadyOperates : Type 0
+ReadyOperates = (program : Program) (world : World) (what : Heap) (ref : Target) (items : List Value) → IsReadyFor program world what ref items
+    → IsSome (heap_result program world what ref items)
 
 -- how many operands an instruction takes that works on the heap or on static fields, or divides
 abbrev pub taken_by : Heap → ℕ
@@ -276,14 +276,14 @@ pushed_by heap.Exit = 0
 pushed_by (heap.Return kind) = 0
 
 -- Of so many operands it takes so many, and pushes so many, if it does not throw.
-abbrev pub Leaves : ℕ → ℕ → ℕ → Worked → Type 0
+abbrev pub Leaves : ℕ → ℕ → ℕ → HeapResult → Type 0
 Leaves takes pushes count None = Unit {0}
 Leaves takes pushes count (Some (Ok made)) = length made.1 + takes ≡ count + pushes
 Leaves takes pushes count (Some (Err class)) = Unit {0}
 
 abbrev pub LeavesAsMany : Type 0
 LeavesAsMany = (program : Program) (world : World) (what : Heap) (ref : Target) (items : List Value)
-    → Leaves (taken_by what) (pushed_by what) (length items) (worked program world what ref items)
+    → Leaves (taken_by what) (pushed_by what) (length items) (heap_result program world what ref items)
 
 -- What it leaves fits on the stack.
 abbrev pub HasRoomFor : Frame → Heap → Type 0
@@ -408,7 +408,7 @@ IsReadyToCall heap how (target.Literal index) passed = ⊥
 -- A thread of a linked program makes a call that is ready where nothing is waited for: a lock, or the end of a thread.
 abbrev pub CallingSteps : Type 0
 CallingSteps = (program : Program) (machine : Machine) (a : Acting) (how : How) (ref : Target) (passed : Taken)
-    → AreStanding program → StackFits a.frame
+    → AreLinkedClasses program → StackFits a.frame
     → passed_by program a.frame how ref ≡ Some passed → IsReadyToCall machine.heap how ref passed
     → heap_waits program machine a.number a.frame (heap.Call how) ref ≡ false
     → IsSome (heap_stepped program machine a (heap.Call how) ref)
@@ -416,8 +416,8 @@ CallingSteps = (program : Program) (machine : Machine) (a : Acting) (how : How) 
 -- ---- steps
 
 -- The operands of an instruction that works on the heap are there, and what it leaves fits.
-abbrev pub CanWork : Program → Machine → Acting → Heap → Target → Type 0
-CanWork program machine a what ref =
+abbrev pub CanOperate : Program → Machine → Acting → Heap → Target → Type 0
+CanOperate program machine a what ref =
     IsReadyFor program (world_of machine) what ref a.frame.stack.items × HasRoomFor a.frame what
 
 -- What an instruction needs that does more than change its frame.
@@ -428,20 +428,20 @@ CanDo program machine a heap.Throw ref = HasOne (IsObject machine.heap) a.frame.
 CanDo program machine a heap.Enter ref = StackFits a.frame × HasOne IsReference a.frame.stack.items
 CanDo program machine a heap.Exit ref = StackFits a.frame × HasOne IsReference a.frame.stack.items
 CanDo program machine a (heap.Return kind) ref = CanReturn kind a.frame.stack.items a.below
-CanDo program machine a heap.Constant ref = CanWork program machine a heap.Constant ref
-CanDo program machine a (heap.ReadItem item) ref = CanWork program machine a (heap.ReadItem item) ref
-CanDo program machine a (heap.WriteItem item) ref = CanWork program machine a (heap.WriteItem item) ref
-CanDo program machine a (heap.Divide remainder) ref = CanWork program machine a (heap.Divide remainder) ref
-CanDo program machine a heap.ReadStatic ref = CanWork program machine a heap.ReadStatic ref
-CanDo program machine a heap.WriteStatic ref = CanWork program machine a heap.WriteStatic ref
-CanDo program machine a heap.ReadField ref = CanWork program machine a heap.ReadField ref
-CanDo program machine a heap.WriteField ref = CanWork program machine a heap.WriteField ref
-CanDo program machine a heap.New ref = CanWork program machine a heap.New ref
-CanDo program machine a (heap.NewArray kind) ref = CanWork program machine a (heap.NewArray kind) ref
-CanDo program machine a heap.NewArrayOf ref = CanWork program machine a heap.NewArrayOf ref
-CanDo program machine a heap.Length ref = CanWork program machine a heap.Length ref
-CanDo program machine a heap.Cast ref = CanWork program machine a heap.Cast ref
-CanDo program machine a heap.IsInstance ref = CanWork program machine a heap.IsInstance ref
+CanDo program machine a heap.Constant ref = CanOperate program machine a heap.Constant ref
+CanDo program machine a (heap.ReadItem item) ref = CanOperate program machine a (heap.ReadItem item) ref
+CanDo program machine a (heap.WriteItem item) ref = CanOperate program machine a (heap.WriteItem item) ref
+CanDo program machine a (heap.Divide remainder) ref = CanOperate program machine a (heap.Divide remainder) ref
+CanDo program machine a heap.ReadStatic ref = CanOperate program machine a heap.ReadStatic ref
+CanDo program machine a heap.WriteStatic ref = CanOperate program machine a heap.WriteStatic ref
+CanDo program machine a heap.ReadField ref = CanOperate program machine a heap.ReadField ref
+CanDo program machine a heap.WriteField ref = CanOperate program machine a heap.WriteField ref
+CanDo program machine a heap.New ref = CanOperate program machine a heap.New ref
+CanDo program machine a (heap.NewArray kind) ref = CanOperate program machine a (heap.NewArray kind) ref
+CanDo program machine a heap.NewArrayOf ref = CanOperate program machine a heap.NewArrayOf ref
+CanDo program machine a heap.Length ref = CanOperate program machine a heap.Length ref
+CanDo program machine a heap.Cast ref = CanOperate program machine a heap.Cast ref
+CanDo program machine a heap.IsInstance ref = CanOperate program machine a heap.IsInstance ref
 
 -- the same of each instruction: of one that changes its frame alone, that it can
 abbrev pub CanDoNext : Program → Machine → Acting → Insn × Target → Option Heap → Type 0
@@ -463,5 +463,5 @@ IsAble program machine number thread doings.Ended choice = Unit {0}
 
 -- A step that is enabled by the rules is made, in a linked program, where what the thread needs for it is there.
 abbrev pub EnabledIsMade : Type 0
-EnabledIsMade = (program : Program) (machine : Machine) (step : Step) → AreStanding program → (enabled : IsEnabled program machine step)
+EnabledIsMade = (program : Program) (machine : Machine) (step : Step) → AreLinkedClasses program → (enabled : IsEnabled program machine step)
     → IsAble program machine step.thread enabled.thread enabled.thread.doing step.choice → IsSome (changed program machine step)

@@ -22,7 +22,7 @@ abbrev pub thrown_thread : List Frame → List (ℕ × ℕ) → Thread
 thrown_thread [] to_begin = record { frames = []; to_begin = []; doing = doings.Ended }
 thrown_thread (frame ∷ below) to_begin = running (frame ∷ below) to_begin
 
--- the argument of main: the array of no strings, which stands behind an object for each field of the listing
+-- the argument of main: the array of no strings, which stands after an object for each field of the listing
 abbrev pub main_argument : Program → Value
 main_argument program = values.Ref (length program.listing.fields)
 

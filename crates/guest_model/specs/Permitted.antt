@@ -8,7 +8,7 @@ use Rattle.api_listing.specs.declared.events.ApiAnswer.{ApiAnswer}
 use Rattle.api_listing.specs.declared.events.ApiAnswer.TheVariants as answers
 use Rattle.api_listing.specs.declared.types.ListedClass.{ListedClass}
 use Rattle.api_listing.specs.BuiltIn.{built_in_classes, object, throwable}
-use Rattle.api_listing.specs.Descriptor.{type_spelled}
+use Rattle.api_listing.specs.Descriptor.{type_encoded}
 use Rattle.api_listing.specs.Listing.{is_known}
 use Rattle.api_listing.specs.Nearest.{class_named}
 use Rattle.bytecode_model.specs.declared.program.Program.{Program}
@@ -42,7 +42,7 @@ pub record GivesNumber (result : Option FieldType) (element : Element) : Type 0 
 pub record GivesObject (result : Option FieldType) (name : Name) : Type 0 where
   pub type : FieldType
   pub is : result ≡ Some type
-  pub named : reference_of (type_spelled type) ≡ Some name
+  pub named : reference_of (type_encoded type) ≡ Some name
 
 -- ---- objects
 

@@ -13,7 +13,7 @@ use Rattle.guest_model.specs.declared.machine.Step.{Step}
 use Rattle.guest_model.specs.Answers.{fits_number}
 use Rattle.guest_model.specs.Calls.{types_of}
 use Rattle.guest_model.specs.Runs.{trace}
-use Rattle.guest_model.specs.Standing.{method_of}
+use Rattle.guest_model.specs.ClosedPlaces.{method_of}
 use Rattle.guest_model.specs.Stepping.{stepped}
 
 -- the thread that an event is of

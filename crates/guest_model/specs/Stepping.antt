@@ -32,7 +32,7 @@ use Rattle.guest_model.specs.Answering.{answered}
 use Rattle.guest_model.specs.Calling.{calls}
 use Rattle.guest_model.specs.Changes.{World, Change, applied, goes, returned, throws, throws_new, with_monitors, world_of}
 use Rattle.guest_model.specs.Kinds.{class_of_value}
-use Rattle.guest_model.specs.Working.{worked}
+use Rattle.guest_model.specs.HeapOperations.{heap_result}
 
 -- the thread that makes a step, its number, and its frames
 pub record Acting : Type 0 where
@@ -63,8 +63,8 @@ abbrev pub comes_to : Program → World → Acting → Result (World × List Val
 comes_to program world a (Ok made) = acts_on made.0 a (after a.frame made.1)
 comes_to program world a (Err class) = Some (acts_throwing program world a class)
 
-abbrev pub works : Program → World → Acting → Heap → Target → Option Change
-works program world a what ref = option_and_then (comes_to program world a) (worked program world what ref a.frame.stack.items)
+abbrev pub operates : Program → World → Acting → Heap → Target → Option Change
+operates program world a what ref = option_and_then (comes_to program world a) (heap_result program world what ref a.frame.stack.items)
 
 -- ---- monitors
 
@@ -96,20 +96,20 @@ heap_stepped program machine a heap.Throw ref = option_and_then (throws_top prog
 heap_stepped program machine a heap.Enter ref = option_and_then (enters program (world_of machine) a) (slice_get a.frame.stack.items 0)
 heap_stepped program machine a heap.Exit ref = option_and_then (leaves program (world_of machine) a) (slice_get a.frame.stack.items 0)
 heap_stepped program machine a (heap.Return kind) ref = returns program (world_of machine) a kind
-heap_stepped program machine a heap.Constant ref = works program (world_of machine) a heap.Constant ref
-heap_stepped program machine a (heap.ReadItem item) ref = works program (world_of machine) a (heap.ReadItem item) ref
-heap_stepped program machine a (heap.WriteItem item) ref = works program (world_of machine) a (heap.WriteItem item) ref
-heap_stepped program machine a (heap.Divide remainder) ref = works program (world_of machine) a (heap.Divide remainder) ref
-heap_stepped program machine a heap.ReadStatic ref = works program (world_of machine) a heap.ReadStatic ref
-heap_stepped program machine a heap.WriteStatic ref = works program (world_of machine) a heap.WriteStatic ref
-heap_stepped program machine a heap.ReadField ref = works program (world_of machine) a heap.ReadField ref
-heap_stepped program machine a heap.WriteField ref = works program (world_of machine) a heap.WriteField ref
-heap_stepped program machine a heap.New ref = works program (world_of machine) a heap.New ref
-heap_stepped program machine a (heap.NewArray kind) ref = works program (world_of machine) a (heap.NewArray kind) ref
-heap_stepped program machine a heap.NewArrayOf ref = works program (world_of machine) a heap.NewArrayOf ref
-heap_stepped program machine a heap.Length ref = works program (world_of machine) a heap.Length ref
-heap_stepped program machine a heap.Cast ref = works program (world_of machine) a heap.Cast ref
-heap_stepped program machine a heap.IsInstance ref = works program (world_of machine) a heap.IsInstance ref
+heap_stepped program machine a heap.Constant ref = operates program (world_of machine) a heap.Constant ref
+heap_stepped program machine a (heap.ReadItem item) ref = operates program (world_of machine) a (heap.ReadItem item) ref
+heap_stepped program machine a (heap.WriteItem item) ref = operates program (world_of machine) a (heap.WriteItem item) ref
+heap_stepped program machine a (heap.Divide remainder) ref = operates program (world_of machine) a (heap.Divide remainder) ref
+heap_stepped program machine a heap.ReadStatic ref = operates program (world_of machine) a heap.ReadStatic ref
+heap_stepped program machine a heap.WriteStatic ref = operates program (world_of machine) a heap.WriteStatic ref
+heap_stepped program machine a heap.ReadField ref = operates program (world_of machine) a heap.ReadField ref
+heap_stepped program machine a heap.WriteField ref = operates program (world_of machine) a heap.WriteField ref
+heap_stepped program machine a heap.New ref = operates program (world_of machine) a heap.New ref
+heap_stepped program machine a (heap.NewArray kind) ref = operates program (world_of machine) a (heap.NewArray kind) ref
+heap_stepped program machine a heap.NewArrayOf ref = operates program (world_of machine) a heap.NewArrayOf ref
+heap_stepped program machine a heap.Length ref = operates program (world_of machine) a heap.Length ref
+heap_stepped program machine a heap.Cast ref = operates program (world_of machine) a heap.Cast ref
+heap_stepped program machine a heap.IsInstance ref = operates program (world_of machine) a heap.IsInstance ref
 
 -- what an instruction does with more than its frame
 abbrev pub heap_in : Shape → Option Heap

@@ -22,7 +22,7 @@ pub enum Builtin {
     Length,
 }
 
-/// What each built-in method does, row by row; those behind the first nine make exceptions.
+/// What each built-in method does, row by row; those after the first nine make exceptions.
 static BUILTINS: [Builtin; 37] = [
     Builtin::Make,
     Builtin::Make,

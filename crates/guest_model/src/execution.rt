@@ -37,8 +37,7 @@ pub trait Execution: Drop {
     fn program(&self) -> &Program
         ensures { result.now ≡ program self.now };
 
-    /// The first thread from this number on, cyclically, that can make a step. It takes no memory, and no longer where
-    /// threads have ended.
+    /// The first thread from this number on, cyclically, that can make a step. It takes no memory.
     fn next_enabled(&self, first: u32) -> Option<u32>
         requires { is_ready self.now }
         ensures { result ≡ next_enabled (program self.now) (machine self.now) first };

@@ -4,13 +4,13 @@ ghost use Rattle.bytecode_model.specs.declared.program.Program.{Program};
 ghost use Rattle.std.specs.Prelude.{Bool, List};
 ghost use Rattle.api_listing.specs.declared.events.Event.{Event};
 ghost use Rattle.bytecode_model.specs.Sound.{IsSound};
-ghost use Rattle.bytecode_model.specs.Standing.{AreLiterals};
+ghost use Rattle.bytecode_model.specs.LinkedClasses.{AreLiterals};
 ghost use Rattle.bytecode_model.specs.Targets.{AreNamed};
 ghost use Rattle.guest_model.specs.declared.machine.Machine.{Machine};
-ghost use Rattle.guest_model.specs.Standing.{Places, HasInsns, IsClosed, SeesOnlyCalled};
+ghost use Rattle.guest_model.specs.ClosedPlaces.{Places, HasInsns, IsClosed, SeesOnlyCalled};
 ghost use Rattle.guest_model.specs.Always.{IsKeptBySteps, HoldsAlways};
 ghost use Rattle.guest_model.specs.Counting.{FewAreAdded, SeesFewObjects, StepsAddOne};
-ghost use Rattle.guest_model.specs.First.{SeesFirstCall, GoesOnBehindFirstCall};
+ghost use Rattle.guest_model.specs.First.{SeesFirstCall, GoesOnAfterFirstCall};
 ghost use Rattle.guest_model.specs.Numbers.{KeepsWords, SeesInRange, AnswersAreWords, OneMakesWords, TwoMakeWords};
 ghost use Rattle.guest_model.specs.Seeing.{EventsAreOfTheirThread, SeesGiven, SeesListed};
 ghost use Rattle.guest_model.specs.Staying.{OtherThreadsStay};
@@ -80,8 +80,8 @@ pub fn sees_numbers_in_range()
 
 /// The machine moves: where no class has an initialiser and the first instruction of `main` calls a static method of the
 /// library that takes and gives nothing, the library sees the call in the first step, and its return in the next; `main`
-/// then goes on behind its call.
+/// then goes on after its call.
 pub fn sees_the_first_call()
     ensures sees { SeesFirstCall }
-    ensures goes { GoesOnBehindFirstCall }
+    ensures goes { GoesOnAfterFirstCall }
 {}

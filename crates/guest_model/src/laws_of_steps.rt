@@ -4,7 +4,7 @@ ghost use Rattle.guest_model.specs.Asking.{EnabledAreSteps, FittingAreSteps};
 ghost use Rattle.guest_model.specs.Enabled.{StepsAreEnabled};
 ghost use Rattle.guest_model.specs.Ending.{EndsWhereNoneIsEnabled};
 ghost use Rattle.guest_model.specs.Moving.{
-  ReadyWorks,
+  ReadyOperates,
   LeavesAsMany,
   ReadySteps,
   FreeIsEntered,
@@ -29,7 +29,7 @@ pub fn steps_are_enabled()
 /// there and of their kinds; it takes and pushes as many as it should; and the thread makes the step where what is left
 /// fits on the stack.
 pub fn what_is_ready_moves()
-    ensures comes { ReadyWorks }
+    ensures comes { ReadyOperates }
     ensures leaves { LeavesAsMany }
     ensures steps { ReadySteps }
 {}

@@ -42,10 +42,10 @@ module _ (program : Program) where
     moved : (before : List Step) → exec_from program run.machine (step ∷ before) ≡ exec_from program machine before
     moved before = rw made refl
 
-    behind : (result : Result Replayed ReplayFault) → TellsFrom program (index + 1) (run_to (run.events ++ option_to_list event) machine) steps result
+    following : (result : Result Replayed ReplayFault) → TellsFrom program (index + 1) (run_to (run.events ++ option_to_list event) machine) steps result
         → TellsFrom program index run (step ∷ steps) result
-    behind (Ok now) tells = rw made (tells.0, tells.1 ∙ append_assoc run.events (option_to_list event) (trace_from program machine steps), tells.2)
-    behind (Err (faults.NotEnabled told)) stops = record {
+    following (Ok now) tells = rw made (tells.0, tells.1 ∙ append_assoc run.events (option_to_list event) (trace_from program machine steps), tells.2)
+    following (Err (faults.NotEnabled told)) stops = record {
       before = step ∷ stops.before;
       step = stops.step;
       later = stops.later;
@@ -54,7 +54,7 @@ module _ (program : Program) where
       made = rw made stops.made;
       refused = subst (λ (m : Machine). stepped program m stops.step ≡ None) (sym (moved stops.before)) stops.refused;
     }
-    behind (Err faults.Memory) none = none
+    following (Err faults.Memory) none = none
 
   tells_from : (steps : List Step) (index : ℕ) (run : Replayed) → TellsFrom program index run steps (replayed_from program index run steps)
   tells_from [] index run = (tt, sym (append-nil run.events), refl)
@@ -64,7 +64,7 @@ module _ (program : Program) where
     by tells None is = rw is (record { before = []; step = step; later = steps; whole = refl; place = omega arith; made = tt; refused = is })
     by tells (Some (machine, event)) is =
         let next : Replayed = run_to (run.events ++ option_to_list event) machine in
-        let told = behind index run step steps machine event is (replayed_from program (index + 1) next steps) (tells next) in
+        let told = following index run step steps machine event is (replayed_from program (index + 1) next steps) (tells next) in
         rw is told
 
   made_from : (steps : List Step) (index : ℕ) (run : Replayed) → AreMade program run.machine steps → IsOk (replayed_from program index run steps)

@@ -18,7 +18,7 @@ use Rattle.guest_replay.specs.declared.replaying.ReplayFault.TheVariants as faul
 abbrev pub run_to : List Event → Machine → Replayed
 run_to events machine = record { events = events; machine = machine }
 
--- a run after one more step, which has this index; each event is put behind those before it
+-- a run after one more step, which has this index; each event is put after those before it
 abbrev pub after_step : Program → ℕ → Replayed → Step → Result Replayed ReplayFault
 after_step program index run step =
     option_map_or (λ made. Ok (run_to (run.events ++ option_to_list made.1) made.0)) (stepped program run.machine step) (Err (faults.NotEnabled index))

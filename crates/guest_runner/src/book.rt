@@ -160,7 +160,7 @@ impl<E: Execution, D: ApiDevice> RunBook<E, D> {
         }
     }
 
-    /// The number behind that of the thread which made the last step.
+    /// The number after that of the thread which made the last step.
     fn next_turn(&self) -> u32 {
         match self.lines.last() {
             Some(line) => line.step.thread.wrapping_add(1),

@@ -24,7 +24,7 @@ set_set [] n x y = refl
 set_set (z ∷ zs) zero x y = refl
 set_set (z ∷ zs) (suc n) x y = ap (λ (ws : List _). z ∷ ws) (set_set zs n x y)
 
--- the threads with the one that acted in its place, and the one that begins behind them
+-- the threads with the one that acted in its place, and the one that begins after them
 put_back : (threads : List Thread) (n : ℕ) (idle left : Thread) (begins : Option Thread) → n < length threads
     → slice_set (with_begun (slice_set threads n idle) begins) n left ≡ slice_set threads n left ++ option_to_list begins
 put_back threads n idle left None lt = set_set threads n idle left ∙ sym (append-nil (slice_set threads n left))

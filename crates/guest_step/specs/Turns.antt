@@ -23,6 +23,6 @@ unseen (Err fault) = Err fault
 abbrev pub doing_this : Thread → Doing → Thread
 doing_this thread doing = record { frames = thread.frames; to_begin = thread.to_begin; doing = doing }
 
--- The top frame stands at an instruction of a linked program, so that there is a number behind its counter.
+-- The top frame stands at an instruction of a linked program, so that there is a number after its counter.
 abbrev pub StandsInCode : List Frame → Type 0
 StandsInCode frames = IfSome (slice_get frames 0) (λ (f : Frame). f.at < 2 ^ 16)

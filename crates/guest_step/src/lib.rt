@@ -13,14 +13,14 @@ mod ending;
 mod fitting;
 mod interpreter;
 mod making_room;
+mod operate;
+mod operations;
 mod rooms;
 mod running;
 mod starting;
 mod stepping;
 mod steps;
 mod waiting;
-mod work;
-mod working;
 
 pub use interpreter::Interpreter;
 pub use steps::Stepper;

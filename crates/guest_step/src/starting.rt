@@ -10,9 +10,9 @@ ghost use Rattle.mon_base.specs.declared.method.MethodId.{MethodId};
 
 use guest_heap::{Doing, Frames, Object, Thread};
 use guest_model::Machine;
+use guest_operations::statics_of;
 use guest_tables::Guest;
 use guest_threads::{push_object, rest};
-use guest_work::statics_of;
 use mon_base::{Bytes, List, MethodId, NoMemory};
 use std::alloc::Global;
 

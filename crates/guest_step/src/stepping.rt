@@ -20,8 +20,8 @@ ghost use Rattle.insn_codec.specs.declared.insn.Insn.{Insn};
 
 use crate::answering::{InCall, step_in_call, take_if_fit};
 use crate::calling::call;
+use crate::operations::run_operation;
 use crate::rooms::Rooms;
-use crate::working::run_work;
 use api_listing::{ApiAnswer, Event};
 use bytecode_model::Target;
 use guest_frames::local_step;
@@ -276,7 +276,7 @@ fn run_heap(
         | Heap::NewArrayOf
         | Heap::Length
         | Heap::Cast
-        | Heap::IsInstance => run_work(alloc, guest, machine, number, thread, what, target),
+        | Heap::IsInstance => run_operation(alloc, guest, machine, number, thread, what, target),
     }
 }
 

@@ -1,4 +1,4 @@
--- The given classes among all classes: each has one place, behind those of the listing.
+-- The given classes among all classes: each has one place, after those of the listing.
 use Rattle.std.proofs.Common.{◌≡◌, ℕ, suc, ◌+◌, ◌-◌, ◌<◌, ◌≤◌, ◌&&◌, Bool, true, false, not, cond, List, [], ◌∷◌, ◌++◌, length, map, Option, Some, None, refl, sym, ap, subst, ◌∙◌, arith, length-append}
 use Rattle.std.specs.Prelude.{bytes_eq, slice_get}
 use Rattle.std.specs.List.{position_from, AllByRecursion}
@@ -45,13 +45,13 @@ stands {X = X} test i (x ∷ xs) k e = by (test x) refl e (stands test (i + 1) x
       let more : k - i ≡ suc (k - (i + 1)) = omega arith in
       (s.0, omega arith, rw more s.2, s.3)
 
-pub behind_others : {X : Type 0} (test : X → Bool) (i n : ℕ) (xs ys : List X) → n ≡ i + length xs → position_from test i (xs ++ ys) ≡ option_or (position_from test i xs) (position_from test n ys)
-behind_others test i n [] ys e =
+pub after_others : {X : Type 0} (test : X → Bool) (i n : ℕ) (xs ys : List X) → n ≡ i + length xs → position_from test i (xs ++ ys) ≡ option_or (position_from test i xs) (position_from test n ys)
+after_others test i n [] ys e =
     let same : i ≡ n = omega arith in
     ap (λ k. position_from test k ys) same
-behind_others test i n (x ∷ xs) ys e =
+after_others test i n (x ∷ xs) ys e =
     let more : n ≡ (i + 1) + length xs = omega arith in
-    by (test x) _ _ _ (behind_others test (i + 1) n xs ys more) where
+    by (test x) _ _ _ (after_others test (i + 1) n xs ys more) where
       by : (b : Bool) (o p r : Option ℕ) → o ≡ option_or p r → cond b (Some i) o ≡ option_or (cond b (Some i) p) r
       by true o p r e = refl
       by false o p r e = e
@@ -78,14 +78,14 @@ same_names : (name : List ℕ) (xs : List LinkedClass) → AllByRecursion IsSoun
 same_names name [] all = tt
 same_names name (x ∷ xs) all = (ap (λ n. bytes_eq n name) (sym all.0.name), same_names name xs all.1)
 
--- the place of a class: that among the listed ones, or else that among the given ones, behind these
+-- the place of a class: that among the listed ones, or else that among the given ones, after these
 index_is : (program : Program) → IsReady program → (name : List ℕ)
     → class_index program name ≡ option_or (class_place program.listing.classes name) (option_map (λ k. k + length program.listing.classes) (given_index program name))
 index_is program r name =
     let listed = program.listing.classes in
     let test = λ (c : ListedClass). bytes_eq c.name name in
     let heads = map (λ (c : LinkedClass). head_of c.file) program.classes in
-    behind_others test 0 (length listed) listed heads (omega arith)
+    after_others test 0 (length listed) listed heads (omega arith)
     ∙ ap (option_or (class_place listed name)) (moved test 0 (length listed) (length listed) heads (omega arith)
     ∙ ap (option_map (λ k. k + length listed)) (same_place (λ (c : LinkedClass). head_of c.file) test (λ (c : LinkedClass). bytes_eq c.name name) 0 program.classes (same_names name program.classes r.sound.classes)))
 
@@ -166,9 +166,9 @@ parts : (program : Program) (name : List ℕ) → class_index program name
     ≡ option_or (class_place program.listing.classes name)
     (position_from (λ (c : ListedClass). bytes_eq c.name name) (length program.listing.classes) (map (λ (c : LinkedClass). head_of c.file) program.classes))
 parts program name =
-    behind_others (λ (c : ListedClass). bytes_eq c.name name) 0 (length program.listing.classes) program.listing.classes (map (λ (c : LinkedClass). head_of c.file) program.classes) (omega arith)
+    after_others (λ (c : ListedClass). bytes_eq c.name name) 0 (length program.listing.classes) program.listing.classes (map (λ (c : LinkedClass). head_of c.file) program.classes) (omega arith)
 
--- the place of a class that is in the listing, or else that behind it
+-- the place of a class that is in the listing, or else that after it
 placed : (program : Program) (name : List ℕ) (o : Option ℕ) → class_place program.listing.classes name ≡ o
     → class_index program name
     ≡ option_or o (position_from (λ (c : ListedClass). bytes_eq c.name name) (length program.listing.classes) (map (λ (c : LinkedClass). head_of c.file) program.classes))
@@ -182,9 +182,9 @@ listed_there program name p e l = by (class_place program.listing.classes name) 
   by : (o : Option ℕ) → class_place program.listing.classes name ≡ o → o ≡ Some p
   by (Some k) is = sym (placed program name (Some k) is) ∙ e
   by None is =
-      let behind = stands (λ (c : ListedClass). bytes_eq c.name name) (length program.listing.classes) (map (λ (c : LinkedClass). head_of c.file) program.classes) p
+      let following = stands (λ (c : ListedClass). bytes_eq c.name name) (length program.listing.classes) (map (λ (c : LinkedClass). head_of c.file) program.classes) p
       (sym (placed program name None is) ∙ e) in
-      let above : length program.listing.classes ≤ p = behind.1 in
+      let above : length program.listing.classes ≤ p = following.1 in
       absurd (omega arith)
 
 pub listed_not : (program : Program) (name : List ℕ) (p : ℕ) → class_index program name ≡ Some p → length program.listing.classes ≤ p → class_place program.listing.classes name ≡ None

@@ -100,6 +100,6 @@ own_last pool all before member old new total split is so_far =
           ∙ reverse-append (map (λ (m : Member). first_value (desc_of pool m)) (filter is_in_objects before)) (map (λ (m : Member). first_value (desc_of pool m)) (filter is_in_objects (member ∷ [])))
           ∙ ap (λ (xs : List Value). xs ++ reverse (map (λ (m : Member). first_value (desc_of pool m)) (filter is_in_objects before))) (front pool member b e)
 
-pub nil_behind : (xs : List Value) → xs ≡ xs ++ []
-nil_behind [] = refl
-nil_behind (x ∷ xs) = ap (λ ys. x ∷ ys) (nil_behind xs)
+pub nil_after : (xs : List Value) → xs ≡ xs ++ []
+nil_after [] = refl
+nil_after (x ∷ xs) = ap (λ ys. x ∷ ys) (nil_after xs)

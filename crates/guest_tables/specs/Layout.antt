@@ -7,7 +7,7 @@ use Rattle.bytecode_model.specs.declared.program.Program.{Program}
 use Rattle.guest_model.specs.Layout.{fields_of, is_in_objects}
 use Rattle.guest_tables.specs.declared.fields.Places.{Places}
 
--- of each field, and behind the last, how many of the fields before it are in objects, where n were before the first
+-- of each field, and after the last, how many of the fields before it are in objects, where n were before the first
 abbrev pub counts_from : ℕ → List Member → List ℕ
 counts_from n [] = n ∷ []
 counts_from n (member ∷ members) = n ∷ counts_from (if is_in_objects member then n + 1 else n) members

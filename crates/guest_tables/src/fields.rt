@@ -16,7 +16,7 @@ use mon_base::{List, NoMemory};
 use std::alloc::Global;
 use type_lattice::Indexed;
 
-/// How many fields the objects of the superclass of each given class have; and of each field of each given class, and behind the
+/// How many fields the objects of the superclass of each given class have; and of each field of each given class, and after the
 /// last, how many of the fields before it are in objects.
 #[derive(Drop)]
 pub struct Places {
@@ -34,7 +34,7 @@ pub fn places_of(alloc: Global, program: &Indexed) -> Result<Places, NoMemory>
     Ok(Places { begins, counts })
 }
 
-/// Of each field, and behind the last, how many of the fields before it are in objects.
+/// Of each field, and after the last, how many of the fields before it are in objects.
 fn counts_in(alloc: Global, fields: &[Member]) -> Result<List<u32>, NoMemory>
     ensures { IfOk result (λ counts. counts ≡ counts_from 0 fields.now) }
 {
@@ -76,7 +76,7 @@ fn counts_of(alloc: Global, program: &Program) -> Result<List<List<u32>>, NoMemo
     Ok(counts)
 }
 
-/// How many fields a class has of its own in objects: the count behind the last field.
+/// How many fields a class has of its own in objects: the count after the last field.
 fn own_count(counts: &[u32], fields: &[Member]) -> u32
     requires { counts.now ≡ counts_from 0 fields.now }
     ensures { result ≡ length (filter is_in_objects fields.now) }

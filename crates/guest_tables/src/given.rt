@@ -10,7 +10,7 @@ ghost use Rattle.guest_model.specs.Ready.{IsReady};
 use bytecode_model::{LinkedClass, Program};
 use type_lattice::{Indexed, class_place};
 
-/// The index of the class among those of the listing and the given ones behind them.
+/// The index of the class among those of the listing and the given ones after them.
 pub fn class_index(program: &Indexed, name: &[u8]) -> Option<u32>
     requires { IsReady program.now }
     ensures { result ≡ class_index program.now name.now }

@@ -112,7 +112,7 @@ impl Guest {
         }
     }
 
-    /// The index of the class among those of the listing and the given ones behind them.
+    /// The index of the class among those of the listing and the given ones after them.
     pub fn class_index(&self, name: &[u8]) -> Option<u32>
         ensures { result ≡ class_index self.now name.now }
     {

@@ -3,6 +3,7 @@
 #![tactic(auto)]
 
 mod arities;
+mod encoding;
 mod fields;
 mod finding;
 mod given;
@@ -14,7 +15,6 @@ mod library;
 mod methods;
 mod searched;
 mod seen;
-mod spelling;
 mod tables;
 
 pub use finding::{client_run, is_run, method_run};

@@ -9,7 +9,7 @@ ghost use Rattle.guest_model.specs.Calls.{types_of};
 ghost use Rattle.guest_tables.specs.Library.{gives, is_fresh, library_of};
 
 use crate::arities::listed_arities;
-use crate::spelling::result_class;
+use crate::encoding::result_class;
 use api_listing::{
     FieldType, FormFault, ListedClass, ListedMethod, Listing, built_in_classes, parse_descriptor,
 };

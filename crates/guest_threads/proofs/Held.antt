@@ -75,10 +75,10 @@ module _ (thread : ℕ) (on : Value) where
     by true = refl
     by false = refl
 
-  behind : (m : Monitor) (ms : List Monitor) (o : Option ℕ)
+  following : (m : Monitor) (ms : List Monitor) (o : Option ℕ)
       → option_map (λ (rest : List Monitor). m ∷ rest) (entered_by ms thread on o) ≡ entered_by (m ∷ ms) thread on (option_map suc o)
-  behind m ms None = refl
-  behind m ms (Some p) = further m ms p (slice_get ms p)
+  following m ms None = refl
+  following m ms (Some p) = further m ms p (slice_get ms p)
 
   entered_is : (ms : List Monitor) → entered ms thread on ≡ entered_by ms thread on (position_from (λ (m : Monitor). are_one m.on on) 0 ms)
   entered_is [] = refl
@@ -87,7 +87,7 @@ module _ (thread : ℕ) (on : Value) where
         ≡ entered_by (m ∷ ms) thread on (cond b (Some 0) (position_from (λ (n : Monitor). are_one n.on on) 1 ms))
     by rest true = at_front m ms (m.owner == thread)
     by rest false =
-        ap (option_map (λ (rest : List Monitor). m ∷ rest)) rest ∙ behind m ms (position_from (λ (n : Monitor). are_one n.on on) 0 ms)
+        ap (option_map (λ (rest : List Monitor). m ∷ rest)) rest ∙ following m ms (position_from (λ (n : Monitor). are_one n.on on) 0 ms)
         ∙ ap (entered_by (m ∷ ms) thread on) (sym (shift (λ (n : Monitor). are_one n.on on) 0 ms))
 
   pub entered_none : (ms : List Monitor) → None ≡ position_from (λ (m : Monitor). are_one m.on on) 0 ms → entered ms thread on ≡ Some (ms ++ new thread on ∷ [])
@@ -137,10 +137,10 @@ module _ (thread : ℕ) (on : Value) where
     by true = ap Some (back_left m n ms p)
     by false = refl
 
-  left_behind : (m : Monitor) (ms : List Monitor) (o : Option ℕ)
+  left_after : (m : Monitor) (ms : List Monitor) (o : Option ℕ)
       → option_map (λ (rest : List Monitor). m ∷ rest) (left_by ms thread o) ≡ left_by (m ∷ ms) thread (option_map suc o)
-  left_behind m ms None = refl
-  left_behind m ms (Some p) = left_further m ms p (slice_get ms p)
+  left_after m ms None = refl
+  left_after m ms (Some p) = left_further m ms p (slice_get ms p)
 
   left_is : (ms : List Monitor) → left ms thread on ≡ left_by ms thread (position_from (λ (m : Monitor). are_one m.on on) 0 ms)
   left_is [] = refl
@@ -154,7 +154,7 @@ module _ (thread : ℕ) (on : Value) where
         ≡ left_by (m ∷ ms) thread (cond b (Some 0) (position_from (λ (n : Monitor). are_one n.on on) 1 ms))
     by rest true = mine (m.owner == thread)
     by rest false =
-        ap (option_map (λ (rest : List Monitor). m ∷ rest)) rest ∙ left_behind m ms (position_from (λ (n : Monitor). are_one n.on on) 0 ms)
+        ap (option_map (λ (rest : List Monitor). m ∷ rest)) rest ∙ left_after m ms (position_from (λ (n : Monitor). are_one n.on on) 0 ms)
         ∙ ap (left_by (m ∷ ms) thread) (sym (shift (λ (n : Monitor). are_one n.on on) 0 ms))
 
   pub left_none : (ms : List Monitor) → None ≡ position_from (λ (m : Monitor). are_one m.on on) 0 ms → left ms thread on ≡ None

@@ -15,13 +15,13 @@ use Rattle.guest_model.specs.Stepping.{Acting}
 use Rattle.guest_model.specs.declared.fault.StepFault.{StepFault}
 use Rattle.guest_model.specs.declared.fault.StepFault.TheVariants as faults
 
--- the threads, and behind them the one that begins
+-- the threads, and after them the one that begins
 abbrev pub with_begun : List Thread → Option Thread → List Thread
 with_begun threads None = threads
 with_begun threads (Some begun) = threads ++ begun ∷ []
 
 -- The change was made: what is shared is what it says, and so is the thread, which stands apart; the thread that begins stands
--- behind the others.
+-- after the others.
 pub record IsDone (change : Change) (old new : Machine) (left : Thread) (event : Option Event) : Type 0 where
   pub world : world_of new ≡ change.world
   pub thread : left ≡ change.thread
@@ -50,7 +50,7 @@ thread_returned program thread [] result = Some (rests program thread.to_begin)
 thread_returned program thread (caller ∷ below) result =
     option_map (λ (f : Frame). running (f ∷ below) thread.to_begin) (after caller (option_to_list result ++ caller.stack.items))
 
--- whether the frame can go on behind its instruction with these operands, at this place
+-- whether the frame can go on after its instruction with these operands, at this place
 abbrev pub CanGoOn : Result ℕ StepFault → Frame → List Value → Type 0
 CanGoOn (Ok at) frame items = after frame items ≡ Some (moved_to frame at frame.locals items)
 CanGoOn (Err faults.NotEnabled) frame items = after frame items ≡ None
@@ -61,10 +61,10 @@ abbrev pub Acted : Option (Option Event) → Machine → Machine → Thread → 
 Acted (Some event) old new thread left made = IsSomeAnd made (λ (change : Change). IsDone change old new left event)
 Acted None old new thread left made = (made ≡ None) × (new ≡ old) × (left ≡ thread)
 
--- The top frame, if there is one, can go on behind its instruction: that is not the last that a number of 32 bits counts.
+-- The top frame, if there is one, can go on after its instruction: that is not the last that a number of 32 bits counts.
 abbrev pub StandsLow : List Frame → Type 0
 StandsLow frames = IfSome (slice_get frames 0) (λ (f : Frame). f.at < 2 ^ 32 - 1)
 
--- the monitors, and the frame gone on behind its instruction, which takes one operand
+-- the monitors, and the frame gone on after its instruction, which takes one operand
 abbrev pub past : Frame → Option (List Monitor) → Option (List Monitor × Frame)
 past frame monitors = option_and_then (λ (held : List Monitor). option_map (λ (f : Frame). (held, f)) (after frame (drop 1 frame.stack.items))) monitors

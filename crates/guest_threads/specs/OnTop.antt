@@ -22,6 +22,6 @@ abbrev pub throws_object : Program → World → Acting → Value → Option Cha
 throws_object program world a value =
     option_map (λ class. throws program world a.number a.thread (a.frame ∷ a.below) value class None) (class_of_value world.heap value)
 
--- the frame goes on behind its instruction, which takes one operand, with these monitors, if there are such
+-- the frame goes on after its instruction, which takes one operand, with these monitors, if there are such
 abbrev pub goes_past : World → Acting → Option (List Monitor) → Option Change
 goes_past world a monitors = option_and_then (λ (held : List Monitor). acts_on (with_monitors world held) a (after a.frame (drop 1 a.frame.stack.items))) monitors

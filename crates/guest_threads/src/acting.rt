@@ -10,7 +10,7 @@ ghost use Rattle.guest_threads.specs.Acts.{ActsIn, acting, past};
 ghost use Rattle.guest_threads.specs.Becomes.{Becomes};
 ghost use Rattle.guest_threads.specs.OnTop.{acts_on_top, goes_past, throws_object};
 
-use crate::frames::{go_to, place_behind};
+use crate::frames::{go_to, place_after};
 use crate::monitors::{enter, holds, leave};
 use crate::throwing::{throw, throw_new};
 use api_listing::Event;
@@ -140,7 +140,7 @@ fn enter_past(
 ) -> Result<(), StepFault>
     ensures { Becomes result (monitors.old, frame.old) (monitors.new, frame.new) (past frame.old (entered monitors.old number value)) }
 {
-    let at = place_behind(frame, 1, None)?;
+    let at = place_after(frame, 1, None)?;
     enter(monitors, number, value)?;
     go_to(frame, at, 1, None);
     Ok(())
@@ -155,7 +155,7 @@ fn leave_past(
 ) -> Result<(), StepFault>
     ensures { Becomes result (monitors.old, frame.old) (monitors.new, frame.new) (past frame.old (left monitors.old number value)) }
 {
-    let at = place_behind(frame, 1, None)?;
+    let at = place_after(frame, 1, None)?;
     if !leave(monitors, number, value) {
         return Err(StepFault::NotEnabled);
     }

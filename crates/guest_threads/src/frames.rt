@@ -49,9 +49,9 @@ fn has_room(stack: &Stack, taken: usize, value: Option<Value>) -> bool
     left < most
 }
 
-/// Where the frame goes on behind its instruction, which takes so many operands and leaves the result above the others; that is
+/// Where the frame goes on after its instruction, which takes so many operands and leaves the result above the others; that is
 /// not enabled where there is no room.
-pub fn place_behind(frame: &Frame, taken: usize, value: Option<Value>) -> Result<u32, StepFault>
+pub fn place_after(frame: &Frame, taken: usize, value: Option<Value>) -> Result<u32, StepFault>
     ensures is { CanGoOn result frame.now (option_to_list value ++ drop taken frame.now.stack.items) }
     ensures surely { frame.now.at < 2 ^ 32 - 1 → result ≢ Err faults.Memory }
 {
@@ -77,13 +77,13 @@ pub fn go_to(frame: &mut Frame, at: u32, taken: usize, value: Option<Value>)
     }
 }
 
-/// The frame goes on behind its instruction, which took so many operands, with the result above the others; that is not
+/// The frame goes on after its instruction, which took so many operands, with the result above the others; that is not
 /// enabled where there is no room.
 pub fn go_on(frame: &mut Frame, taken: usize, value: Option<Value>) -> Result<(), StepFault>
     ensures is { Becomes result frame.old frame.new (after frame.old (option_to_list value ++ drop taken frame.old.stack.items)) }
     ensures surely { frame.old.at < 2 ^ 32 - 1 → result ≢ Err faults.Memory }
 {
-    let at = place_behind(frame, taken, value)?;
+    let at = place_after(frame, taken, value)?;
     go_to(frame, at, taken, value);
     Ok(())
 }
@@ -136,7 +136,7 @@ fn listed_classes(program: &Indexed) -> u32
     program.program().listing.classes.len() as u32
 }
 
-/// A frame of the method, whose locals behind its arguments are null.
+/// A frame of the method, whose locals after its arguments are null.
 pub fn frame_of(
     alloc: Global,
     program: &Indexed,

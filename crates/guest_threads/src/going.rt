@@ -24,7 +24,7 @@ use mon_base::List;
 use std::alloc::Global;
 use type_lattice::Indexed;
 
-/// The top frame goes on behind its call, which took so many operands, with the result above the others.
+/// The top frame goes on after its call, which took so many operands, with the result above the others.
 pub fn pass_by(thread: &mut Thread, taken: usize, value: Option<Value>) -> Result<(), StepFault>
     ensures { Becomes result thread.old thread.new (gone_past thread.old thread.old.frames taken (option_to_list value)) }
 {

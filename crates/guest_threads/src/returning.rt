@@ -1,4 +1,4 @@
-//! Returns: the caller goes on behind its call, or the thread rests. (The Java Virtual Machine Specification, section 2.6.4.)
+//! Returns: the caller goes on after its call, or the thread rests. (The Java Virtual Machine Specification, section 2.6.4.)
 
 ghost use Rattle.std.specs.Prelude.{drop, length, ◌<◌, ◌≡◌};
 ghost use Rattle.bytecode_model.specs.declared.program.Program.{Program};

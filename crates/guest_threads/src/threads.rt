@@ -145,7 +145,7 @@ fn ended(alloc: Global) -> Thread
     }
 }
 
-/// The thread is put behind the others, while this one goes past its call, which took so many operands.
+/// The thread is put after the others, while this one goes past its call, which took so many operands.
 pub fn begin_beside(
     threads: &mut List<Thread>,
     begun: Thread,

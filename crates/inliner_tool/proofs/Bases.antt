@@ -11,7 +11,7 @@ use Rattle.bytecode_model.specs.Conditions.{code_in, codes_of}
 use Rattle.bytecode_model.specs.Heads.{is_abstract}
 use Rattle.bytecode_model.specs.Layout.{has_code}
 use Rattle.bytecode_model.specs.Sound.{IsSound, IsSoundClass}
-use Rattle.bytecode_model.specs.Standing.{AreStanding, IsStanding}
+use Rattle.bytecode_model.specs.LinkedClasses.{AreLinkedClasses, IsLinkedMethod}
 use Rattle.bytecode_model.proofs.Lists.{all_get}
 use Rattle.class_codec.specs.declared.tree.Attr.{Attr}
 use Rattle.class_codec.specs.declared.tree.Attr.TheVariants as attributes
@@ -38,7 +38,7 @@ not_so : (b : Bool) → true ≡ not b → b ≡ false
 not_so true e = absurd cc
 not_so false e = refl
 
-module _ (program : Program) (sound : IsSound program) (standing : AreStanding program) where
+module _ (program : Program) (sound : IsSound program) (standing : AreLinkedClasses program) where
   pub few_locals : (own index : ℕ) (class : LinkedClass) (method : Method) → slice_get program.classes own ≡ Some class → slice_get class.methods index ≡ Some method → has_code method ≡ true
       → method.max_locals < 2 ^ 16
   few_locals own index class method class_there method_there code =
@@ -46,7 +46,7 @@ module _ (program : Program) (sound : IsSound program) (standing : AreStanding p
       let of_class = all_get IsSoundClass program.classes own class sound.classes class_there in
       let member = there class.file.methods index (omega (arith, stands.count, slice_get_within class.methods index method method_there)) in
       let of = stands.members index member.0 method member.1 method_there in
-      let allowed = (all_get (IsStanding program class) class.methods index method stands.methods method_there).allowed in
+      let allowed = (all_get (IsLinkedMethod program class) class.methods index method stands.methods method_there).allowed in
       let concrete : is_abstract member.0.flags ≡ false = ap is_abstract (sym of.flags) ∙ not_so (is_abstract method.flags) (sym code ∙ allowed.code) in
       let one : length (codes_of member.0) ≡ 1 =
       eqb-true _ _ of.its ∙ ap (λ (b : Bool). cond b 0 1) concrete in

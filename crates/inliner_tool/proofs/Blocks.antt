@@ -11,7 +11,7 @@ use Rattle.block_template.specs.Blocks.{plan_of}
 use Rattle.block_template.specs.Good.{HasNumbers, PlansAreGood}
 use Rattle.cert_checker.specs.Judging.{IsAllowed, judged}
 use Rattle.cert_checker.specs.Secure.{Secure}
-use Rattle.cert_format.specs.Fits.{CanSpell}
+use Rattle.cert_format.specs.Fits.{IsEncodable}
 use Rattle.class_linking.specs.Fault.{Linked}
 use Rattle.class_linking.specs.Linking.{linked}
 use Rattle.class_weaving.specs.declared.woven.Woven.{Woven}
@@ -73,7 +73,7 @@ module _ (links : WovenLinks) (good : PlansAreGood) (inputs : InlineInputs) (kno
   pub of_inputs : IsWovenOf inputs.listing inputs.classes.files main given.client (plan_of given.policy given.mode) given.policy.vars made
   of_inputs = record {
     text = known.listed.text;
-    listed = known.listed.spells;
+    listed = known.listed.encodes;
     links = assembled_of inputs.classes.files inputs.listing main Original given.client client_links;
     sound = sound;
     good = good given.policy given.mode is_policy numbers;
@@ -83,7 +83,7 @@ module _ (links : WovenLinks) (good : PlansAreGood) (inputs : InlineInputs) (kno
 
   pub remade : (new : Program) × ((woven_links made.files inputs.listing main ≡ Ok new) × IsWoven given.client (plan_of given.policy given.mode) given.policy.vars new)
   remade =
-      links known.listed.text inputs.listing inputs.classes.files main given.client (plan_of given.policy given.mode) given.policy.vars made known.listed.spells
+      links known.listed.text inputs.listing inputs.classes.files main given.client (plan_of given.policy given.mode) given.policy.vars made known.listed.encodes
       (assembled_of inputs.classes.files inputs.listing main Original given.client client_links) sound (good given.policy given.mode is_policy numbers) is_policy.few_vars weaves
 
 module _ (main folder : List ℕ) (weaving : Weaving) (inputs : InlineInputs) (given : Given) (made : Woven) (links : original inputs.listing inputs.classes main ≡ Ok given.client)
@@ -124,10 +124,10 @@ module _ (main folder : List ℕ) (given : Given) (made : Woven) (program : Prog
 
 pub known_rewoven : (main folder : List ℕ) (given : Given) (made : Woven) (program : Program) → woven_links made.files given.client.listing main ≡ Ok program → unlinked program ≡ made.files
     → IsSound program → IsAllowed program given.policy (certificate_for given program)
-    → (is_written (certificate_for given program) ≡ true → CanSpell (length given.policy.vars) (certificate_for given program))
+    → (is_written (certificate_for given program) ≡ true → IsEncodable (length given.policy.vars) (certificate_for given program))
     → (r : Step Ready) → IfOk r (λ ready. Secure given.mode program given.policy) → IfOk r (λ ready. judged program given.policy (certificate_for given program) ≡ Ok ready.accepted) → IfOk r (λ ready. is_written (certificate_for given program) ≡ true) → IfOk r (λ ready. ready.outputs ≡ outputs_of folder program (certificate_for given program))
     → IfOk r (λ ready. IsRewoven main folder given made.files ready)
-known_rewoven main folder given made program links back sound allowed spells (Ok ready) secure judged written outputs = record {
+known_rewoven main folder given made program links back sound allowed encodes (Ok ready) secure judged written outputs = record {
   program = program;
   links = links;
   same = back;
@@ -137,8 +137,8 @@ known_rewoven main folder given made program links back sound allowed spells (Ok
   accepted = allowed;
   verdict = judged;
   secure = secure;
-  spells = spells written;
+  encodes = encodes written;
   written = written;
   outputs = outputs;
 }
-known_rewoven main folder given made program links back sound allowed spells (Err e) secure judged written outputs = tt
+known_rewoven main folder given made program links back sound allowed encodes (Err e) secure judged written outputs = tt

@@ -49,7 +49,7 @@ made_still files new after count again (Inline named) made makes = makes
 made_still files new after count again (Replay named) made makes = makes
 
 pub holds_still : (files new after : Files) (count again : Count) (named : NamedCheck) → Holds (record { old = files; new = new; count = count }) named → Holds (record { old = files; new = after; count = again }) named
-holds_still files new after count again named h = record { inputs = h.inputs; read = h.read; spells = h.spells; checked = h.checked }
+holds_still files new after count again named h = record { inputs = h.inputs; read = h.read; encodes = h.encodes; checked = h.checked }
 
 pub runs_still : (files new after : Files) (count again : Count) (named : NamedReplay) → ReplayedRuns (record { old = files; new = new; count = count }) named → ReplayedRuns (record { old = files; new = after; count = again }) named
 runs_still files new after count again named r = record { inputs = r.inputs; read = r.read; run = r.run }
@@ -99,8 +99,8 @@ begins_so files middle new first mid now before last named made makes begun = in
 -- ---- without a fault of the store
 
 -- What is made is answered.
-pub quiet_so : (seen : Seen) (named : NamedCommand) → (Rose seen.count.before seen.count.now → ⊥) → (step : Step Answer) → CarriesOut seen named step
+pub no_rise_so : (seen : Seen) (named : NamedCommand) → (Rose seen.count.before seen.count.now → ⊥) → (step : Step Answer) → CarriesOut seen named step
     → Then (Makes (readings_of seen) named) (λ made. Yields made.answer) step
-quiet_so seen named quiet (Ok answer) (made, makes, (is, written)) = (made, makes, is)
-quiet_so seen named quiet (Err e) (inl (makes, same)) = inl makes
-quiet_so seen named quiet (Err e) (inr (made, makes, (name, is, stops, caused))) = absurd (quiet caused.rose)
+no_rise_so seen named no_rise (Ok answer) (made, makes, (is, written)) = (made, makes, is)
+no_rise_so seen named no_rise (Err e) (inl (makes, same)) = inl makes
+no_rise_so seen named no_rise (Err e) (inr (made, makes, (name, is, stops, caused))) = absurd (no_rise caused.rose)

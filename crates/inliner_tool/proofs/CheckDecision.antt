@@ -32,26 +32,26 @@ use Rattle.inliner_tool.specs.Race.{racy}
 use Rattle.inliner_tool.specs.Steps.{Equals, Outcome, Reading, Step, outcome_step, stopped}
 use Rattle.inliner_tool.specs.Tool.{answer_status, refusal_status, status_of}
 use Rattle.inliner_tool.specs.Writing.{CarriesOut}
-use Rattle.inliner_tool.proofs.Carrying.{quiet_so}
+use Rattle.inliner_tool.proofs.Carrying.{no_rise_so}
 use Rattle.inliner_tool.proofs.Told.{MayRead, may_read, stops_once, tree_once}
 use Rattle.inliner_tool.proofs.ToldClasses.{MayClasses, classes_stop, may_classes, same_classes}
 
 -- ---- what is read
 
-module _ (files : Files) (count : Count) (named : NamedCheck) (quiet : Rose count.before count.now → ⊥) (told : IsSome files) (inputs : CheckInputs)
+module _ (files : Files) (count : Count) (named : NamedCheck) (no_rise : Rose count.before count.now → ⊥) (told : IsSome files) (inputs : CheckInputs)
     (listing_read : MayRead files named.listing listing_form inputs.listing) (policy_read : MayRead files named.policy (policy_form inputs.listing) inputs.policy)
     (certificate_read : MayRead files named.certificate (certificate_form (length inputs.policy.vars)) inputs.certificate)
     (classes_read : MayClasses files named.classes inputs.classes.files inputs.classes.total) where
   same_listing : (listing : Listing) → ReadsForm files count named.listing listing_form (Ok listing) → listing ≡ inputs.listing
-  same_listing listing is = tree_once files count named.listing listing_form inputs.listing told listing_read quiet listing is
+  same_listing listing is = tree_once files count named.listing listing_form inputs.listing told listing_read no_rise listing is
 
   same_policy : (listing : Listing) (policy : PolicyTree) → listing ≡ inputs.listing → ReadsForm files count named.policy (policy_form listing) (Ok policy) → policy ≡ inputs.policy
   same_policy listing policy same is =
-      tree_once files count named.policy (policy_form inputs.listing) inputs.policy told policy_read quiet policy (subst (λ (l : Listing). ReadsForm files count named.policy (policy_form l) (Ok policy)) same is)
+      tree_once files count named.policy (policy_form inputs.listing) inputs.policy told policy_read no_rise policy (subst (λ (l : Listing). ReadsForm files count named.policy (policy_form l) (Ok policy)) same is)
 
   same_certificate : (policy : PolicyTree) (certificate : Certificate) → policy ≡ inputs.policy → ReadsForm files count named.certificate (certificate_form (length policy.vars)) (Ok certificate) → certificate ≡ inputs.certificate
   same_certificate policy certificate same is =
-      tree_once files count named.certificate (certificate_form (length inputs.policy.vars)) inputs.certificate told certificate_read quiet certificate
+      tree_once files count named.certificate (certificate_form (length inputs.policy.vars)) inputs.certificate told certificate_read no_rise certificate
       (subst (λ (p : PolicyTree). ReadsForm files count named.certificate (certificate_form (length p.vars)) (Ok certificate)) same is)
 
   inputs_once : (other : CheckInputs) → ReadsCheck files count named (Ok other) → other ≡ inputs
@@ -59,24 +59,24 @@ module _ (files : Files) (count : Count) (named : NamedCheck) (quiet : Rose coun
       let a = same_listing listing first in
       let b = same_policy listing policy a second in
       let c = same_certificate policy certificate b third in
-      let d = same_classes files count told quiet named.classes classes inputs.classes fourth classes_read in
+      let d = same_classes files count told no_rise named.classes classes inputs.classes fourth classes_read in
       is ∙ rw (a, b, c, d) refl
 
   policy_stops : (listing : Listing) (stop : Stop) → listing ≡ inputs.listing → ReadsForm files count named.policy (policy_form listing) (Err stop) → stop ≡ stops.Memory
   policy_stops listing stop same is =
-      stops_once files count named.policy (policy_form inputs.listing) inputs.policy told policy_read quiet stop (subst (λ (l : Listing). ReadsForm files count named.policy (policy_form l) (Err stop)) same is)
+      stops_once files count named.policy (policy_form inputs.listing) inputs.policy told policy_read no_rise stop (subst (λ (l : Listing). ReadsForm files count named.policy (policy_form l) (Err stop)) same is)
 
   certificate_stops : (policy : PolicyTree) (stop : Stop) → policy ≡ inputs.policy → ReadsForm files count named.certificate (certificate_form (length policy.vars)) (Err stop) → stop ≡ stops.Memory
   certificate_stops policy stop same is =
-      stops_once files count named.certificate (certificate_form (length inputs.policy.vars)) inputs.certificate told certificate_read quiet stop
+      stops_once files count named.certificate (certificate_form (length inputs.policy.vars)) inputs.certificate told certificate_read no_rise stop
       (subst (λ (p : PolicyTree). ReadsForm files count named.certificate (certificate_form (length p.vars)) (Err stop)) same is)
 
   check_stops : (stop : Stop) → ReadsCheck files count named (Err stop) → stop ≡ stops.Memory
-  check_stops stop (inl first) = stops_once files count named.listing listing_form inputs.listing told listing_read quiet stop first
+  check_stops stop (inl first) = stops_once files count named.listing listing_form inputs.listing told listing_read no_rise stop first
   check_stops stop (inr (listing, first, inl second)) = policy_stops listing stop (same_listing listing first) second
   check_stops stop (inr (listing, first, inr (policy, second, inl third))) = certificate_stops policy stop (same_policy listing policy (same_listing listing first) second) third
   check_stops stop (inr (listing, first, inr (policy, second, inr (certificate, third, inl fourth)))) =
-      classes_stop files count told quiet named.classes inputs.classes.files inputs.classes.total stop classes_read fourth
+      classes_stop files count told no_rise named.classes inputs.classes.files inputs.classes.total stop classes_read fourth
   check_stops stop (inr (listing, first, inr (policy, second, inr (certificate, third, inr (classes, fourth, none))))) = absurd none
 
   -- What is made is made of what the files are.
@@ -88,10 +88,10 @@ module _ (files : Files) (count : Count) (named : NamedCheck) (quiet : Rose coun
   -- The outcome is that of what the files are.
   pub check_says : (new : Files) (outcome : Outcome) → CarriesOut (record { old = files; new = new; count = count }) (Check named) (outcome_step outcome)
       → Then (Checks named.main inputs) (λ made. Yields made.answer) (outcome_step outcome)
-  check_says new (Ok answer) carries = by (quiet_so (record { old = files; new = new; count = count }) (Check named) quiet (Ok answer) carries) where
+  check_says new (Ok answer) carries = by (no_rise_so (record { old = files; new = new; count = count }) (Check named) no_rise (Ok answer) carries) where
     by : Then (Then (Reading (ReadsCheck files count named)) (Checks named.main)) (λ made. Yields made.answer) (Ok answer) → Then (Checks named.main inputs) (λ made. Yields made.answer) (Ok answer)
     by (made, makes, is) = (made, checks_so (Ok made) (λ e. absurd cc) makes, is)
-  check_says new (Err refusal) carries = by (quiet_so (record { old = files; new = new; count = count }) (Check named) quiet (Err (ends.Refused refusal)) carries) where
+  check_says new (Err refusal) carries = by (no_rise_so (record { old = files; new = new; count = count }) (Check named) no_rise (Err (ends.Refused refusal)) carries) where
     by : Then (Then (Reading (ReadsCheck files count named)) (Checks named.main)) (λ made. Yields made.answer) (Err (ends.Refused refusal))
         → Then (Checks named.main inputs) (λ made. Yields made.answer) (Err (ends.Refused refusal))
     by (inl makes) = inl (checks_so (Err (ends.Refused refusal)) (λ e. absurd cc) makes)
@@ -132,7 +132,7 @@ verdict_decides policy program (Err (denials.Racy condition state first second))
 verdict_decides policy program (Err denials.Memory) refusal is = absurd cc
 
 pub check_decides : CheckDecides
-check_decides seen named outcome carries quiet names = by outcome (check_says seen.old seen.count named quiet names.told inputs listing policy certificate classes seen.new outcome carries) where
+check_decides seen named outcome carries no_rise names = by outcome (check_says seen.old seen.count named no_rise names.told inputs listing policy certificate classes seen.new outcome carries) where
   inputs : CheckInputs
   inputs = record { listing = names.listing; policy = names.policy; certificate = names.certificate; classes = names.classes }
 

@@ -130,4 +130,4 @@ module _ (vars : List Var) (maxint : ℤ) (low : pos 1 ≤ℤ maxint) (high : ma
 pub has_numbers : (listing : Listing) (tree : PolicyTree) → IsPolicyOf listing tree → HasNumbers (built tree)
 has_numbers listing tree is =
     clauses_built tree.vars tree.maxint is.sound.maxint_low is.sound.maxint_high _ tree.clauses is.sound.clauses
-    (clauses_fit listing.methods tree.vars tree.maxint is.spells.written.clauses tree.clauses is.spells.says.clauses)
+    (clauses_fit listing.methods tree.vars tree.maxint is.encodes.written.clauses tree.clauses is.encodes.says.clauses)

@@ -18,34 +18,34 @@ use Rattle.inliner_tool.specs.Inline.{Inlines}
 use Rattle.inliner_tool.specs.Policy.{Judges}
 use Rattle.inliner_tool.specs.Race.{Races}
 use Rattle.inliner_tool.specs.Replay.{Replays}
-use Rattle.inliner_tool.specs.Replies.{outcome_spelled, usage_spelled}
+use Rattle.inliner_tool.specs.Replies.{outcome_encoded, usage_encoded}
 use Rattle.inliner_tool.specs.Seen.{Seen}
 use Rattle.inliner_tool.specs.Show.{Shows}
 use Rattle.inliner_tool.specs.Steps.{Outcome, Step, outcome_step}
 use Rattle.inliner_tool.specs.Tool.{NamesNone, status_of}
 use Rattle.inliner_tool.specs.Writing.{CarriesOut}
-use Rattle.inliner_tool.proofs.Carrying.{quiet_so, told_so}
+use Rattle.inliner_tool.proofs.Carrying.{no_rise_so, told_so}
 
 -- ---- commands
 
-module _ (told : ToldAreRead) (contents : Contents) (count : Count) (quiet : Rose count.before count.now → ⊥) where
+module _ (told : ToldAreRead) (contents : Contents) (count : Count) (no_rise : Rose count.before count.now → ⊥) where
   -- the store tells these contents
   abbrev telling : Files → Seen
   telling new = record { old = Some contents; new = new; count = count }
 
   makes_so : (named : NamedCommand) (new : Files) (step : Step Made) → (step ≡ Err ends.Memory → ⊥) → Makes (readings_of (telling new)) named step → Makes (readings_in contents) named step
-  makes_so (Check named) new step other = told_so _ (check_read contents named) (λ r. told.check contents count named r quiet) (Checks named.main) step other
-  makes_so (Show named) new step other = told_so _ (show_read contents named) (λ r. told.show contents count named r quiet) Shows step other
-  makes_so (Policy named) new step other = told_so _ (policy_read contents named) (λ r. told.policy contents count named r quiet) Judges step other
-  makes_so (Race named) new step other = told_so _ (race_read contents named) (λ r. told.race contents count named r quiet) Races step other
-  makes_so (Inline named) new step other = told_so _ (inline_read contents named) (λ r. told.inline contents count named r quiet) (Inlines named) step other
-  makes_so (Replay named) new step other = told_so _ (replay_read contents named) (λ r. told.replay contents count named r quiet) (Replays named.main) step other
+  makes_so (Check named) new step other = told_so _ (check_read contents named) (λ r. told.check contents count named r no_rise) (Checks named.main) step other
+  makes_so (Show named) new step other = told_so _ (show_read contents named) (λ r. told.show contents count named r no_rise) Shows step other
+  makes_so (Policy named) new step other = told_so _ (policy_read contents named) (λ r. told.policy contents count named r no_rise) Judges step other
+  makes_so (Race named) new step other = told_so _ (race_read contents named) (λ r. told.race contents count named r no_rise) Races step other
+  makes_so (Inline named) new step other = told_so _ (inline_read contents named) (λ r. told.inline contents count named r no_rise) (Inlines named) step other
+  makes_so (Replay named) new step other = told_so _ (replay_read contents named) (λ r. told.replay contents count named r no_rise) (Replays named.main) step other
 
   gives_so : (named : NamedCommand) (new : Files) (outcome : Outcome) → CarriesOut (telling new) named (outcome_step outcome) → Gives contents named outcome
-  gives_so named new (Ok answer) carries = by (quiet_so (telling new) named quiet (Ok answer) carries) where
+  gives_so named new (Ok answer) carries = by (no_rise_so (telling new) named no_rise (Ok answer) carries) where
     by : Then (Makes (readings_of (telling new)) named) (λ made. Yields made.answer) (Ok answer) → Gives contents named (Ok answer)
     by (made, makes, is) = (made, makes_so named new (Ok made) (λ e. absurd cc) makes, is)
-  gives_so named new (Err refusal) carries = by (quiet_so (telling new) named quiet (Err (ends.Refused refusal)) carries) where
+  gives_so named new (Err refusal) carries = by (no_rise_so (telling new) named no_rise (Err (ends.Refused refusal)) carries) where
     by : Then (Makes (readings_of (telling new)) named) (λ made. Yields made.answer) (Err (ends.Refused refusal)) → Gives contents named (Err refusal)
     by (inl makes) = inl (makes_so named new (Err (ends.Refused refusal)) (λ e. absurd cc) makes)
     by (inr (made, makes, none)) = absurd none
@@ -54,18 +54,18 @@ module _ (told : ToldAreRead) (contents : Contents) (count : Count) (quiet : Ros
 
   -- What is printed for an outcome of their command is what is meant.
   pub outcome_decides : (words : List (List ℕ)) (new : Files) (named : NamedCommand) → IsCommand words named → (outcome : Outcome) → CarriesOut (telling new) named (outcome_step outcome)
-      → (text after : Option (List ℕ)) (status : Status) → status ≡ status_of outcome → Appends text after (outcome_spelled outcome) → Decides contents words text after status
+      → (text after : Option (List ℕ)) (status : Status) → status ≡ status_of outcome → Appends text after (outcome_encoded outcome) → Decides contents words text after status
   outcome_decides words new named is outcome carries text after status same appends = record {
-    printed = outcome_spelled outcome;
+    printed = outcome_encoded outcome;
     appends = appends;
     command = λ again of.
-        subst (λ (n : NamedCommand). ComesTo contents n status (outcome_spelled outcome)) (command_once words named again is of)
-        (record { outcome = outcome; gives = gives_so named new outcome carries; status_is = same; spelled = refl });
+        subst (λ (n : NamedCommand). ComesTo contents n status (outcome_encoded outcome)) (command_once words named again is of)
+        (record { outcome = outcome; gives = gives_so named new outcome carries; status_is = same; encoded = refl });
     usage = λ none. absurd (none named is);
   }
 
 -- So is the usage line.
-pub usage_decides : (contents : Contents) (words : List (List ℕ)) → NamesNone words → (text after : Option (List ℕ)) (status : Status) → status ≡ statuses.Usage → Appends text after usage_spelled
+pub usage_decides : (contents : Contents) (words : List (List ℕ)) → NamesNone words → (text after : Option (List ℕ)) (status : Status) → status ≡ statuses.Usage → Appends text after usage_encoded
     → Decides contents words text after status
 usage_decides contents words none text after status same appends =
-    record { printed = usage_spelled; appends = appends; command = λ named is. absurd (none named is); usage = λ of. (same, refl) }
+    record { printed = usage_encoded; appends = appends; command = λ named is. absurd (none named is); usage = λ of. (same, refl) }

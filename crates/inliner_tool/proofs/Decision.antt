@@ -23,7 +23,7 @@ use Rattle.inliner_tool.specs.Decision.{IsDecision, NamesPolicy, RaceDecides}
 use Rattle.inliner_tool.specs.Race.{Races, race_step, racy}
 use Rattle.inliner_tool.specs.Steps.{Outcome, Reading, outcome_step, stopped}
 use Rattle.inliner_tool.specs.Tool.{answer_status, refusal_status, status_of}
-use Rattle.inliner_tool.proofs.Carrying.{quiet_so}
+use Rattle.inliner_tool.proofs.Carrying.{no_rise_so}
 use Rattle.inliner_tool.proofs.Told.{may_read, stops_once, tree_once}
 
 -- ---- what is decided
@@ -39,15 +39,15 @@ step_decides policy listing (Err (faults.CellLimit first second count)) refusal 
     inr (ap refusal_status same)
 step_decides policy listing (Err faults.Memory) refusal is = absurd cc
 
-module _ (files : Files) (count : Count) (named : NamedRace) (quiet : Rose count.before count.now → ⊥) (names : NamesPolicy files named) where
+module _ (files : Files) (count : Count) (named : NamedRace) (no_rise : Rose count.before count.now → ⊥) (names : NamesPolicy files named) where
   listing_stops : (stop : Stop) → ReadsForm files count named.listing listing_form (Err stop) → stop ≡ stops.Memory
-  listing_stops stop is = stops_once files count named.listing listing_form names.listing names.told (may_read files named.listing listing_form names.listing names.listing_read) quiet stop is
+  listing_stops stop is = stops_once files count named.listing listing_form names.listing names.told (may_read files named.listing listing_form names.listing names.listing_read) no_rise stop is
 
   policy_stops : (listing : Listing) (stop : Stop) → ReadsForm files count named.listing listing_form (Ok listing) → ReadsForm files count named.policy (policy_form listing) (Err stop) → stop ≡ stops.Memory
   policy_stops listing stop first is =
-      let same = tree_once files count named.listing listing_form names.listing names.told (may_read files named.listing listing_form names.listing names.listing_read) quiet listing first in
+      let same = tree_once files count named.listing listing_form names.listing names.told (may_read files named.listing listing_form names.listing names.listing_read) no_rise listing first in
       let here = subst (λ (l : Listing). ReadsForm files count named.policy (policy_form l) (Err stop)) same is in
-      stops_once files count named.policy (policy_form names.listing) names.policy names.told (may_read files named.policy (policy_form names.listing) names.policy names.policy_read) quiet stop here
+      stops_once files count named.policy (policy_form names.listing) names.policy names.told (may_read files named.policy (policy_form names.listing) names.policy names.policy_read) no_rise stop here
 
   race_stops : (stop : Stop) → ReadsRace files count named (Err stop) → stop ≡ stops.Memory
   race_stops stop (inl first) = listing_stops stop first
@@ -65,4 +65,4 @@ module _ (files : Files) (count : Count) (named : NamedRace) (quiet : Rose count
   made_decides (Err refusal) (inr (made, makes, none)) = absurd none
 
 pub race_decides : RaceDecides
-race_decides seen named outcome carries quiet names = made_decides seen.old seen.count named quiet names outcome (quiet_so seen (Race named) quiet (outcome_step outcome) carries)
+race_decides seen named outcome carries no_rise names = made_decides seen.old seen.count named no_rise names outcome (no_rise_so seen (Race named) no_rise (outcome_step outcome) carries)

@@ -1,9 +1,9 @@
--- What is woven of inputs is typed and accepted, and its certificate can be spelled.
+-- What is woven of inputs is typed and accepted, and its certificate can be encoded.
 use Rattle.std.proofs.Common.{◌≡◌, ℕ, zero, suc, ◌+◌, ◌<◌, ◌≤◌, Bool, true, false, List, [], ◌∷◌, length, Some, Ok, refl, ap, sym, subst, ◌∙◌, arith}
 use Rattle.std.specs.Prelude.{◌&&◌, is_some, slice_get}
 use Rattle.std.proofs.lemmas.Option.{slice_get_within}
 use Rattle.api_listing.specs.declared.types.Listing.{Listing}
-use Rattle.api_listing.specs.Listing.{SpellsListing}
+use Rattle.api_listing.specs.Listing.{EncodesListing}
 use Rattle.block_logic.specs.Accepted.{IsAccepted}
 use Rattle.block_template.specs.Blocks.{plan_of}
 use Rattle.block_template.specs.Good.{PlansAreGood}
@@ -14,7 +14,7 @@ use Rattle.bytecode_model.specs.Named.{AreRightOperands}
 use Rattle.bytecode_model.specs.Layout.{IsLaidOut}
 use Rattle.bytecode_model.specs.Order.{IsInOrder}
 use Rattle.bytecode_model.specs.Sound.{IsSound, IsSoundClass, IsSoundMethod}
-use Rattle.bytecode_model.specs.Standing.{IsLinkedOf}
+use Rattle.bytecode_model.specs.LinkedClasses.{IsLinkedOf}
 use Rattle.bytecode_model.specs.Typed.{IsTyped}
 use Rattle.bytecode_model.proofs.Lists.{all_get}
 use Rattle.cert_format.specs.declared.certificate.Mode.{Mode}
@@ -36,8 +36,8 @@ use Rattle.woven_linking.specs.Links.{OriginalIsFree, WovenLinks}
 use Rattle.woven_linking.specs.Program.{IsWovenOf, WovenFilesComeBack, WovenFilesHaveRoom, WovenProgramIsLinked, WovenProgramIsSound}
 use Rattle.output_files.specs.Outputs.{is_written}
 use Rattle.cert_maker.specs.Told.{FitsTyping, told}
-use Rattle.cert_format.specs.Fits as spell
-use Rattle.class_codec.specs.Fits.{CanSpell}
+use Rattle.cert_format.specs.Fits as encode
+use Rattle.class_codec.specs.Fits.{IsEncodable}
 use Rattle.std.specs.List.{AllByRecursion}
 use Rattle.typed_runs.specs.Programs.{IsLinkedProgram}
 use Rattle.woven_typing.specs.Framing.{typing_of}
@@ -50,7 +50,7 @@ use Rattle.inliner_tool.specs.Programs.{woven_links}
 use Rattle.inliner_tool.specs.Weaving.{certificate_for}
 use Rattle.inliner_tool.proofs.Blocks.{numbers, of_inputs, remade, same_program}
 use Rattle.inliner_tool.proofs.Counting.{assembled_of}
-use Rattle.inliner_tool.proofs.Spelled.{can_spell}
+use Rattle.inliner_tool.proofs.Encoded.{is_encodable}
 
 and_false : (b : Bool) → (b && false) ≡ false
 and_false true = refl
@@ -85,15 +85,15 @@ module _ (links : WovenLinks) (good : PlansAreGood) (free : OriginalIsFree) (ord
     (client_links : linked inputs.classes.files inputs.listing main Original ≡ Ok given.client) (sound : IsSound given.client) (of : IsLinkedOf Original inputs.listing main given.client)
     (is : given.policy ≡ built inputs.policy) (sound_for : IsSoundFor given.client.listing given.policy) (weaves : woven given.client (plan_of given.policy given.mode) given.policy.vars ≡ Ok made)
     (typed : IsTyped given.client given.typing) (shaped : IsLaidOut given.client given.typing.frames)
-    (fits : AllByRecursion CanSpell made.files) (few : length made.files ≤ 1001) where
+    (fits : AllByRecursion IsEncodable made.files) (few : length made.files ≤ 1001) where
   new : (p : Program) × ((woven_links made.files inputs.listing main ≡ Ok p) × IsWoven given.client (plan_of given.policy given.mode) given.policy.vars p)
   new = remade links good inputs known main given made client_links sound is sound_for.read weaves
 
   told_kinds : TellsKinds given.client.listing given.policy
   told_kinds =
       let a : TellsKinds inputs.listing (built inputs.policy) =
-      tells known.listed.text inputs.listing inputs.policy known.listed.spells (kinds known.policy.text inputs.listing inputs.policy known.policy.spells)
-      (results known.policy.text inputs.listing inputs.policy known.policy.spells) in
+      tells known.listed.text inputs.listing inputs.policy known.listed.encodes (kinds known.policy.text inputs.listing inputs.policy known.policy.encodes)
+      (results known.policy.text inputs.listing inputs.policy known.policy.encodes) in
       let b : TellsKinds inputs.listing given.policy = subst (λ (x : Policy). TellsKinds inputs.listing x) (sym is) a in
       subst (λ (l : Listing). TellsKinds l given.policy) (sym of.listing_is) b
 
@@ -106,22 +106,22 @@ module _ (links : WovenLinks) (good : PlansAreGood) (free : OriginalIsFree) (ord
     tells = told_kinds;
     sound = sound;
     right = operands;
-    throws = knows known.listed.text given.client (subst (λ (l : Listing). SpellsListing known.listed.text l) (sym of.listing_is) known.listed.spells);
+    throws = knows known.listed.text given.client (subst (λ (l : Listing). EncodesListing known.listed.text l) (sym of.listing_is) known.listed.encodes);
     woven = new.1.1;
-    order = order known.listed.text inputs.listing made.files main Inlined new.0 known.listed.spells new.1.0;
+    order = order known.listed.text inputs.listing made.files main Inlined new.0 known.listed.encodes new.1.0;
   }
 
-  framed : IsTypedSo given.client new.0 given.policy given.mode given.typing
-  framed = types given.client new.0 given.policy given.mode given.typing so typed shaped
+  typed_here : IsTypedSo given.client new.0 given.policy given.mode given.typing
+  typed_here = types given.client new.0 given.policy given.mode given.typing so typed shaped
 
   still : IsTypedStill new.0 (typing_of given.client given.policy given.mode given.typing)
-  still = stays new.0 (typing_of given.client given.policy given.mode given.typing) framed.typed framed.shaped
+  still = stays new.0 (typing_of given.client given.policy given.mode given.typing) typed_here.typed typed_here.shaped
 
   accepted : IsSound new.0 → IsAccepted new.0 given.policy (certificate_for given new.0)
   accepted new_sound =
       accepts given.client new.0 given.policy given.mode (told new.0 (typing_of given.client given.policy given.mode given.typing)) sound_for.read
       (fits_listing given.client.listing given.policy.clauses sound_for.told) sound new_sound operands
-      (free known.listed.text inputs.listing inputs.classes.files main given.client known.listed.spells (assembled_of inputs.classes.files inputs.listing main Original given.client client_links))
+      (free known.listed.text inputs.listing inputs.classes.files main given.client known.listed.encodes (assembled_of inputs.classes.files inputs.listing main Original given.client client_links))
       new.1.1 still.typed still.shaped
       (stopped given.client new.0 given.policy given.mode given.typing reaches so shaped still)
 
@@ -137,9 +137,9 @@ module _ (links : WovenLinks) (good : PlansAreGood) (free : OriginalIsFree) (ord
   new_sound : IsSound (woven_program given made)
   new_sound = sound_so inputs.listing inputs.classes.files main given.client (plan_of given.policy given.mode) given.policy.vars made woven_of fits few
 
-  spelled : IsSound new.0 → FitsTyping (certificate_for given new.0).typing → is_written (certificate_for given new.0) ≡ true → spell.CanSpell (length given.policy.vars) (certificate_for given new.0)
-  spelled sound_new fits written =
-      can_spell given.client new.0 given.policy given.mode (told new.0 (typing_of given.client given.policy given.mode given.typing)) sound_for.read
+  encoded : IsSound new.0 → FitsTyping (certificate_for given new.0).typing → is_written (certificate_for given new.0) ≡ true → encode.IsEncodable (length given.policy.vars) (certificate_for given new.0)
+  encoded sound_new fits written =
+      is_encodable given.client new.0 given.policy given.mode (told new.0 (typing_of given.client given.policy given.mode given.typing)) sound_for.read
       (numbers links good inputs known main given made client_links sound is sound_for.read weaves) sound of.standing sound_new
       (accepted sound_new).frames (accepted sound_new).notes fits written
 
@@ -147,7 +147,7 @@ module _ (links : WovenLinks) (good : PlansAreGood) (free : OriginalIsFree) (ord
   accepted_again = subst (λ (p : Program). IsSound p → IsAccepted p given.policy (certificate_for given p)) same accepted new_sound
 
   order_again : IsInOrder (woven_program given made)
-  order_again = order known.listed.text inputs.listing made.files main Inlined (woven_program given made) known.listed.spells linked_again
+  order_again = order known.listed.text inputs.listing made.files main Inlined (woven_program given made) known.listed.encodes linked_again
 
   linked_of_new : IsLinkedOf Inlined inputs.listing main (woven_program given made)
   linked_of_new = named made.files inputs.listing main Inlined (woven_program given made) linked_again new_sound
@@ -157,7 +157,7 @@ module _ (links : WovenLinks) (good : PlansAreGood) (free : OriginalIsFree) (ord
     side = Inlined;
     main = main;
     text = known.listed.text;
-    listed = subst (SpellsListing known.listed.text) (sym linked_of_new.listing_is) known.listed.spells;
+    listed = subst (EncodesListing known.listed.text) (sym linked_of_new.listing_is) known.listed.encodes;
     linked = subst (λ (l : Listing). IsLinkedOf Inlined l main (woven_program given made)) (sym linked_of_new.listing_is) linked_of_new;
     sound = new_sound;
     order = order_again;
@@ -171,5 +171,5 @@ module _ (links : WovenLinks) (good : PlansAreGood) (free : OriginalIsFree) (ord
     back = back inputs.listing inputs.classes.files main given.client (plan_of given.policy given.mode) given.policy.vars made woven_of;
     linked = linked_program;
     accepted = accepted_again;
-    spells = subst (λ (p : Program). IsSound p → FitsTyping (certificate_for given p).typing → is_written (certificate_for given p) ≡ true → spell.CanSpell (length given.policy.vars) (certificate_for given p)) same spelled new_sound;
+    encodes = subst (λ (p : Program). IsSound p → FitsTyping (certificate_for given p).typing → is_written (certificate_for given p) ≡ true → encode.IsEncodable (length given.policy.vars) (certificate_for given p)) same encoded new_sound;
   }

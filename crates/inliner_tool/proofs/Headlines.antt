@@ -5,8 +5,8 @@ use Rattle.bytecode_model.specs.declared.program.Side.TheVariants.{Inlined}
 use Rattle.cert_format.specs.declared.certificate.Certificate.{Certificate}
 use Rattle.cert_format.specs.declared.certificate.Mode.{Mode}
 use Rattle.cert_format.specs.declared.certificate.Mode.TheVariants.{Hold, Release}
-use Rattle.cert_format.specs.Fits.{SpellsCertificate}
-use Rattle.cert_format.specs.Spelling.{spell_head}
+use Rattle.cert_format.specs.Fits.{EncodesCertificate}
+use Rattle.cert_format.specs.Encoding.{encode_head}
 use Rattle.class_linking.specs.Linking.{linked}
 use Rattle.command_words.specs.Words.{NamedCheck}
 use Rattle.mon_store.specs.Store.{Files, HasFile}
@@ -17,12 +17,12 @@ use Rattle.inliner_tool.proofs.Blocks.{limit_by}
 
 -- ---- the mode
 
-head_tells : (mode : Mode) (rest : List ℕ) → slice_get (spell_head mode ++ rest) 6 ≡ Some (mode_byte mode)
+head_tells : (mode : Mode) (rest : List ℕ) → slice_get (encode_head mode ++ rest) 6 ≡ Some (mode_byte mode)
 head_tells Hold rest = refl
 head_tells Release rest = refl
 
-mode_tells : (bytes : List ℕ) (vars : ℕ) (certificate : Certificate) → SpellsCertificate bytes vars certificate → slice_get bytes 6 ≡ Some (mode_byte certificate.mode)
-mode_tells bytes vars certificate spells = ap (λ (b : List ℕ). slice_get b 6) spells.is ∙ head_tells certificate.mode _
+mode_tells : (bytes : List ℕ) (vars : ℕ) (certificate : Certificate) → EncodesCertificate bytes vars certificate → slice_get bytes 6 ≡ Some (mode_byte certificate.mode)
+mode_tells bytes vars certificate encodes = ap (λ (b : List ℕ). slice_get b 6) encodes.is ∙ head_tells certificate.mode _
 
 -- ---- files
 
@@ -41,13 +41,13 @@ obeyed seen named holds =
     let inputs = holds.inputs in
     record {
       listing = inputs.listing;
-      listing_is = holds.spells.listing;
+      listing_is = holds.encodes.listing;
       policy = inputs.policy;
-      policy_is = holds.spells.policy;
+      policy_is = holds.encodes.policy;
       mode = inputs.certificate.mode;
-      mode_is = file_too _ _ (λ bytes spells. mode_tells bytes _ inputs.certificate spells) seen.old named.certificate holds.spells.certificate;
+      mode_is = file_too _ _ (λ bytes encodes. mode_tells bytes _ inputs.certificate encodes) seen.old named.certificate holds.encodes.certificate;
       classes = inputs.classes.files;
-      classes_are = holds.spells.classes;
+      classes_are = holds.encodes.classes;
       program = holds.checked.program;
       links = limit_by (nat_lt 16777216 inputs.classes.total) inputs.classes.total (linked inputs.classes.files inputs.listing named.main Inlined) holds.checked.program holds.checked.links;
       obeys = holds.checked.checked.secure;

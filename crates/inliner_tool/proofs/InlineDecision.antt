@@ -8,7 +8,7 @@ use Rattle.cert_checker.specs.declared.checking.Accepted.{Accepted}
 use Rattle.cert_format.specs.declared.certificate.Certificate.{Certificate}
 use Rattle.cert_format.specs.declared.certificate.Mode.{Mode}
 use Rattle.cert_format.specs.declared.typing.Typing.{Typing}
-use Rattle.cert_format.specs.Spelling.{spell_certificate}
+use Rattle.cert_format.specs.Encoding.{encode_certificate}
 use Rattle.class_weaving.specs.declared.woven.Woven.{Woven}
 use Rattle.class_weaving.specs.Woven.{woven}
 use Rattle.command_words.specs.InlineWords.{NamedInline}
@@ -34,7 +34,7 @@ use Rattle.inliner_tool.specs.Inline.{Inlines}
 use Rattle.inliner_tool.specs.InlineDecision.{InlineDecides, IsWeaving, NamesWoven}
 use Rattle.inliner_tool.specs.Steps.{Equals, Outcome, Reading, Step, outcome_step, stopped}
 use Rattle.inliner_tool.specs.Weaving.{Chosen, Fits, Plans, Told, Typed, certificate_for, mode_for, outputs_step, weave_step}
-use Rattle.inliner_tool.proofs.Carrying.{quiet_so}
+use Rattle.inliner_tool.proofs.Carrying.{no_rise_so}
 use Rattle.inliner_tool.proofs.RunDecision.{types_are_found}
 use Rattle.inliner_tool.proofs.Told.{may_read, stops_once, tree_once}
 use Rattle.inliner_tool.proofs.ToldClasses.{classes_stop, may_classes, same_classes}
@@ -52,11 +52,11 @@ module _ (files : Files) (named : NamedInline) (names : NamesWoven files named) 
   -- a certificate that is not written is too long
   long_only : (folder : List ℕ) (program : Program) (certificate : Certificate) (e : Ended) → Err e ≡ outputs_step folder program certificate → IsLong e
   long_only folder program certificate e is = by (is_written certificate) is where
-    by : (b : Bool) → Err e ≡ cond b (Ok (outputs_of folder program certificate)) (Err (ends.Refused (refusals.LongCertificate (length (spell_certificate certificate))))) → IsLong e
+    by : (b : Bool) → Err e ≡ cond b (Ok (outputs_of folder program certificate)) (Err (ends.Refused (refusals.LongCertificate (length (encode_certificate certificate))))) → IsLong e
     by true wrong = absurd cc
     by false long =
-        let same : e ≡ ends.Refused (refusals.LongCertificate (length (spell_certificate certificate))) = cc in
-        (length (spell_certificate certificate), same)
+        let same : e ≡ ends.Refused (refusals.LongCertificate (length (encode_certificate certificate))) = cc in
+        (length (encode_certificate certificate), same)
 
   outputs_fail : (folder : List ℕ) (program : Program) (certificate : Certificate) (accepted : Accepted) (e : Ended)
       → Then (Equals (outputs_step folder program certificate)) (Told program accepted) (Err e) → IsLong e
@@ -95,34 +95,34 @@ module _ (files : Files) (named : NamedInline) (names : NamesWoven files named) 
 
   -- ---- what is read
 
-  module _ (count : Count) (quiet : Rose count.before count.now → ⊥) where
+  module _ (count : Count) (no_rise : Rose count.before count.now → ⊥) where
     same_listing : (listing : Listing) → ReadsForm files count named.listing listing_form (Ok listing) → listing ≡ names.listing
     same_listing listing is =
-        tree_once files count named.listing listing_form names.listing names.told (may_read files named.listing listing_form names.listing names.listing_read) quiet listing is
+        tree_once files count named.listing listing_form names.listing names.told (may_read files named.listing listing_form names.listing names.listing_read) no_rise listing is
 
     same_policy : (listing : Listing) (policy : PolicyTree) → listing ≡ names.listing → ReadsForm files count named.policy (policy_form listing) (Ok policy) → policy ≡ names.policy
     same_policy listing policy same is =
-        tree_once files count named.policy (policy_form names.listing) names.policy names.told (may_read files named.policy (policy_form names.listing) names.policy names.policy_read) quiet policy
+        tree_once files count named.policy (policy_form names.listing) names.policy names.told (may_read files named.policy (policy_form names.listing) names.policy names.policy_read) no_rise policy
         (subst (λ (l : Listing). ReadsForm files count named.policy (policy_form l) (Ok policy)) same is)
 
     inputs_once : (inputs : InlineInputs) → ReadsInline files count named (Ok inputs) → inputs ≡ known
     inputs_once inputs (listing, first, (policy, second, (classes, third, is))) =
         let a = same_listing listing first in
         let b = same_policy listing policy a second in
-        let c = same_classes files count names.told quiet named.classes classes names.classes third (may_classes files named.classes names.classes.files names.classes.total names.classes_read) in
+        let c = same_classes files count names.told no_rise named.classes classes names.classes third (may_classes files named.classes names.classes.files names.classes.total names.classes_read) in
         is ∙ rw (a, b, c) refl
 
     policy_stops : (listing : Listing) (stop : Stop) → listing ≡ names.listing → ReadsForm files count named.policy (policy_form listing) (Err stop) → stop ≡ stops.Memory
     policy_stops listing stop same is =
-        stops_once files count named.policy (policy_form names.listing) names.policy names.told (may_read files named.policy (policy_form names.listing) names.policy names.policy_read) quiet stop
+        stops_once files count named.policy (policy_form names.listing) names.policy names.told (may_read files named.policy (policy_form names.listing) names.policy names.policy_read) no_rise stop
         (subst (λ (l : Listing). ReadsForm files count named.policy (policy_form l) (Err stop)) same is)
 
     inline_stops : (stop : Stop) → ReadsInline files count named (Err stop) → stop ≡ stops.Memory
     inline_stops stop (inl first) =
-        stops_once files count named.listing listing_form names.listing names.told (may_read files named.listing listing_form names.listing names.listing_read) quiet stop first
+        stops_once files count named.listing listing_form names.listing names.told (may_read files named.listing listing_form names.listing names.listing_read) no_rise stop first
     inline_stops stop (inr (listing, first, inl second)) = policy_stops listing stop (same_listing listing first) second
     inline_stops stop (inr (listing, first, inr (policy, second, inl third))) =
-        classes_stop files count names.told quiet named.classes names.classes.files names.classes.total stop (may_classes files named.classes names.classes.files names.classes.total names.classes_read) third
+        classes_stop files count names.told no_rise named.classes names.classes.files names.classes.total stop (may_classes files named.classes names.classes.files names.classes.total names.classes_read) third
     inline_stops stop (inr (listing, first, inr (policy, second, inr (classes, third, none)))) = absurd none
 
     -- ---- what is made
@@ -143,4 +143,4 @@ module _ (files : Files) (named : NamedInline) (names : NamesWoven files named) 
     made_decides (Err refusal) (inr (made, makes, none)) = absurd none
 
 pub inline_decides : InlineDecides
-inline_decides seen named outcome carries quiet names = made_decides seen.old named names seen.count quiet outcome (quiet_so seen (Inline named) quiet (outcome_step outcome) carries)
+inline_decides seen named outcome carries no_rise names = made_decides seen.old named names seen.count no_rise outcome (no_rise_so seen (Inline named) no_rise (outcome_step outcome) carries)

@@ -17,7 +17,7 @@ mod Blocks
 mod Bases
 mod Notes
 mod Names
-mod Spelled
+mod Encoded
 mod Expected
 mod Planned
 mod MadeOf

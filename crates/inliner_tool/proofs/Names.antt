@@ -13,7 +13,7 @@ use Rattle.cert_format.specs.declared.typing.VType.TheVariants as types
 use Rattle.cert_format.specs.Fits.{FitNames}
 use Rattle.cert_format.specs.Names.{Name, class_names, frame_names, method_names, name_index, names_of, type_names, typing_names, with_name, with_names}
 use Rattle.mon_base.specs.Widths.{u2, u4}
-use Rattle.cert_format.specs.Spelling.{spell_certificate, spell_classes, spell_head, spell_name, spell_names}
+use Rattle.cert_format.specs.Encoding.{encode_certificate, encode_classes, encode_head, encode_name, encode_names}
 use Rattle.output_files.specs.Outputs.{are_short, is_frame_short, is_type_short, is_written}
 
 -- ---- names that are short
@@ -60,25 +60,25 @@ each_short names (name ∷ more) all others = each_short (with_name names name) 
 
 -- ---- how many there are
 
-spelled_long : (names : List Name) → length names ≤ length (flat_map spell_name names)
-spelled_long [] = omega arith
-spelled_long (name ∷ names) =
+encoded_long : (names : List Name) → length names ≤ length (flat_map encode_name names)
+encoded_long [] = omega arith
+encoded_long (name ∷ names) =
     let two : length (u2 (length name)) ≡ 2 = refl in
-    omega (arith, length-append (spell_name name) (flat_map spell_name names), length-append (u2 (length name)) name, two, spelled_long names)
+    omega (arith, length-append (encode_name name) (flat_map encode_name names), length-append (u2 (length name)) name, two, encoded_long names)
 
-few_names : (c : Certificate) → length (names_of c.typing) ≤ length (spell_certificate c)
+few_names : (c : Certificate) → length (names_of c.typing) ≤ length (encode_certificate c)
 few_names c =
     let names = names_of c.typing in
-    let rest = spell_classes names (c.typing.frames, c.notes) in
+    let rest = encode_classes names (c.typing.frames, c.notes) in
     omega (
       arith,
-      length-append (spell_head c.mode) (spell_names names ++ rest),
-      length-append (spell_names names) rest,
-      length-append (u4 (length names)) (flat_map spell_name names),
-      spelled_long names,
+      length-append (encode_head c.mode) (encode_names names ++ rest),
+      length-append (encode_names names) rest,
+      length-append (u4 (length names)) (flat_map encode_name names),
+      encoded_long names,
     )
 
 pub fit_names : (c : Certificate) → is_written c ≡ true → FitNames (names_of c.typing)
 fit_names c e =
-    let both = and_parts (are_short c.typing) (nat_le (length (spell_certificate c)) 67108864) e in
-    (omega (arith, few_names c, leb-true (length (spell_certificate c)) 67108864 both.1), each_short [] (typing_names c.typing) tt (typing_short c.typing both.0))
+    let both = and_parts (are_short c.typing) (nat_le (length (encode_certificate c)) 67108864) e in
+    (omega (arith, few_names c, leb-true (length (encode_certificate c)) 67108864 both.1), each_short [] (typing_names c.typing) tt (typing_short c.typing both.0))

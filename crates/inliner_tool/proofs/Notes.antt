@@ -1,4 +1,4 @@
--- The notes of woven programs can be spelled.
+-- The notes of woven programs can be encoded.
 use Rattle.std.proofs.Common.{◌≡◌, ℕ, zero, suc, ◌+◌, ◌<◌, ◌≤◌, ℤ, Bool, true, false, cond, List, [], ◌∷◌, length, map, take, Option, Some, None, refl, ap, subst, arith, FitsSigned}
 use Rattle.std.specs.Prelude.{◌==◌, ◌&&◌, find, slice_get}
 use Rattle.std.specs.Int.{w32}
@@ -11,7 +11,7 @@ use Rattle.bytecode_model.proofs.Lists.{all_append, all_get}
 use Rattle.bytecode_model.specs.declared.program.Target.{Target}
 use Rattle.bytecode_model.specs.declared.program.Target.TheVariants as target
 use Rattle.block_logic.specs.Clauses.{clause_of, is_of_phase, needs}
-use Rattle.block_logic.specs.Standing.{branches_of}
+use Rattle.block_logic.specs.Weakening.{branches_of}
 use Rattle.block_logic.specs.Terms.{after_updates, base_term, update_of, variable_after, variables_after, written}
 use Rattle.block_template.specs.declared.item.Item.{Item}
 use Rattle.block_template.specs.declared.item.Role.{Role}

@@ -54,8 +54,8 @@ which (ℕ.suc a) (ℕ.suc b) = by (which a b)
 
 module _ (program : Program) (class method at : ℕ) (one : IsUntypedAt program class method at) where
   -- no earlier method is without types
-  none_behind : (own index place : ℕ) → IsUntypedAt program own index place → StandsBefore class method own index → ⊥
-  none_behind own index place other before =
+  none_after : (own index place : ℕ) → IsUntypedAt program own index place → StandsBefore class method own index → ⊥
+  none_after own index place other before =
       let within = one.within in
       one.fails (met_before program class one.of one.body (at + 1) (length one.body.insns) (omega (arith, within)) (other.earlier class method one.of one.body one.class_there one.method_there before))
 
@@ -73,10 +73,10 @@ untyped_once program class method at own index place one other = by (which class
   where
     by : (class < own) ⊎ ((class ≡ own) ⊎ (own < class)) → (method < index) ⊎ ((method ≡ index) ⊎ (index < method)) → (at < place) ⊎ ((at ≡ place) ⊎ (place < at))
         → (class ≡ own) × ((method ≡ index) × (at ≡ place))
-    by (inl less) m p = absurd (none_behind program class method at one own index place other (inl less))
-    by (inr (inr more)) m p = absurd (none_behind program own index place other class method at one (inl more))
-    by (inr (inl c)) (inl less) p = absurd (none_behind program class method at one own index place other (inr (c, less)))
-    by (inr (inl c)) (inr (inr more)) p = absurd (none_behind program own index place other class method at one (inr (sym c, more)))
+    by (inl less) m p = absurd (none_after program class method at one own index place other (inl less))
+    by (inr (inr more)) m p = absurd (none_after program own index place other class method at one (inl more))
+    by (inr (inl c)) (inl less) p = absurd (none_after program class method at one own index place other (inr (c, less)))
+    by (inr (inl c)) (inr (inr more)) p = absurd (none_after program own index place other class method at one (inr (sym c, more)))
     by (inr (inl c)) (inr (inl m)) (inr (inl p)) = (c, (m, p))
     by (inr (inl c)) (inr (inl m)) (inl less) =
         absurd (none_before program class method at one place (subst (λ (i : ℕ). IsUntypedAt program class i place) (sym m) (subst (λ (o : ℕ). IsUntypedAt program o index place) (sym c) other)) less)

@@ -32,7 +32,7 @@ pub sound_for : PoliciesTellTypes → KindsAreTold → ResultsAreTold → (input
 sound_for tell kinds results inputs known policy is sound listing same =
     let told : AllByRecursion (TellsTypes inputs.listing) policy.clauses =
     subst (λ (p : Policy). AllByRecursion (TellsTypes inputs.listing) p.clauses) (sym is)
-    (tells_types tell kinds results known.listed.text inputs.listing inputs.policy known.listed.spells known.policy) in
+    (tells_types tell kinds results known.listed.text inputs.listing inputs.policy known.listed.encodes known.policy) in
     subst (λ (l : Listing). IsSoundFor l policy) (sym same) (record { read = sound.0; named = sound.1; told = told })
 
 module _ (main folder : List ℕ) (weaving : Weaving) (inputs : InlineInputs) (client : Program) (links : Equals (original inputs.listing inputs.classes main) (Ok client)) where

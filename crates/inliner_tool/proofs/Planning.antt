@@ -9,7 +9,7 @@ module _ {A B : Type 0} (First : Step A → Type 0) (Second : A → Step B → T
   pub first_fails : (e : Ended) → UnlessMemory First (Err e) → UnlessMemory (Then First Second) (Err e)
   first_fails e told = ⊎_elim (λ h. inl (inl h)) (λ h. inr h) told
 
-  -- behind a step that does not
+  -- after a step that does not
   pub later : (a : A) → First (Ok a) → (result : Step B) → UnlessMemory (Second a) result → UnlessMemory (Then First Second) result
   later a first (Ok b) told = (a, first, told)
   later a first (Err e) told = ⊎_elim (λ h. inl (inr (a, first, h))) (λ h. inr h) told

@@ -9,23 +9,23 @@ use Rattle.bytecode_model.specs.declared.program.Program.{Program}
 use Rattle.bytecode_model.specs.declared.program.Side.TheVariants.{Inlined}
 use Rattle.bytecode_model.specs.Files.{max_files, unlinked}
 use Rattle.bytecode_model.specs.Sound.{IsSoundClass}
-use Rattle.bytecode_model.specs.Standing.{IsLinkedOf}
+use Rattle.bytecode_model.specs.LinkedClasses.{IsLinkedOf}
 use Rattle.bytecode_model.proofs.Lists.{all_get}
 use Rattle.cert_checker.specs.declared.checking.Accepted.{Accepted}
 use Rattle.cert_checker.specs.Judging.{judged}
 use Rattle.cert_format.specs.declared.certificate.Certificate.{Certificate}
 use Rattle.cert_format.specs.declared.fault.CertForm.{CertForm}
 use Rattle.cert_format.specs.declared.fault.CertForm.TheVariants as certificates
-use Rattle.cert_format.specs.Fits.{CanSpell}
+use Rattle.cert_format.specs.Fits.{IsEncodable}
 use Rattle.cert_format.specs.Reading.{certificate_of}
-use Rattle.cert_format.specs.Spelling.{spell_certificate}
+use Rattle.cert_format.specs.Encoding.{encode_certificate}
 use Rattle.cert_format.proofs.FileLaws.{is_only}
 use Rattle.class_codec.specs.declared.fault.ClassFault.{ClassFault}
 use Rattle.class_codec.specs.declared.fault.ClassFault.TheVariants as classes
 use Rattle.class_codec.specs.declared.tree.ClassFile.{ClassFile}
-use Rattle.class_codec.specs.Fits.{CanSpell as CanSpellClass}
+use Rattle.class_codec.specs.Fits.{IsEncodable as IsEncodableClass}
 use Rattle.class_codec.specs.Reading.{class_of}
-use Rattle.class_codec.specs.Spelling.{spelling}
+use Rattle.class_codec.specs.Encoding.{encoding}
 use Rattle.class_codec.proofs.FileLaws.{is_only as class_only}
 use Rattle.class_linking.specs.Laws.{LinkedAreNamed}
 use Rattle.class_linking.specs.Linking.{linked}
@@ -57,33 +57,33 @@ use Rattle.inliner_tool.proofs.Told.{MayRead, may_read}
 use Rattle.inliner_tool.proofs.ToldClasses.{MayClasses}
 use Rattle.inliner_tool.proofs.Written.{all_told, class_written, last_written, no_certificate}
 
--- ---- what is spelled is read
+-- ---- what is encoded is read
 
 answers_own : {X E : Type 0} (memory : E) (r : Result X E) → Answers memory r r
 answers_own memory (Ok x) = refl
 answers_own memory (Err e) = λ other. refl
 
-certificate_again : (vars : ℕ) (c : Certificate) → CanSpell vars c → (certificate_of vars (spell_certificate c) ≡ Ok c) ⊎ (certificate_of vars (spell_certificate c) ≡ Err certificates.Memory)
-certificate_again vars c fits = by (certificate_of vars (spell_certificate c)) refl
-    (is_only vars (spell_certificate c) (certificate_of vars (spell_certificate c)) c (answers_own certificates.Memory (certificate_of vars (spell_certificate c))) (record { is = refl; fits = fits })) where
-      by : (r : Result Certificate CertForm) → certificate_of vars (spell_certificate c) ≡ r → Answers certificates.Memory r (Ok c)
-          → (certificate_of vars (spell_certificate c) ≡ Ok c) ⊎ (certificate_of vars (spell_certificate c) ≡ Err certificates.Memory)
+certificate_again : (vars : ℕ) (c : Certificate) → IsEncodable vars c → (certificate_of vars (encode_certificate c) ≡ Ok c) ⊎ (certificate_of vars (encode_certificate c) ≡ Err certificates.Memory)
+certificate_again vars c fits = by (certificate_of vars (encode_certificate c)) refl
+    (is_only vars (encode_certificate c) (certificate_of vars (encode_certificate c)) c (answers_own certificates.Memory (certificate_of vars (encode_certificate c))) (record { is = refl; fits = fits })) where
+      by : (r : Result Certificate CertForm) → certificate_of vars (encode_certificate c) ≡ r → Answers certificates.Memory r (Ok c)
+          → (certificate_of vars (encode_certificate c) ≡ Ok c) ⊎ (certificate_of vars (encode_certificate c) ≡ Err certificates.Memory)
       by (Ok d) is given = inl (is ∙ sym given)
       by (Err certificates.Memory) is given = inr is
       by (Err (certificates.Form at)) is given =
           let wrong : ◌≡◌ {A = Result Certificate CertForm} (Ok c) (Err (certificates.Form at)) = given (λ e. absurd cc) in
           absurd cc
 
-class_again : (file : ClassFile) → CanSpellClass file → length (spelling file) ≤ 1048576 → (class_of (spelling file) ≡ Ok file) ⊎ (class_of (spelling file) ≡ Err classes.Memory)
-class_again file fits short = by (class_of (spelling file)) refl
-    (class_only (spelling file) (class_of (spelling file)) file (answers_own classes.Memory (class_of (spelling file))) (record { fits = fits; is = refl }) short) where
-      other : (e : ClassFault) → (e ≡ classes.Memory → ⊥) → class_of (spelling file) ≡ Err e → Answers classes.Memory (Err e) (Ok file)
-          → (class_of (spelling file) ≡ Ok file) ⊎ (class_of (spelling file) ≡ Err classes.Memory)
+class_again : (file : ClassFile) → IsEncodableClass file → length (encoding file) ≤ 1048576 → (class_of (encoding file) ≡ Ok file) ⊎ (class_of (encoding file) ≡ Err classes.Memory)
+class_again file fits short = by (class_of (encoding file)) refl
+    (class_only (encoding file) (class_of (encoding file)) file (answers_own classes.Memory (class_of (encoding file))) (record { fits = fits; is = refl }) short) where
+      other : (e : ClassFault) → (e ≡ classes.Memory → ⊥) → class_of (encoding file) ≡ Err e → Answers classes.Memory (Err e) (Ok file)
+          → (class_of (encoding file) ≡ Ok file) ⊎ (class_of (encoding file) ≡ Err classes.Memory)
       other e apart is given =
           let wrong : ◌≡◌ {A = Result ClassFile ClassFault} (Ok file) (Err e) = given apart in
           absurd cc
 
-      by : (r : Result ClassFile ClassFault) → class_of (spelling file) ≡ r → Answers classes.Memory r (Ok file) → (class_of (spelling file) ≡ Ok file) ⊎ (class_of (spelling file) ≡ Err classes.Memory)
+      by : (r : Result ClassFile ClassFault) → class_of (encoding file) ≡ r → Answers classes.Memory r (Ok file) → (class_of (encoding file) ≡ Ok file) ⊎ (class_of (encoding file) ≡ Err classes.Memory)
       by (Ok d) is given = inl (is ∙ sym given)
       by (Err classes.Memory) is given = inr is
       by (Err classes.Magic) is given = other classes.Magic (λ e. absurd cc) is given
@@ -96,27 +96,27 @@ class_again file fits short = by (class_of (spelling file)) refl
 
 -- ---- files
 
-certificate_may : (files : Files) (name : List ℕ) (vars : ℕ) (c : Certificate) → HasText files name (spell_certificate c) → CanSpell vars c → is_written c ≡ true → MayRead files name (certificate_form vars) c
+certificate_may : (files : Files) (name : List ℕ) (vars : ℕ) (c : Certificate) → HasText files name (encode_certificate c) → IsEncodable vars c → is_written c ≡ true → MayRead files name (certificate_form vars) c
 certificate_may files name vars c has fits written =
-    record { text = spell_certificate c; told = has; short = leb-true _ _ (and_parts (are_short c.typing) (nat_le (length (spell_certificate c)) 67108864) written).1; reads = by (certificate_again vars c fits) } where
-      by : (certificate_of vars (spell_certificate c) ≡ Ok c) ⊎ (certificate_of vars (spell_certificate c) ≡ Err certificates.Memory)
-          → ((certificate_form vars).reads (spell_certificate c) ≡ Ok c) ⊎ ((certificate_form vars).reads (spell_certificate c) ≡ Err faults.Memory)
+    record { text = encode_certificate c; told = has; short = leb-true _ _ (and_parts (are_short c.typing) (nat_le (length (encode_certificate c)) 67108864) written).1; reads = by (certificate_again vars c fits) } where
+      by : (certificate_of vars (encode_certificate c) ≡ Ok c) ⊎ (certificate_of vars (encode_certificate c) ≡ Err certificates.Memory)
+          → ((certificate_form vars).reads (encode_certificate c) ≡ Ok c) ⊎ ((certificate_form vars).reads (encode_certificate c) ≡ Err faults.Memory)
       by (inl e) = inl (ap certificate_read e)
       by (inr e) = inr (ap certificate_read e)
 
-class_may : (files : Files) (name : List ℕ) (file : ClassFile) → HasText files name (spelling file) → CanSpellClass file → length (spelling file) ≤ 1048576
-    → MayRead files name class_form (record { file = file; len = length (spelling file) })
-class_may files name file has fits short = record { text = spelling file; told = has; short = short; reads = by (class_again file fits short) } where
-  by : (class_of (spelling file) ≡ Ok file) ⊎ (class_of (spelling file) ≡ Err classes.Memory)
-      → (class_form.reads (spelling file) ≡ Ok (record { file = file; len = length (spelling file) })) ⊎ (class_form.reads (spelling file) ≡ Err faults.Memory)
-  by (inl e) = inl (ap (class_read (length (spelling file))) e)
-  by (inr e) = inr (ap (class_read (length (spelling file))) e)
+class_may : (files : Files) (name : List ℕ) (file : ClassFile) → HasText files name (encoding file) → IsEncodableClass file → length (encoding file) ≤ 1048576
+    → MayRead files name class_form (record { file = file; len = length (encoding file) })
+class_may files name file has fits short = record { text = encoding file; told = has; short = short; reads = by (class_again file fits short) } where
+  by : (class_of (encoding file) ≡ Ok file) ⊎ (class_of (encoding file) ≡ Err classes.Memory)
+      → (class_form.reads (encoding file) ≡ Ok (record { file = file; len = length (encoding file) })) ⊎ (class_form.reads (encoding file) ≡ Err faults.Memory)
+  by (inl e) = inl (ap (class_read (length (encoding file))) e)
+  by (inr e) = inr (ap (class_read (length (encoding file))) e)
 
 module _ (files : Files) (folder : List ℕ) where
   -- what is known of a class that was written
   record IsThere (c : LinkedClass) : Type 0 where
-    has : HasText files (class_name folder c) (spelling c.file)
-    fits : CanSpellClass c.file
+    has : HasText files (class_name folder c) (encoding c.file)
+    fits : IsEncodableClass c.file
     short : size_of c ≤ 1048576
 
   all_there : (list : List LinkedClass) → sizes_of list ≤ 16777216 → AllByRecursion IsThere list → MayClasses files (map (class_name folder) list) (map (λ (c : LinkedClass). c.file) list) (sizes_of list)
@@ -153,21 +153,21 @@ module _ (law : LinkedAreNamed) (seen : Seen) (named : NamedInline) (told : IsSo
 
   -- ---- what stands
 
-  written_so : new ≡ all_written old (map (class_output named.folder) program.classes ++ certificate_output named.folder (spell_certificate certificate) ∷ [])
+  written_so : new ≡ all_written old (map (class_output named.folder) program.classes ++ certificate_output named.folder (encode_certificate certificate) ∷ [])
   written_so = inlined.written ∙ ap (all_written old) inlined.planned.rewoven.outputs
 
   told_new : IsSome new
-  told_new = subst IsSome (sym written_so) (all_told (map (class_output named.folder) program.classes ++ certificate_output named.folder (spell_certificate certificate) ∷ []) old told)
+  told_new = subst IsSome (sym written_so) (all_told (map (class_output named.folder) program.classes ++ certificate_output named.folder (encode_certificate certificate) ∷ []) old told)
 
-  certificate_there : HasText new (certificate_name named.folder) (spell_certificate certificate)
+  certificate_there : HasText new (certificate_name named.folder) (encode_certificate certificate)
   certificate_there =
-      subst (λ (f : Files). HasText f (certificate_name named.folder) (spell_certificate certificate)) (sym written_so)
-      (last_written (map (class_output named.folder) program.classes) (certificate_output named.folder (spell_certificate certificate)) old)
+      subst (λ (f : Files). HasText f (certificate_name named.folder) (encode_certificate certificate)) (sym written_so)
+      (last_written (map (class_output named.folder) program.classes) (certificate_output named.folder (encode_certificate certificate)) old)
 
-  class_there : (i : ℕ) (c : LinkedClass) → slice_get program.classes i ≡ Some c → HasText new (class_name named.folder c) (spelling c.file)
+  class_there : (i : ℕ) (c : LinkedClass) → slice_get program.classes i ≡ Some c → HasText new (class_name named.folder c) (encoding c.file)
   class_there i c there =
-      subst (λ (f : Files). HasText f (class_name named.folder c) (spelling c.file)) (sym written_so)
-      (class_written named.folder program.classes (certificate_output named.folder (spell_certificate certificate)) old i c there (no_certificate named.folder c) (λ j d lt e same.
+      subst (λ (f : Files). HasText f (class_name named.folder c) (encoding c.file)) (sym written_so)
+      (class_written named.folder program.classes (certificate_output named.folder (encode_certificate certificate)) old i c there (no_certificate named.folder c) (λ j d lt e same.
       let one : j ≡ i = (linked_so.standing i c there).once j d e same in
       absurd (omega (arith, one, lt))))
 
@@ -187,7 +187,7 @@ module _ (law : LinkedAreNamed) (seen : Seen) (named : NamedInline) (told : IsSo
 
   certificate_read_so : MayRead new check.certificate (certificate_form (length tree.vars)) certificate
   certificate_read_so =
-      let fits : CanSpell (length tree.vars) certificate = subst (λ p. CanSpell (length p.vars) certificate) inlined.planned.policy inlined.planned.rewoven.spells in
+      let fits : IsEncodable (length tree.vars) certificate = subst (λ p. IsEncodable (length p.vars) certificate) inlined.planned.policy inlined.planned.rewoven.encodes in
       subst (λ (name : List ℕ). MayRead new name (certificate_form (length tree.vars)) certificate) (sym names.certificate)
       (certificate_may new (certificate_name named.folder) (length tree.vars) certificate certificate_there fits inlined.planned.rewoven.written)
 
@@ -211,8 +211,8 @@ module _ (law : LinkedAreNamed) (seen : Seen) (named : NamedInline) (told : IsSo
 
   pub accepted_again : (later : Files) (again : Count) (outcome : Outcome) → CarriesOut (record { old = new; new = later; count = again }) (Check check) (outcome_step outcome) → (Rose again.before again.now → ⊥)
       → status_of outcome ≡ statuses.Done
-  accepted_again later again outcome carries quiet =
-      by outcome (check_says new again check quiet told_new inputs (may_read new check.listing listing_form inlined.inputs.listing names.listing)
+  accepted_again later again outcome carries no_rise =
+      by outcome (check_says new again check no_rise told_new inputs (may_read new check.listing listing_form inlined.inputs.listing names.listing)
       (may_read new check.policy (policy_form inlined.inputs.listing) tree names.policy) certificate_read_so classes_there later outcome carries)
     where
       by : (outcome : Outcome) → Then (Checks check.main inputs) (λ made. Yields made.answer) (outcome_step outcome) → status_of outcome ≡ statuses.Done
@@ -223,6 +223,6 @@ module _ (law : LinkedAreNamed) (seen : Seen) (named : NamedInline) (told : IsSo
       by (Err refusal) (inr (made, checks, none)) = absurd none
 
 pub written_is_accepted : LinkedAreNamed → WrittenIsAccepted
-written_is_accepted law seen named told inlined check names again outcome same carries quiet =
+written_is_accepted law seen named told inlined check names again outcome same carries no_rise =
     accepted_again law seen named told inlined check names again.new again.count outcome
-    (subst (λ (files : Files). CarriesOut (record { old = files; new = again.new; count = again.count }) (Check check) (outcome_step outcome)) same carries) quiet
+    (subst (λ (files : Files). CarriesOut (record { old = files; new = again.new; count = again.count }) (Check check) (outcome_step outcome)) same carries) no_rise

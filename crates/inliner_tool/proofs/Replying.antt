@@ -11,7 +11,7 @@ use Rattle.inliner_tool.specs.declared.refusal.Ended.TheVariants as ends
 use Rattle.inliner_tool.specs.declared.refusal.Refusal.{Refusal}
 use Rattle.inliner_tool.specs.declared.tool.Status.{Status}
 use Rattle.inliner_tool.specs.declared.tool.Status.TheVariants as statuses
-use Rattle.inliner_tool.specs.Replies.{outcome_spelled, usage_spelled}
+use Rattle.inliner_tool.specs.Replies.{outcome_encoded, usage_encoded}
 use Rattle.inliner_tool.specs.Seen.{Seen}
 use Rattle.inliner_tool.specs.Steps.{Outcome, Step, UnlessMemory, outcome_step}
 use Rattle.inliner_tool.specs.Tool.{CheckedRuns, Holds, IsOutcomeStatus, NamesNone, Puts, Replies, Says, status_of}
@@ -21,13 +21,13 @@ use Rattle.inliner_tool.specs.Writing.{CarriesOut}
 
 -- The words of a command are those of no other.
 pub is_check : (words : List (List ℕ)) (command : NamedCommand) → IsCommand words command → (named : NamedCheck) → IsCheck words named → command ≡ Check named
-is_check words command is named spelled = command_once words command (Check named) is (record { spelled = spelled; full = is.full })
+is_check words command is named encoded = command_once words command (Check named) is (record { encoded = encoded; full = is.full })
 
 pub is_replay : (words : List (List ℕ)) (command : NamedCommand) → IsCommand words command → (named : NamedReplay) → IsReplay words named → command ≡ Replay named
-is_replay words command is named spelled = command_once words command (Replay named) is (record { spelled = spelled; full = is.full })
+is_replay words command is named encoded = command_once words command (Replay named) is (record { encoded = encoded; full = is.full })
 
 pub is_inline : (words : List (List ℕ)) (command : NamedCommand) → IsCommand words command → (named : NamedInline) → IsInline words named → command ≡ Inline named
-is_inline words command is named spelled = command_once words command (Inline named) is (record { spelled = spelled; full = is.full })
+is_inline words command is named encoded = command_once words command (Inline named) is (record { encoded = encoded; full = is.full })
 
 -- A program that was checked runs as its certificate types it.
 pub checked_runs : (seen : Seen) (named : NamedCheck) → Holds seen named → CheckedRuns seen named
@@ -52,9 +52,9 @@ refused_so P e refusal is told = by (subst (λ (x : Ended). UnlessMemory P (Err 
 -- Without a fault of the sink, and unless memory ran out, it is the output, and the status is the one that it was to end with.
 pub puts_plain : (text after : Option (List ℕ)) (rose : Type 0) (printed : List ℕ) (status result : Status) → Puts text after rose printed status result → (rose → ⊥) → (result ≡ statuses.Memory → ⊥)
     → (result ≡ status) × Appends text after printed
-puts_plain text after rose printed status result (inl is) quiet other = is
-puts_plain text after rose printed status result (inr (inl (same, risen, front))) quiet other = absurd (quiet risen)
-puts_plain text after rose printed status result (inr (inr (memory, same))) quiet other = absurd (other memory)
+puts_plain text after rose printed status result (inl is) no_rise other = is
+puts_plain text after rose printed status result (inr (inl (same, risen, front))) no_rise other = absurd (no_rise risen)
+puts_plain text after rose printed status result (inr (inr (memory, same))) no_rise other = absurd (other memory)
 
 -- It ends well only where it was to.
 pub puts_no : (text after : Option (List ℕ)) (rose : Type 0) (printed : List ℕ) (status result : Status) → Puts text after rose printed status result → (status ≡ statuses.Done → ⊥) → result ≡ statuses.Done → ⊥
@@ -69,7 +69,7 @@ puts_no text after rose printed status result (inr (inr (memory, same))) never d
 module _ (seen : Seen) (words : List (List ℕ)) (text after : Option (List ℕ)) (rose : Type 0) where
   -- ---- the usage line
 
-  pub usage_replied : NamesNone words → seen.new ≡ seen.old → (result : Status) → Puts text after rose usage_spelled statuses.Usage result → Replies seen words text after rose result
+  pub usage_replied : NamesNone words → seen.new ≡ seen.old → (result : Status) → Puts text after rose usage_encoded statuses.Usage result → Replies seen words text after rose result
   usage_replied none same result (inl (is, appends)) = subst (Replies seen words text after rose) (sym is) (none, same, appends)
   usage_replied none same result (inr (inl (is, risen, front))) = subst (Replies seen words text after rose) (sym is) (risen, inl (none, same, front))
   usage_replied none same result (inr (inr (memory, stays))) = subst (Replies seen words text after rose) (sym memory) stays
@@ -80,19 +80,19 @@ module _ (seen : Seen) (words : List (List ℕ)) (text after : Option (List ℕ)
     says : (So : Outcome → Type 0) → So outcome → Says seen words So
     says So so = record { named = named; command = is; outcome = outcome; carries = carries; so = so }
 
-    plain : (status : Status) → IsOutcomeStatus status → status ≡ status_of outcome → Appends text after (outcome_spelled outcome) → Replies seen words text after rose status
-    plain statuses.Done kind same appends = says (λ o. (statuses.Done ≡ status_of o) × Appends text after (outcome_spelled o)) (same, appends)
-    plain statuses.Denied kind same appends = says (λ o. (statuses.Denied ≡ status_of o) × Appends text after (outcome_spelled o)) (same, appends)
+    plain : (status : Status) → IsOutcomeStatus status → status ≡ status_of outcome → Appends text after (outcome_encoded outcome) → Replies seen words text after rose status
+    plain statuses.Done kind same appends = says (λ o. (statuses.Done ≡ status_of o) × Appends text after (outcome_encoded o)) (same, appends)
+    plain statuses.Denied kind same appends = says (λ o. (statuses.Denied ≡ status_of o) × Appends text after (outcome_encoded o)) (same, appends)
     plain statuses.Usage kind same appends = absurd kind
-    plain statuses.Input kind same appends = says (λ o. (statuses.Input ≡ status_of o) × Appends text after (outcome_spelled o)) (same, appends)
-    plain statuses.Overflow kind same appends = says (λ o. (statuses.Overflow ≡ status_of o) × Appends text after (outcome_spelled o)) (same, appends)
-    plain statuses.StoreFault kind same appends = says (λ o. (statuses.StoreFault ≡ status_of o) × Appends text after (outcome_spelled o)) (same, appends)
+    plain statuses.Input kind same appends = says (λ o. (statuses.Input ≡ status_of o) × Appends text after (outcome_encoded o)) (same, appends)
+    plain statuses.Overflow kind same appends = says (λ o. (statuses.Overflow ≡ status_of o) × Appends text after (outcome_encoded o)) (same, appends)
+    plain statuses.StoreFault kind same appends = says (λ o. (statuses.StoreFault ≡ status_of o) × Appends text after (outcome_encoded o)) (same, appends)
     plain statuses.SinkFault kind same appends = absurd kind
     plain statuses.Memory kind same appends = absurd kind
 
-    pub outcome_replied : (status : Status) → IsOutcomeStatus status → status ≡ status_of outcome → (result : Status) → Puts text after rose (outcome_spelled outcome) status result
+    pub outcome_replied : (status : Status) → IsOutcomeStatus status → status ≡ status_of outcome → (result : Status) → Puts text after rose (outcome_encoded outcome) status result
         → Replies seen words text after rose result
     outcome_replied status kind same result (inl (is, appends)) = subst (Replies seen words text after rose) (sym is) (plain status kind same appends)
     outcome_replied status kind same result (inr (inl (fault, risen, front))) =
-        subst (Replies seen words text after rose) (sym fault) (risen, inr (says (λ o. AppendsFront text after (outcome_spelled o)) front))
+        subst (Replies seen words text after rose) (sym fault) (risen, inr (says (λ o. AppendsFront text after (outcome_encoded o)) front))
     outcome_replied status kind same result (inr (inr (memory, stays))) = subst (Replies seen words text after rose) (sym memory) stays

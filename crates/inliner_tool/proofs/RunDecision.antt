@@ -32,7 +32,7 @@ use Rattle.inliner_tool.specs.Replay.{Replays, Tells, run_told}
 use Rattle.inliner_tool.specs.ReplayDecision.{NamesRun, ReplayDecides}
 use Rattle.inliner_tool.specs.Steps.{Outcome, Reading, Step, outcome_step, stopped}
 use Rattle.inliner_tool.specs.Tool.{answer_status, refusal_status, status_of}
-use Rattle.inliner_tool.proofs.Carrying.{quiet_so}
+use Rattle.inliner_tool.proofs.Carrying.{no_rise_so}
 use Rattle.inliner_tool.proofs.Told.{may_read, stops_once, tree_once}
 use Rattle.inliner_tool.proofs.ToldClasses.{classes_stop, may_classes, same_classes}
 use Rattle.type_infer.specs.Untyped.{IsTypable, IsUntypedAt}
@@ -50,7 +50,7 @@ types_are_found program typable e (class, method, at, is, untyped) = typed_nowhe
 
 -- ---- what is told
 
-module _ (files : Files) (count : Count) (named : NamedReplay) (quiet : Rose count.before count.now → ⊥) (names : NamesRun files named) where
+module _ (files : Files) (count : Count) (named : NamedReplay) (no_rise : Rose count.before count.now → ⊥) (names : NamesRun files named) where
   run_decides : (program : Program) (n : ℕ) (result : Result Replayed ReplayFault) (refusal : Refusal) → Err (ends.Refused refusal) ≡ run_told program n result → IsDecision (refusal_status refusal)
   run_decides program n (Ok run) refusal is = absurd cc
   run_decides program n (Err (faults.NotEnabled index)) refusal is =
@@ -61,12 +61,12 @@ module _ (files : Files) (count : Count) (named : NamedReplay) (quiet : Rose cou
   -- the inputs are those that the files are
   same_listing : (listing : Listing) → ReadsForm files count named.listing listing_form (Ok listing) → listing ≡ names.listing
   same_listing listing read =
-      tree_once files count named.listing listing_form names.listing names.told (may_read files named.listing listing_form names.listing names.listing_read) quiet listing read
+      tree_once files count named.listing listing_form names.listing names.told (may_read files named.listing listing_form names.listing names.listing_read) no_rise listing read
 
   linked_same : (listing : Listing) (classes : Classes) → listing ≡ names.listing → ReadsClasses files count named.classes (Ok classes) → program_of listing classes named.main Inlined ≡ Ok names.program
   linked_same listing classes same read =
       let is : classes ≡ names.classes =
-      same_classes files count names.told quiet named.classes classes names.classes read (may_classes files named.classes names.classes.files names.classes.total names.classes_read) in
+      same_classes files count names.told no_rise named.classes classes names.classes read (may_classes files named.classes names.classes.files names.classes.total names.classes_read) in
       rw (same, is) names.links
 
   told_decides : (inputs : ReplayInputs) (refusal : Refusal) → program_of inputs.listing inputs.classes named.main Inlined ≡ Ok names.program → Tells named.main inputs (Err (ends.Refused refusal))
@@ -89,14 +89,14 @@ module _ (files : Files) (count : Count) (named : NamedReplay) (quiet : Rose cou
   record_stops : (listing : Listing) (stop : Stop) → ReadsForm files count named.listing listing_form (Ok listing) → ReadsForm files count named.recorded (record_form listing) (Err stop) → stop ≡ stops.Memory
   record_stops listing stop first is =
       let here = subst (λ (l : Listing). ReadsForm files count named.recorded (record_form l) (Err stop)) (same_listing listing first) is in
-      stops_once files count named.recorded (record_form names.listing) names.recorded names.told (may_read files named.recorded (record_form names.listing) names.recorded names.record_read) quiet stop here
+      stops_once files count named.recorded (record_form names.listing) names.recorded names.told (may_read files named.recorded (record_form names.listing) names.recorded names.record_read) no_rise stop here
 
   run_stops : (stop : Stop) → ReadsReplay files count named (Err stop) → stop ≡ stops.Memory
   run_stops stop (inl first) =
-      stops_once files count named.listing listing_form names.listing names.told (may_read files named.listing listing_form names.listing names.listing_read) quiet stop first
+      stops_once files count named.listing listing_form names.listing names.told (may_read files named.listing listing_form names.listing names.listing_read) no_rise stop first
   run_stops stop (inr (listing, first, inl second)) = record_stops listing stop first second
   run_stops stop (inr (listing, first, inr (recorded, second, inl third))) =
-      classes_stop files count names.told quiet named.classes names.classes.files names.classes.total stop (may_classes files named.classes names.classes.files names.classes.total names.classes_read) third
+      classes_stop files count names.told no_rise named.classes names.classes.files names.classes.total stop (may_classes files named.classes names.classes.files names.classes.total names.classes_read) third
   run_stops stop (inr (listing, first, inr (recorded, second, inr (classes, third, none)))) = absurd none
 
   replays_decide : (outcome : Outcome) → Then (Then (Reading (ReadsReplay files count named)) (Replays named.main)) (λ made. Yields made.answer) (outcome_step outcome) → IsDecision (status_of outcome)
@@ -109,4 +109,4 @@ module _ (files : Files) (count : Count) (named : NamedReplay) (quiet : Rose cou
   replays_decide (Err refusal) (inr (made, makes, none)) = absurd none
 
 pub replay_decides : ReplayDecides
-replay_decides seen named outcome carries quiet names = replays_decide seen.old seen.count named quiet names outcome (quiet_so seen (Replay named) quiet (outcome_step outcome) carries)
+replay_decides seen named outcome carries no_rise names = replays_decide seen.old seen.count named no_rise names outcome (no_rise_so seen (Replay named) no_rise (outcome_step outcome) carries)

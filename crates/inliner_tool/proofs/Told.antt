@@ -42,7 +42,7 @@ pub record MayRead {A : Type 0} (files : Files) (name : List ℕ) (form : Form A
 pub may_read : {A : Type 0} (files : Files) (name : List ℕ) (form : Form A) (tree : A) → IsRead files name form (Ok tree) → MayRead files name form tree
 may_read files name form tree read = record { text = read.text; told = read.told; short = read.short; reads = inl read.reads }
 
-module _ {A : Type 0} (files : Files) (count : Count) (name : List ℕ) (form : Form A) (tree : A) (told : IsSome files) (read : MayRead files name form tree) (quiet : Rose count.before count.now → ⊥) where
+module _ {A : Type 0} (files : Files) (count : Count) (name : List ℕ) (form : Form A) (tree : A) (told : IsSome files) (read : MayRead files name form tree) (no_rise : Rose count.before count.now → ⊥) where
   -- what else the file is read as is the same
   read_once : (answer : Result A InputFault) → IsRead files name form answer → (answer ≡ Ok tree) ⊎ (answer ≡ Err faults.Memory)
   read_once answer other =
@@ -75,7 +75,7 @@ module _ {A : Type 0} (files : Files) (count : Count) (name : List ℕ) (form : 
         subst IsNoMemory same other
 
   not_unread : IsUnread files count name → ⊥
-  not_unread (inl caused) = quiet caused.rose
+  not_unread (inl caused) = no_rise caused.rose
   not_unread (inr lacks) = told_lacks (λ bytes. read.text ≡ bytes) files name read.told lacks
 
   -- only memory stops the reading of it

@@ -38,7 +38,7 @@ one_of files [] name later (class ∷ classes) total are = record { class = reco
 one_of files (first ∷ before) name later [] total are = absurd are
 one_of files (first ∷ before) name later (class ∷ classes) total are = one_of files before name later classes are.1 are.4
 
-module _ (files : Files) (count : Count) (told : IsSome files) (quiet : Rose count.before count.now → ⊥) where
+module _ (files : Files) (count : Count) (told : IsSome files) (no_rise : Rose count.before count.now → ⊥) where
   -- what else the files are read as is the same
   pub classes_once : (names : List (List ℕ)) (cs ds : List ClassFile) (m n : ℕ) → AreClasses files names cs m → MayClasses files names ds n → (cs ≡ ds) × (m ≡ n)
   classes_once [] [] [] m n a b = (refl, a ∙ sym b)
@@ -49,7 +49,7 @@ module _ (files : Files) (count : Count) (told : IsSome files) (quiet : Rose cou
   classes_once (name ∷ names) (x ∷ cs) (y ∷ ds) m n a b =
       let first : ReadClass = record { file = x; len = a.0 } in
       let second : ReadClass = record { file = y; len = b.0 } in
-      let same : first ≡ second = tree_once files count name class_form second told b.3 quiet first a.3 in
+      let same : first ≡ second = tree_once files count name class_form second told b.3 no_rise first a.3 in
       let file : x ≡ y = ap (λ (c : ReadClass). c.file) same in
       let len : a.0 ≡ b.0 = ap (λ (c : ReadClass). c.len) same in
       let others = classes_once names cs ds a.1 b.1 a.4 b.4 in
@@ -66,7 +66,7 @@ module _ (files : Files) (count : Count) (told : IsSome files) (quiet : Rose cou
   among : (names : List (List ℕ)) (classes : List ClassFile) (total : ℕ) (stop : Stop) → MayClasses files names classes total → StopsAmong files count names stop → stop ≡ stops.Memory
   among names classes total stop are stops =
       let one = one_of files stops.before stops.name stops.later classes total (subst (λ (ns : List (List ℕ)). MayClasses files ns classes total) stops.whole are) in
-      stops_once files count stops.name class_form one.class told one.read quiet stop stops.stops
+      stops_once files count stops.name class_form one.class told one.read no_rise stop stops.stops
 
   pub classes_stop : (names : List (List ℕ)) (classes : List ClassFile) (total : ℕ) (stop : Stop) → MayClasses files names classes total → ReadsClasses files count names (Err stop) → stop ≡ stops.Memory
   classes_stop names classes total (stops.Input bad fault) are reads = among names classes total (stops.Input bad fault) are reads

@@ -3,7 +3,7 @@ use Rattle.std.proofs.Common.{◌≡◌, Option, Some, None, Result, Ok, Err, re
 use Rattle.std.specs.Prelude.{IfOk, IsSome, option_map}
 use Rattle.bytecode_model.specs.declared.program.Program.{Program}
 use Rattle.bytecode_model.specs.Sound.{IsSound}
-use Rattle.bytecode_model.specs.Standing.{AreLiterals}
+use Rattle.bytecode_model.specs.LinkedClasses.{AreLiterals}
 use Rattle.bytecode_model.specs.Targets.{AreNamed}
 use Rattle.conspec_automaton.specs.Building.{built}
 use Rattle.conspec_parse.specs.Telling.{KindsAreTold, ResultsAreTold}

@@ -5,7 +5,7 @@ use Rattle.std.specs.List.{AllByRecursion}
 use Rattle.std.proofs.lemmas.List.{append_cancel_left, append_cancel_right, reverse-append}
 use Rattle.std.proofs.lemmas.Slice.Eq.{bytes_eq-Decides}
 use Rattle.bytecode_model.specs.declared.program.LinkedClass.{LinkedClass}
-use Rattle.class_codec.specs.Spelling.{spelling}
+use Rattle.class_codec.specs.Encoding.{encoding}
 use Rattle.mon_store.specs.declared.outputs.Output.{Output}
 use Rattle.mon_store.specs.Outputs.{all_written}
 use Rattle.mon_store.specs.Store.{Files, written}
@@ -71,7 +71,7 @@ no_certificate folder c e =
     let last : 101 ≡ 115 = ap (λ (l : List ℕ). get_or l 0 0) back in
     absurd (omega (arith, last))
 
--- the names of classes behind one are others
+-- the names of classes after one are others
 module _ (folder : List ℕ) where
   apart : (c : LinkedClass) (classes : List LinkedClass) (o : Output) → o.name ≢ class_name folder c
       → ((j : ℕ) (d : LinkedClass) → slice_get classes j ≡ Some d → d.name ≢ c.name) → AllByRecursion (λ (x : Output). x.name ≢ class_name folder c) (map (class_output folder) classes ++ o ∷ [])
@@ -81,12 +81,12 @@ module _ (folder : List ℕ) where
   -- Where no two classes have one name, each class file stands.
   pub class_written : (classes : List LinkedClass) (o : Output) (files : Files) (i : ℕ) (c : LinkedClass) → slice_get classes i ≡ Some c → o.name ≢ class_name folder c
       → ((j : ℕ) (d : LinkedClass) → i < j → slice_get classes j ≡ Some d → d.name ≢ c.name)
-      → HasText (all_written files (map (class_output folder) classes ++ o ∷ [])) (class_name folder c) (spelling c.file)
+      → HasText (all_written files (map (class_output folder) classes ++ o ∷ [])) (class_name folder c) (encoding c.file)
   class_written [] o files i c there last others = absurd cc
   class_written (x ∷ classes) o files zero c there last others =
       let same : x ≡ c = cc in
-      subst (λ (y : LinkedClass). HasText (all_written files (map (class_output folder) (y ∷ classes) ++ o ∷ [])) (class_name folder c) (spelling c.file)) (sym same)
-      (kept (map (class_output folder) classes ++ o ∷ []) (written files (class_name folder c) (spelling c.file)) (class_name folder c) (spelling c.file)
-      (apart c classes o last (λ j d e. others (suc j) d (omega arith) e)) (this_written files (class_name folder c) (spelling c.file)))
+      subst (λ (y : LinkedClass). HasText (all_written files (map (class_output folder) (y ∷ classes) ++ o ∷ [])) (class_name folder c) (encoding c.file)) (sym same)
+      (kept (map (class_output folder) classes ++ o ∷ []) (written files (class_name folder c) (encoding c.file)) (class_name folder c) (encoding c.file)
+      (apart c classes o last (λ j d e. others (suc j) d (omega arith) e)) (this_written files (class_name folder c) (encoding c.file)))
   class_written (x ∷ classes) o files (suc i) c there last others =
-      class_written classes o (written files (class_name folder x) (spelling x.file)) i c there last (λ j d lt e. others (suc j) d (omega (arith, lt)) e)
+      class_written classes o (written files (class_name folder x) (encoding x.file)) i c there last (λ j d lt e. others (suc j) d (omega (arith, lt)) e)

@@ -7,7 +7,7 @@ use Rattle.mon_store.specs.Sink.{Appends}
 use Rattle.inliner_tool.specs.declared.tool.Status.{Status}
 use Rattle.inliner_tool.specs.declared.tool.Status.TheVariants as statuses
 use Rattle.inliner_tool.specs.Commands.{Makes, readings_in}
-use Rattle.inliner_tool.specs.Replies.{outcome_spelled, usage_spelled}
+use Rattle.inliner_tool.specs.Replies.{outcome_encoded, usage_encoded}
 use Rattle.inliner_tool.specs.Steps.{Outcome, outcome_step}
 use Rattle.inliner_tool.specs.Tool.{NamesNone, status_of}
 
@@ -22,14 +22,14 @@ pub record ComesTo (contents : Contents) (named : NamedCommand) (status : Status
   pub outcome : Outcome
   pub gives : Gives contents named outcome
   pub status_is : status ≡ status_of outcome
-  pub spelled : printed ≡ outcome_spelled outcome
+  pub encoded : printed ≡ outcome_encoded outcome
 
 -- This is printed, with this status: what the command of the words comes to, or, where they are no command's, the usage line.
 pub record Decides (contents : Contents) (words : List (List ℕ)) (text after : Option (List ℕ)) (status : Status) : Type 0 where
   pub printed : List ℕ
   pub appends : Appends text after printed
   pub command : (named : NamedCommand) → IsCommand words named → ComesTo contents named status printed
-  pub usage : NamesNone words → (status ≡ statuses.Usage) × (printed ≡ usage_spelled)
+  pub usage : NamesNone words → (status ≡ statuses.Usage) × (printed ≡ usage_encoded)
 
 -- ---- one outcome
 

@@ -6,11 +6,11 @@ use Rattle.bytecode_model.specs.declared.program.Side.TheVariants.{Original}
 use Rattle.bytecode_model.specs.Files.{unlinked}
 use Rattle.bytecode_model.specs.Layout.{IsLaidOut}
 use Rattle.bytecode_model.specs.Sound.{IsSound}
-use Rattle.bytecode_model.specs.Standing.{IsLinkedOf}
+use Rattle.bytecode_model.specs.LinkedClasses.{IsLinkedOf}
 use Rattle.bytecode_model.specs.Typed.{IsTyped}
 use Rattle.block_logic.specs.Accepted.{IsAccepted}
 use Rattle.block_template.specs.Blocks.{plan_of}
-use Rattle.cert_format.specs.Fits.{CanSpell}
+use Rattle.cert_format.specs.Fits.{IsEncodable}
 use Rattle.class_codec.specs.Fits as classes
 use Rattle.class_linking.specs.Linking.{linked}
 use Rattle.class_weaving.specs.declared.woven.Woven.{Woven}
@@ -33,7 +33,7 @@ abbrev pub woven_program : Given → Woven → Program
 woven_program given made = program_with given.client made.files made.methods
 
 -- They have room for the blocks, and link to the program that is made of them. It is accepted with the certificate that is made of
--- the client's types; this can be spelled where it is written.
+-- the client's types; this can be encoded where it is written.
 pub record IsExpected (main : List ℕ) (given : Given) (made : Woven) : Type 0 where
   pub client : IsSound given.client
   pub room : HaveRoom (plan_of given.policy given.mode) given.client.classes made.files
@@ -41,8 +41,8 @@ pub record IsExpected (main : List ℕ) (given : Given) (made : Woven) : Type 0 
   pub back : unlinked (woven_program given made) ≡ made.files
   pub linked : IsLinkedProgram (woven_program given made)
   pub accepted : IsAccepted (woven_program given made) given.policy (certificate_for given (woven_program given made))
-  pub spells : FitsTyping (certificate_for given (woven_program given made)).typing → is_written (certificate_for given (woven_program given made)) ≡ true
-      → CanSpell (length given.policy.vars) (certificate_for given (woven_program given made))
+  pub encodes : FitsTyping (certificate_for given (woven_program given made)).typing → is_written (certificate_for given (woven_program given made)) ≡ true
+      → IsEncodable (length given.policy.vars) (certificate_for given (woven_program given made))
 
 -- Sound inputs link to the program, and have the policy; this is woven of them.
 pub record IsMadeOf (inputs : InlineInputs) (main : List ℕ) (given : Given) (made : Woven) : Type 0 where
@@ -59,8 +59,8 @@ abbrev pub WovenHasBlocks : Type 0
 WovenHasBlocks = (inputs : InlineInputs) (main : List ℕ) (given : Given) (made : Woven) → IsMadeOf inputs main given made
     → (new : Program) × ((woven_links made.files inputs.listing main ≡ Ok new) × IsWoven given.client (plan_of given.policy given.mode) given.policy.vars new)
 
--- What is woven of a typed program is as is expected, where its files can be spelled and are not too many.
+-- What is woven of a typed program is as is expected, where its files can be encoded and are not too many.
 abbrev pub WovenIsExpected : Type 0
 WovenIsExpected = (inputs : InlineInputs) (main : List ℕ) (given : Given) (made : Woven) → IsMadeOf inputs main given made
-    → IsTyped given.client given.typing → IsLaidOut given.client given.typing.frames → AllByRecursion classes.CanSpell made.files → length made.files ≤ 1001
+    → IsTyped given.client given.typing → IsLaidOut given.client given.typing.frames → AllByRecursion classes.IsEncodable made.files → length made.files ≤ 1001
     → IsExpected main given made

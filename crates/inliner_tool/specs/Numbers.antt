@@ -1,4 +1,4 @@
--- The numbers under which faults are printed, and the fields behind them: a row for each fault. (docs/REFUSALS.md)
+-- The numbers under which faults are printed, and the fields after them: a row for each fault. (docs/REFUSALS.md)
 use Rattle.std.specs.Prelude.{ℕ, ℤ, List, [], ◌∷◌, ◌++◌, codes, decimal}
 use Rattle.answer_text.specs.declared.field.Field.TheVariants.{Count, Number, Name}
 use Rattle.answer_text.specs.declared.field.Report.{Report}

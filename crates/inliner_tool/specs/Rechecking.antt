@@ -3,7 +3,7 @@ use Rattle.std.specs.Prelude.{◌≡◌, ◌≤◌, ℕ, ◌+◌, List, [], ◌�
 use Rattle.std.specs.List.{AllByRecursion}
 use Rattle.bytecode_model.specs.declared.program.LinkedClass.{LinkedClass}
 use Rattle.bytecode_model.specs.Files.{max_files}
-use Rattle.class_codec.specs.Spelling.{spelling}
+use Rattle.class_codec.specs.Encoding.{encoding}
 use Rattle.command_words.specs.InlineWords.{NamedInline}
 use Rattle.command_words.specs.Words.{Check, NamedCheck}
 use Rattle.mon_store.specs.Store.{Rose}
@@ -19,7 +19,7 @@ use Rattle.inliner_tool.specs.Writing.{CarriesOut}
 
 -- how many bytes a class file has
 abbrev pub size_of : LinkedClass → ℕ
-size_of class = length (spelling class.file)
+size_of class = length (encoding class.file)
 
 abbrev pub sizes_of : List LinkedClass → ℕ
 sizes_of [] = 0

@@ -64,9 +64,9 @@ reply_of (Ok answer) = answer_reply answer
 reply_of (Err refusal) = refusal_reply refusal
 
 -- the whole output
-abbrev pub outcome_spelled : Outcome → List ℕ
-outcome_spelled outcome = text_of (reply_of outcome)
+abbrev pub outcome_encoded : Outcome → List ℕ
+outcome_encoded outcome = text_of (reply_of outcome)
 
 -- the output for words that are no command's
-abbrev pub usage_spelled : List ℕ
-usage_spelled = text_of (replies.Line lines.Usage)
+abbrev pub usage_encoded : List ℕ
+usage_encoded = text_of (replies.Line lines.Usage)

@@ -7,7 +7,7 @@ use Rattle.conspec_automaton.specs.declared.running.Verdict.TheVariants as verdi
 use Rattle.input_files.specs.declared.check_inputs.CheckInputs.{CheckInputs}
 use Rattle.input_files.specs.CheckInputs.{ReadsCheck}
 use Rattle.input_files.specs.Named.{IsPolicyOf}
-use Rattle.input_files.specs.Spelled.{CheckSpelled}
+use Rattle.input_files.specs.Encoded.{CheckEncoded}
 use Rattle.mon_store.specs.Sink.{Appends, AppendsFront}
 use Rattle.inliner_tool.specs.declared.answer.Answer.{Answer}
 use Rattle.inliner_tool.specs.declared.answer.Answer.TheVariants as answers
@@ -16,7 +16,7 @@ use Rattle.inliner_tool.specs.declared.refusal.Refusal.TheVariants as refusals
 use Rattle.inliner_tool.specs.declared.tool.Status.{Status}
 use Rattle.inliner_tool.specs.declared.tool.Status.TheVariants as statuses
 use Rattle.inliner_tool.specs.Check.{IsChecked, link_inputs}
-use Rattle.inliner_tool.specs.Replies.{outcome_spelled, usage_spelled}
+use Rattle.inliner_tool.specs.Replies.{outcome_encoded, usage_encoded}
 use Rattle.inliner_tool.specs.Running.{RunsTyped}
 use Rattle.inliner_tool.specs.Seen.{Seen}
 use Rattle.inliner_tool.specs.Steps.{Outcome, outcome_step}
@@ -24,12 +24,12 @@ use Rattle.inliner_tool.specs.Writing.{CarriesOut}
 
 -- ---- what is accepted
 
--- The words name files that are texts of a listing, a policy, a certificate and class files, and spell them; these link to a program
+-- The words name files that are texts of a listing, a policy, a certificate and class files, and encode them; these link to a program
 -- that is accepted, and obeys the policy for every list of guest steps.
 pub record Holds (seen : Seen) (named : NamedCheck) : Type 0 where
   pub inputs : CheckInputs
   pub read : ReadsCheck seen.old seen.count named (Ok inputs)
-  pub spells : CheckSpelled seen.old named inputs
+  pub encodes : CheckEncoded seen.old named inputs
   pub checked : IsChecked named.main inputs
 
 -- The named files link to a program that runs as their certificate types it, and have a policy that was read over its listing.
@@ -110,7 +110,7 @@ pub record Says (seen : Seen) (words : List (List ℕ)) (So : Outcome → Type 0
 -- have come; its text may then have a front of the output. Without memory nothing is printed.
 abbrev pub Replies : Seen → List (List ℕ) → Option (List ℕ) → Option (List ℕ) → Type 0 → Status → Type 0
 Replies seen words text after rose statuses.Memory = after ≡ text
-Replies seen words text after rose statuses.Usage = NamesNone words × (seen.new ≡ seen.old) × Appends text after usage_spelled
+Replies seen words text after rose statuses.Usage = NamesNone words × (seen.new ≡ seen.old) × Appends text after usage_encoded
 Replies seen words text after rose statuses.SinkFault =
-    rose × ((NamesNone words × (seen.new ≡ seen.old) × AppendsFront text after usage_spelled) ⊎ Says seen words (λ outcome. AppendsFront text after (outcome_spelled outcome)))
-Replies seen words text after rose status = Says seen words (λ outcome. (status ≡ status_of outcome) × Appends text after (outcome_spelled outcome))
+    rose × ((NamesNone words × (seen.new ≡ seen.old) × AppendsFront text after usage_encoded) ⊎ Says seen words (λ outcome. AppendsFront text after (outcome_encoded outcome)))
+Replies seen words text after rose status = Says seen words (λ outcome. (status ≡ status_of outcome) × Appends text after (outcome_encoded outcome))

@@ -16,8 +16,8 @@ use Rattle.cert_format.specs.declared.certificate.Certificate.{Certificate}
 use Rattle.cert_format.specs.declared.certificate.Mode.{Mode}
 use Rattle.cert_format.specs.declared.certificate.Mode.TheVariants as modes
 use Rattle.cert_format.specs.declared.typing.Typing.{Typing}
-use Rattle.cert_format.specs.Fits.{CanSpell}
-use Rattle.cert_format.specs.Spelling.{spell_certificate}
+use Rattle.cert_format.specs.Fits.{IsEncodable}
+use Rattle.cert_format.specs.Encoding.{encode_certificate}
 use Rattle.cert_maker.specs.Noting.{certificate_of}
 use Rattle.class_codec.specs.declared.tree.ClassFile.{ClassFile}
 use Rattle.class_weaving.specs.declared.woven.Woven.{Woven}
@@ -114,7 +114,7 @@ weave_step (Err fault) = Err (splice_end fault)
 -- A certificate has at most 64 MiB, and its names at most 65,535 bytes; else nothing is written, and its length is told.
 abbrev pub outputs_step : List ℕ → Program → Certificate → Step (List Output)
 outputs_step folder program certificate =
-    if is_written certificate then Ok (outputs_of folder program certificate) else Err (ends.Refused (refusals.LongCertificate (length (spell_certificate certificate))))
+    if is_written certificate then Ok (outputs_of folder program certificate) else Err (ends.Refused (refusals.LongCertificate (length (encode_certificate certificate))))
 
 -- ---- all steps
 
@@ -179,13 +179,13 @@ pub record IsRewoven (main folder : List ℕ) (given : Given) (files : List Clas
   pub accepted : IsAllowed program given.policy certificate
   pub verdict : judged program given.policy certificate ≡ Ok ready.accepted
   pub secure : Secure given.mode program given.policy
-  pub spells : CanSpell (length given.policy.vars) certificate
+  pub encodes : IsEncodable (length given.policy.vars) certificate
   pub written : is_written certificate ≡ true
   pub outputs : ready.outputs ≡ outputs_of folder program certificate
 
 -- The inputs link to a program, and what the weaving of the policy makes of it, in this mode, is to be written: it links to the same
 -- classes in their order, where each call that the policy has clauses for, and no other, stands in its block, and conspec/State
--- behind them.
+-- after them.
 pub record IsPlanned (main folder : List ℕ) (weaving : Weaving) (inputs : InlineInputs) (ready : Ready) : Type 0 where
   pub given : Given
   pub links : original inputs.listing inputs.classes main ≡ Ok given.client

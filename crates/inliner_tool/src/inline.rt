@@ -12,7 +12,7 @@ ghost use Rattle.cert_checker.specs.Judging.{IsAllowed, judged};
 ghost use Rattle.cert_checker.specs.Secure.{Secure};
 ghost use Rattle.cert_format.specs.declared.certificate.Mode.TheVariants as modes;
 ghost use Rattle.cert_maker.specs.Noting.{certificate_of};
-ghost use Rattle.class_codec.specs.Fits.{CanSpell};
+ghost use Rattle.class_codec.specs.Fits.{IsEncodable};
 ghost use Rattle.class_weaving.specs.Woven.{woven};
 ghost use Rattle.command_words.specs.InlineWords.{inline_named};
 ghost use Rattle.conspec_automaton.specs.Building.{built};
@@ -308,7 +308,7 @@ fn woven(alloc: Global, client: &Program, policy: &Policy, mode: Mode) -> Result
     requires policy { IsPolicy policy.now }
     ensures is { UnlessMemory (Equals (weave_step (woven client.now (plan_of policy.now mode) policy.now.vars))) result }
     ensures exact { IfOk result (λ made. woven client.now (plan_of policy.now mode) policy.now.vars ≡ Ok made) }
-    ensures fits { IfOk result (λ made. AllByRecursion CanSpell made.files) }
+    ensures fits { IfOk result (λ made. AllByRecursion IsEncodable made.files) }
 {
     match inline(alloc, client, policy, mode) {
         Ok(made) => Ok(made),
@@ -350,7 +350,7 @@ fn rewoven(
     requires policy { IsSoundFor given.client.listing given.policy }
     requires free { given.mode ≡ modes.Release → IsFreeOfRaces given.policy }
     requires count { length made.files ≤ 1001 }
-    requires fits { AllByRecursion CanSpell made.files }
+    requires fits { AllByRecursion IsEncodable made.files }
     requires expected { IsExpected main.now given made }
     ensures steps { UnlessMemory (Remakes main.now folder.now given made) result }
     ensures rewoven { IfOk result (λ ready. IsRewoven main.now folder.now given made.files ready) }
@@ -385,7 +385,7 @@ fn retyped(
     requires policy { IsSoundFor given.client.listing given.policy }
     requires free { given.mode ≡ modes.Release → IsFreeOfRaces given.policy }
     requires count { length made.files ≤ 1001 }
-    requires fits { AllByRecursion CanSpell made.files }
+    requires fits { AllByRecursion IsEncodable made.files }
     requires expected { IsExpected main.now given made }
     requires typing { typing ≡ typing_of given.client given.policy given.mode given.typing }
     ensures steps { UnlessMemory (Remakes main.now folder.now given made) result }
@@ -500,7 +500,7 @@ fn judged(
     })
 }
 
-/// The class files in their order, and behind them the certificate.
+/// The class files in their order, and after them the certificate.
 fn outputs_of(
     alloc: Global,
     folder: &Bytes,

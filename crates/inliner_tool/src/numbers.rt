@@ -1,4 +1,4 @@
-//! The numbers under which faults are printed, and the fields behind them: a row for each fault.
+//! The numbers under which faults are printed, and the fields after them: a row for each fault.
 
 ghost use Rattle.std.specs.Prelude.{◌≡◌, ◌∷◌, [], IfOk};
 ghost use Rattle.answer_text.specs.declared.field.Field.TheVariants.{Count, Name};

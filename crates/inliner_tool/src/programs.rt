@@ -7,8 +7,8 @@ ghost use Rattle.bytecode_model.specs.Files.{max_files, unlinked};
 ghost use Rattle.bytecode_model.specs.Order.{IsInOrder};
 ghost use Rattle.bytecode_model.specs.Layout.{IsLaidOut};
 ghost use Rattle.bytecode_model.specs.Sound.{IsSound};
-ghost use Rattle.bytecode_model.specs.Standing.{IsLinkedOf};
-ghost use Rattle.class_codec.specs.Fits.{CanSpell};
+ghost use Rattle.bytecode_model.specs.LinkedClasses.{IsLinkedOf};
+ghost use Rattle.class_codec.specs.Fits.{IsEncodable};
 ghost use Rattle.class_linking.specs.Linking.{linked};
 ghost use Rattle.input_files.specs.Named.{IsListed};
 ghost use Rattle.inliner_tool.specs.Programs.{Types, link_end, link_step, program_of};
@@ -39,7 +39,7 @@ pub fn program_of(
 ) -> Result<Indexed, Ended>
     requires few { IsFew listing }
     requires listed { IsListed listing }
-    requires fits { AllByRecursion CanSpell classes.files }
+    requires fits { AllByRecursion IsEncodable classes.files }
     ensures is { UnlessMemory (Equals (program_of listing classes main.now side)) result }
     ensures listing { IfOk result (λ program. program.listing ≡ listing) }
     ensures back { IfOk result (λ program. unlinked program ≡ classes.files) }
@@ -63,7 +63,7 @@ fn linked(
 ) -> Result<Indexed, Ended>
     requires few { IsFew listing }
     requires listed { IsListed listing }
-    requires fits { AllByRecursion CanSpell files }
+    requires fits { AllByRecursion IsEncodable files }
     ensures is { UnlessMemory (Equals (link_step (linked files listing main.now side))) result }
     ensures back { IfOk result (λ program. unlinked program ≡ files) }
     ensures few { IfOk result (λ program. length program.classes ≤ max_files) }

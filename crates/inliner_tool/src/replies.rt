@@ -7,10 +7,10 @@ ghost use Rattle.inliner_tool.specs.Replies.{
   denied,
   input,
   mode_name,
-  outcome_spelled,
+  outcome_encoded,
   overflow,
   refusal_reply,
-  usage_spelled,
+  usage_encoded,
   verdict_reply,
 };
 
@@ -28,24 +28,24 @@ use mon_base::{Bytes, NoMemory};
 use std::alloc::Global;
 
 /// The whole output for an answer.
-pub fn answer_spelled(alloc: Global, answer: Answer) -> Result<Bytes, NoMemory>
-    ensures { IfOk result (λ text. text ≡ outcome_spelled (Ok answer)) }
+pub fn answer_encoded(alloc: Global, answer: Answer) -> Result<Bytes, NoMemory>
+    ensures { IfOk result (λ text. text ≡ outcome_encoded (Ok answer)) }
 {
     let reply = answer_reply(alloc, answer)?;
     text_of(alloc, reply)
 }
 
 /// The whole output where a command ended before its answer.
-pub fn refusal_spelled(alloc: Global, refusal: Refusal) -> Result<Bytes, NoMemory>
-    ensures { IfOk result (λ text. text ≡ outcome_spelled (Err refusal)) }
+pub fn refusal_encoded(alloc: Global, refusal: Refusal) -> Result<Bytes, NoMemory>
+    ensures { IfOk result (λ text. text ≡ outcome_encoded (Err refusal)) }
 {
     let reply = refusal_reply(alloc, refusal)?;
     text_of(alloc, reply)
 }
 
 /// The output for words that are no command's.
-pub fn usage_spelled(alloc: Global) -> Result<Bytes, NoMemory>
-    ensures { IfOk result (λ text. text ≡ usage_spelled) }
+pub fn usage_encoded(alloc: Global) -> Result<Bytes, NoMemory>
+    ensures { IfOk result (λ text. text ≡ usage_encoded) }
 {
     text_of(alloc, Reply::Line(Line::Usage))
 }

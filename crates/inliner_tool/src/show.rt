@@ -2,7 +2,7 @@
 
 ghost use Rattle.std.specs.Prelude.{◌≡◌, ◌≤◌};
 ghost use Rattle.std.specs.List.{AllByRecursion};
-ghost use Rattle.class_codec.specs.Fits.{CanSpell};
+ghost use Rattle.class_codec.specs.Fits.{IsEncodable};
 ghost use Rattle.command_words.specs.Words.{Show, show_named};
 ghost use Rattle.inliner_tool.specs.Commands.{Makes, readings_of};
 ghost use Rattle.inliner_tool.specs.Seen.{seen};
@@ -39,7 +39,7 @@ pub fn make_show<S: Store>(alloc: Global, words: &ShowWords, store: &mut S) -> R
 
 /// The class files, shown.
 fn show_made(alloc: Global, inputs: &ShowInputs) -> Result<Made, Ended>
-    requires { AllByRecursion CanSpell inputs.now.classes.files }
+    requires { AllByRecursion IsEncodable inputs.now.classes.files }
     ensures { UnlessMemory (Shows inputs.now) result }
 {
     match text_shown(alloc, inputs) {
@@ -50,7 +50,7 @@ fn show_made(alloc: Global, inputs: &ShowInputs) -> Result<Made, Ended>
 
 /// The text of class files that are not too long in all.
 fn text_shown(alloc: Global, inputs: &ShowInputs) -> Result<Bytes, Ended>
-    requires { AllByRecursion CanSpell inputs.now.classes.files }
+    requires { AllByRecursion IsEncodable inputs.now.classes.files }
     ensures { UnlessMemory (Equals (text_shown inputs.now)) result }
 {
     within_total(&inputs.classes)?;

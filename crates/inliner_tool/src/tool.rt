@@ -33,7 +33,7 @@ use crate::policy::make_policy;
 use crate::race::make_race;
 use crate::refusal::{Ended, Refusal};
 use crate::replay::make_replay;
-use crate::replies::{answer_spelled, refusal_spelled, usage_spelled};
+use crate::replies::{answer_encoded, refusal_encoded, usage_encoded};
 use crate::show::make_show;
 use crate::writing::write_made;
 use command_words::{Command, command_of};
@@ -133,15 +133,15 @@ pub fn run_tool<S: Store, K: Sink>(
 {
     told_files_are_read();
     let Some(command) = command_of(words) else {
-        return put(out, Status::Usage, usage_spelled(alloc));
+        return put(out, Status::Usage, usage_encoded(alloc));
     };
     match carry_out(alloc, &command, store) {
-        Ok(answer) => put(out, answer_status(&answer), answer_spelled(alloc, answer)),
+        Ok(answer) => put(out, answer_status(&answer), answer_encoded(alloc, answer)),
         Err(Ended::Refused(refusal)) => {
             put(
                 out,
                 refusal_status(&refusal),
-                refusal_spelled(alloc, refusal),
+                refusal_encoded(alloc, refusal),
             )
         }
         Err(Ended::Memory) => Status::Memory,

@@ -1,9 +1,9 @@
 -- Reading class files, one after the other.
 use Rattle.std.proofs.Common.{◌≡◌, ℕ, ◌+◌, ◌≤◌, ◌<◌, ◌-◌, ◌^◌, min, suc, List, [], ◌∷◌, ◌++◌, length, get_or, take, take_all, drop, Ok, Err, refl, sym, ap, subst, ◌∙◌, append_assoc, arith}
 use Rattle.std.specs.List.{AllByRecursion}
-use Rattle.class_codec.specs.Fits.{SpellsClass}
+use Rattle.class_codec.specs.Fits.{EncodesClass}
 use Rattle.mon_store.specs.Store.{Files, HasFile}
-use Rattle.input_files.specs.Spelled.{AreSpelled}
+use Rattle.input_files.specs.Encoded.{AreEncoded}
 use Rattle.class_codec.specs.declared.tree.ClassFile.{ClassFile}
 use Rattle.input_files.specs.declared.files.Stop.{Stop}
 use Rattle.input_files.specs.declared.files.Stop.TheVariants.{Input, Unread, Memory}
@@ -17,7 +17,7 @@ pub record HaveRead (files : Files) (names : List (List ℕ)) (classes : List Cl
   pub before : List (List ℕ)
   pub whole : names ≡ before ++ left
   pub read : AreClasses files before classes total
-  pub spelled : AreSpelled files before classes
+  pub encoded : AreEncoded files before classes
 
 -- sums of sums that are told so are told alike
 sums_apart : (most a b c : ℕ) → min (min (a + b) most + c) most ≡ min (a + min (b + c) most) most
@@ -31,20 +31,20 @@ push files (n ∷ ns) [] total name class len read one = absurd read
 push files (n ∷ ns) (c ∷ cs) total name class len read one =
     (read.0, told_sum read.1 len, ap (λ (n : ℕ). told_sum n len) read.2 ∙ sums_apart (2 ^ 64 - 1) read.0 read.1 len, read.3, push files ns cs read.1 name class len read.4 one)
 
-push_spelled : (files : Files) (names : List (List ℕ)) (classes : List ClassFile) (name : List ℕ) (class : ClassFile) → AreSpelled files names classes → HasFile files name (λ bytes. SpellsClass bytes class)
-    → AreSpelled files (names ++ name ∷ []) (classes ++ class ∷ [])
-push_spelled files [] [] name class are one = (one, tt)
-push_spelled files [] (c ∷ cs) name class are one = absurd are
-push_spelled files (n ∷ ns) [] name class are one = absurd are
-push_spelled files (n ∷ ns) (c ∷ cs) name class are one = (are.0, push_spelled files ns cs name class are.1 one)
+push_encoded : (files : Files) (names : List (List ℕ)) (classes : List ClassFile) (name : List ℕ) (class : ClassFile) → AreEncoded files names classes → HasFile files name (λ bytes. EncodesClass bytes class)
+    → AreEncoded files (names ++ name ∷ []) (classes ++ class ∷ [])
+push_encoded files [] [] name class are one = (one, tt)
+push_encoded files [] (c ∷ cs) name class are one = absurd are
+push_encoded files (n ∷ ns) [] name class are one = absurd are
+push_encoded files (n ∷ ns) (c ∷ cs) name class are one = (are.0, push_encoded files ns cs name class are.1 one)
 
 pub one_read : (files : Files) (names : List (List ℕ)) (classes : List ClassFile) (total : ℕ) (name : List ℕ) (left : List (List ℕ)) (class : ClassFile) (len : ℕ)
-    → HaveRead files names classes total (name ∷ left) → IsRead files name class_form (Ok (record { file = class; len = len })) → HasFile files name (λ bytes. SpellsClass bytes class) → HaveRead files names (classes ++ class ∷ []) (told_sum total len) left
-one_read files names classes total name left class len had one spells = record {
+    → HaveRead files names classes total (name ∷ left) → IsRead files name class_form (Ok (record { file = class; len = len })) → HasFile files name (λ bytes. EncodesClass bytes class) → HaveRead files names (classes ++ class ∷ []) (told_sum total len) left
+one_read files names classes total name left class len had one encodes = record {
   before = had.before ++ name ∷ [];
   whole = had.whole ∙ sym (append_assoc had.before (name ∷ []) left);
   read = push files had.before classes total name class len had.read one;
-  spelled = push_spelled files had.before classes name class had.spelled spells;
+  encoded = push_encoded files had.before classes name class had.encoded encodes;
 }
 
 -- the class file at which the reading ends

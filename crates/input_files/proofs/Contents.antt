@@ -68,7 +68,7 @@ module _ {A : Type 0} (name : List ℕ) (form : Form A) where
   stops_so (faults.Record fault) other = refl
   stops_so faults.Memory other = absurd other
 
-  module _ (contents : Contents) (count : Count) (quiet : Rose count.before count.now → ⊥) where
+  module _ (contents : Contents) (count : Count) (no_rise : Rose count.before count.now → ⊥) where
     refused_so : (fault : InputFault) → IsNoMemory fault → IsRefused (Some contents) name form fault → file_read contents name form ≡ Err (stops.Input name fault)
     refused_so fault other (inl long) = long_read (contents name) long.len long.told long.above ∙ ap (λ (f : InputFault). Err (stops.Input name f)) (sym long.says)
     refused_so fault other (inr wrong) =
@@ -77,16 +77,16 @@ module _ {A : Type 0} (name : List ℕ) (form : Form A) where
     pub file_so : (r : Result A Stop) → ReadsForm (Some contents) count name form r → IsSo (file_read contents name form) r
     file_so (Ok tree) read = short_read (contents name) read.text read.told read.short ∙ ap (named name) read.reads
     file_so (Err (stops.Input bad fault)) (same, refused, other) = refused_so fault other refused ∙ ap (λ (n : List ℕ). Err (stops.Input n fault)) (sym same)
-    file_so (Err (stops.Unread bad)) (same, inl caused) = absurd (quiet caused.rose)
+    file_so (Err (stops.Unread bad)) (same, inl caused) = absurd (no_rise caused.rose)
     file_so (Err (stops.Unread bad)) (same, inr lacks) = ap (bytes_read name form) lacks ∙ ap (λ (n : List ℕ). Err (stops.Unread n)) (sym same)
     file_so (Err stops.Memory) read = tt
 
 -- ---- class files
 
-module _ (contents : Contents) (count : Count) (quiet : Rose count.before count.now → ⊥) where
+module _ (contents : Contents) (count : Count) (no_rise : Rose count.before count.now → ⊥) where
   read_once : (name : List ℕ) (class : ClassFile) (len : ℕ) → IsRead (Some contents) name class_form (Ok (record { file = class; len = len }))
       → file_read contents name class_form ≡ Ok (record { file = class; len = len })
-  read_once name class len read = file_so name class_form contents count quiet (Ok (record { file = class; len = len })) read
+  read_once name class len read = file_so name class_form contents count no_rise (Ok (record { file = class; len = len })) read
 
   abbrev one_more : List ℕ → List (List ℕ) → ReadClass → Result Classes Stop
   one_more name names class = classes_read contents names >>= (λ others. Ok (record { files = class.file ∷ others.files; total = told_sum class.len others.total }))
@@ -113,35 +113,35 @@ module _ (contents : Contents) (count : Count) (quiet : Rose count.before count.
 
   pub classes_so : (names : List (List ℕ)) (r : Result Classes Stop) → ReadsClasses (Some contents) count names r → IsSo (classes_read contents names) r
   classes_so names (Ok classes) are = all_so names classes.files classes.total are
-  classes_so names (Err (stops.Input bad fault)) among = stopped_so names (stops.Input bad fault) among (file_so among.name class_form contents count quiet (Err (stops.Input bad fault)) among.stops)
-  classes_so names (Err (stops.Unread bad)) among = stopped_so names (stops.Unread bad) among (file_so among.name class_form contents count quiet (Err (stops.Unread bad)) among.stops)
+  classes_so names (Err (stops.Input bad fault)) among = stopped_so names (stops.Input bad fault) among (file_so among.name class_form contents count no_rise (Err (stops.Input bad fault)) among.stops)
+  classes_so names (Err (stops.Unread bad)) among = stopped_so names (stops.Unread bad) among (file_so among.name class_form contents count no_rise (Err (stops.Unread bad)) among.stops)
   classes_so names (Err stops.Memory) read = tt
 
 -- ---- the files of each command
 
 pub told_are_read : ToldAreRead
 told_are_read = record {
-  check = λ contents count named result quiet.
-      then_so _ _ _ _ (file_so named.listing _ contents count quiet) (λ listing.
-      then_so _ _ _ _ (file_so named.policy _ contents count quiet) (λ policy.
-      then_so _ _ _ _ (file_so named.certificate _ contents count quiet) (λ certificate.
-      then_so _ _ _ _ (classes_so contents count quiet named.classes) (λ classes. yields_so _)))) result;
-  show = λ contents count named result quiet.
-      then_so _ _ _ _ (file_so named.listing _ contents count quiet) (λ listing.
-      then_so _ _ _ _ (classes_so contents count quiet named.classes) (λ classes. yields_so _)) result;
-  policy = λ contents count named result quiet.
-      then_so _ _ _ _ (file_so named.listing _ contents count quiet) (λ listing.
-      then_so _ _ _ _ (file_so named.policy _ contents count quiet) (λ policy.
-      then_so _ _ _ _ (file_so named.recorded _ contents count quiet) (λ recorded. yields_so _))) result;
-  race = λ contents count named result quiet.
-      then_so _ _ _ _ (file_so named.listing _ contents count quiet) (λ listing.
-      then_so _ _ _ _ (file_so named.policy _ contents count quiet) (λ policy. yields_so _)) result;
-  inline = λ contents count named result quiet.
-      then_so _ _ _ _ (file_so named.listing _ contents count quiet) (λ listing.
-      then_so _ _ _ _ (file_so named.policy _ contents count quiet) (λ policy.
-      then_so _ _ _ _ (classes_so contents count quiet named.classes) (λ classes. yields_so _))) result;
-  replay = λ contents count named result quiet.
-      then_so _ _ _ _ (file_so named.listing _ contents count quiet) (λ listing.
-      then_so _ _ _ _ (file_so named.recorded _ contents count quiet) (λ recorded.
-      then_so _ _ _ _ (classes_so contents count quiet named.classes) (λ classes. yields_so _))) result;
+  check = λ contents count named result no_rise.
+      then_so _ _ _ _ (file_so named.listing _ contents count no_rise) (λ listing.
+      then_so _ _ _ _ (file_so named.policy _ contents count no_rise) (λ policy.
+      then_so _ _ _ _ (file_so named.certificate _ contents count no_rise) (λ certificate.
+      then_so _ _ _ _ (classes_so contents count no_rise named.classes) (λ classes. yields_so _)))) result;
+  show = λ contents count named result no_rise.
+      then_so _ _ _ _ (file_so named.listing _ contents count no_rise) (λ listing.
+      then_so _ _ _ _ (classes_so contents count no_rise named.classes) (λ classes. yields_so _)) result;
+  policy = λ contents count named result no_rise.
+      then_so _ _ _ _ (file_so named.listing _ contents count no_rise) (λ listing.
+      then_so _ _ _ _ (file_so named.policy _ contents count no_rise) (λ policy.
+      then_so _ _ _ _ (file_so named.recorded _ contents count no_rise) (λ recorded. yields_so _))) result;
+  race = λ contents count named result no_rise.
+      then_so _ _ _ _ (file_so named.listing _ contents count no_rise) (λ listing.
+      then_so _ _ _ _ (file_so named.policy _ contents count no_rise) (λ policy. yields_so _)) result;
+  inline = λ contents count named result no_rise.
+      then_so _ _ _ _ (file_so named.listing _ contents count no_rise) (λ listing.
+      then_so _ _ _ _ (file_so named.policy _ contents count no_rise) (λ policy.
+      then_so _ _ _ _ (classes_so contents count no_rise named.classes) (λ classes. yields_so _))) result;
+  replay = λ contents count named result no_rise.
+      then_so _ _ _ _ (file_so named.listing _ contents count no_rise) (λ listing.
+      then_so _ _ _ _ (file_so named.recorded _ contents count no_rise) (λ recorded.
+      then_so _ _ _ _ (classes_so contents count no_rise named.classes) (λ classes. yields_so _))) result;
 }

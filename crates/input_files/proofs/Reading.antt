@@ -35,9 +35,9 @@ before_since files form name names whole first begun now last stop le read =
     (λ more. inr (more.0, more.1, ⊎_elim (λ among. inl (among_since files names first begun now last stop le among)) (λ none. absurd none.2) more.2)) read
 
 -- the class files at which the reading of a file and of class files stops
-pub behind_stops : {A : Type 0} (files : Files) (form : Form A) (name : List ℕ) (names : List (List ℕ)) (first begun now : ℕ) (last : List ℕ) (stop : Stop) → first ≤ begun → (a : A) → IsRead files name form (Ok a)
+pub after_stops : {A : Type 0} (files : Files) (form : Form A) (name : List ℕ) (names : List (List ℕ)) (first begun now : ℕ) (last : List ℕ) (stop : Stop) → first ≤ begun → (a : A) → IsRead files name form (Ok a)
     → ReadsClasses files (counted begun now last) names (Err stop) → ReadsBefore files (counted first now last) name form names (Err stop)
-behind_stops files form name names first begun now last stop le a has reads = inr (a, has, inl (among_since files names first begun now last stop le reads))
+after_stops files form name names first begun now last stop le a has reads = inr (a, has, inl (among_since files names first begun now last stop le reads))
 
 -- ---- check
 

@@ -3,7 +3,7 @@ use Rattle.std.specs.Prelude.{length, Result}
 use Rattle.std.specs.List.{AllByRecursion}
 use Rattle.mon_store.specs.Store.{Files}
 use Rattle.api_listing.specs.Listing.{IsFew}
-use Rattle.class_codec.specs.Fits.{CanSpell}
+use Rattle.class_codec.specs.Fits.{IsEncodable}
 use Rattle.input_files.specs.declared.files.Stop.{Stop}
 use Rattle.input_files.specs.Forms.{Count, ReadsForm, Then, Yields}
 use Rattle.input_files.specs.Kinds.{certificate_form, listing_form, policy_form}
@@ -25,4 +25,4 @@ pub record AreSound (inputs : CheckInputs) : Type 0 where
   pub listing : IsFew inputs.listing
   pub listed : IsListed inputs.listing
   pub policy : IsPolicyOf inputs.listing inputs.policy
-  pub classes : AllByRecursion CanSpell inputs.classes.files
+  pub classes : AllByRecursion IsEncodable inputs.classes.files

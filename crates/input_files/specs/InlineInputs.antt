@@ -3,7 +3,7 @@ use Rattle.std.specs.Prelude.{◌≤◌, length, Result}
 use Rattle.std.specs.List.{AllByRecursion}
 use Rattle.mon_store.specs.Store.{Files}
 use Rattle.api_listing.specs.Listing.{IsFew}
-use Rattle.class_codec.specs.Fits.{CanSpell}
+use Rattle.class_codec.specs.Fits.{IsEncodable}
 use Rattle.input_files.specs.declared.files.Stop.{Stop}
 use Rattle.input_files.specs.declared.inline_inputs.InlineInputs.{InlineInputs}
 use Rattle.input_files.specs.Forms.{Count, ReadsForm, Then, Yields}
@@ -25,4 +25,4 @@ pub record InlineSound (inputs : InlineInputs) : Type 0 where
   pub listed : IsListed inputs.listing
   pub policy : IsPolicyOf inputs.listing inputs.policy
   pub vars : length inputs.policy.vars ≤ 16
-  pub classes : AllByRecursion CanSpell inputs.classes.files
+  pub classes : AllByRecursion IsEncodable inputs.classes.files

@@ -8,6 +8,6 @@ pub mod PolicyInputs
 pub mod RaceInputs
 pub mod InlineInputs
 pub mod ReplayInputs
-pub mod Spelled
+pub mod Encoded
 pub mod Contents
 pub mod Told

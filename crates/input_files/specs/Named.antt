@@ -2,13 +2,13 @@
 use Rattle.std.specs.Prelude.{◌≡◌, ℕ, ◌+◌, ◌-◌, ◌^◌, min, List, [], ◌∷◌, ◌++◌, Result, Ok, Err}
 use Rattle.mon_store.specs.Store.{Files}
 use Rattle.api_listing.specs.declared.types.Listing.{Listing}
-use Rattle.api_listing.specs.Listing.{SpellsListing}
+use Rattle.api_listing.specs.Listing.{EncodesListing}
 use Rattle.class_codec.specs.declared.tree.ClassFile.{ClassFile}
 use Rattle.input_files.specs.declared.fault.InputFault.{InputFault}
 use Rattle.input_files.specs.declared.files.Stop.{Stop}
 use Rattle.input_files.specs.declared.files.Stop.TheVariants.{Input, Unread, Memory}
 use Rattle.conspec_tree.specs.declared.types.PolicyTree.{PolicyTree}
-use Rattle.conspec_parse.specs.Meaning.{SpellsPolicy}
+use Rattle.conspec_parse.specs.Meaning.{EncodesPolicy}
 use Rattle.conspec_tree.specs.Tree.{IsPolicyTree}
 use Rattle.input_files.specs.declared.named.ReadClasses.{ReadClasses as Classes}
 use Rattle.input_files.specs.Forms.{Count, Form, IsNoMemory, IsRead, ReadsForm, Then, Yields}
@@ -60,13 +60,13 @@ IsOfName name read (Err (Input bad fault)) = (bad ≡ name) × (read ≡ Err fau
 IsOfName name read (Err (Unread bad)) = ⊥
 IsOfName name read (Err Memory) = Unit {0}
 
--- Some text spells the listing.
+-- Some text encodes the listing.
 pub record IsListed (listing : Listing) : Type 0 where
   pub text : List ℕ
-  pub spells : SpellsListing text listing
+  pub encodes : EncodesListing text listing
 
--- Some text spells the policy, over the listing.
+-- Some text encodes the policy, over the listing.
 pub record IsPolicyOf (listing : Listing) (tree : PolicyTree) : Type 0 where
   pub text : List ℕ
-  pub spells : SpellsPolicy text listing tree
+  pub encodes : EncodesPolicy text listing tree
   pub sound : IsPolicyTree listing tree

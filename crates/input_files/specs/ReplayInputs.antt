@@ -3,7 +3,7 @@ use Rattle.std.specs.Prelude.{Result}
 use Rattle.std.specs.List.{AllByRecursion}
 use Rattle.mon_store.specs.Store.{Files}
 use Rattle.api_listing.specs.Listing.{IsFew}
-use Rattle.class_codec.specs.Fits.{CanSpell}
+use Rattle.class_codec.specs.Fits.{IsEncodable}
 use Rattle.command_words.specs.ReplayWords.{NamedReplay}
 use Rattle.input_files.specs.declared.files.Stop.{Stop}
 use Rattle.input_files.specs.declared.replay_inputs.ReplayInputs.{ReplayInputs}
@@ -23,4 +23,4 @@ ReadsReplay files count named =
 pub record ReplaySound (inputs : ReplayInputs) : Type 0 where
   pub listing : IsFew inputs.listing
   pub listed : IsListed inputs.listing
-  pub classes : AllByRecursion CanSpell inputs.classes.files
+  pub classes : AllByRecursion IsEncodable inputs.classes.files

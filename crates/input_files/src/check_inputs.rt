@@ -3,13 +3,13 @@
 
 ghost use Rattle.std.specs.Prelude.{◌≡◌, ◌≤◌, IfOk};
 ghost use Rattle.std.specs.List.{AllByRecursion};
-ghost use Rattle.cert_format.specs.Fits.{SpellsCertificate};
-ghost use Rattle.class_codec.specs.Fits.{CanSpell};
+ghost use Rattle.cert_format.specs.Fits.{EncodesCertificate};
+ghost use Rattle.class_codec.specs.Fits.{IsEncodable};
 ghost use Rattle.input_files.specs.Forms.{since};
 ghost use Rattle.input_files.specs.CheckInputs.{AreSound, ReadsCheck};
 ghost use Rattle.input_files.specs.Kinds.{certificate_form};
 ghost use Rattle.input_files.specs.Named.{ReadsBefore};
-ghost use Rattle.input_files.specs.Spelled.{AreSpelled, CheckSpelled};
+ghost use Rattle.input_files.specs.Encoded.{AreEncoded, CheckEncoded};
 ghost use Rattle.mon_store.specs.Store.{HasFile};
 ghost use Rattle.command_words.specs.Words.{check_named};
 
@@ -41,10 +41,10 @@ fn certified<S: Store>(
 ) -> Result<(Certificate, ReadClasses), Stop>
     ensures read { ReadsBefore (S.files store.old) (since (S.faults store.old) (S.faults store.new) (S.last store.new))
         (check_named words.now).certificate (certificate_form vars) (check_named words.now).classes result }
-    ensures fits { IfOk result (λ r. AllByRecursion CanSpell r.1.files) }
+    ensures fits { IfOk result (λ r. AllByRecursion IsEncodable r.1.files) }
     ensures certificate { IfOk result (λ r. HasFile (S.files store.old) words.now.certificate.now
-        (λ bytes. SpellsCertificate bytes vars r.0)) }
-    ensures classes { IfOk result (λ r. AreSpelled (S.files store.old) words.now.classes.now r.1.files) }
+        (λ bytes. EncodesCertificate bytes vars r.0)) }
+    ensures classes { IfOk result (λ r. AreEncoded (S.files store.old) words.now.classes.now r.1.files) }
     ensures files { S.files store.new ≡ S.files store.old }
     ensures faults { S.faults store.old ≤ S.faults store.new }
 {
@@ -62,7 +62,7 @@ pub fn read_check<S: Store>(
     ensures read { ReadsCheck (S.files store.old) (since (S.faults store.old) (S.faults store.new) (S.last store.new))
         (check_named words.now) result }
     ensures sound { IfOk result AreSound }
-    ensures spells { IfOk result (CheckSpelled (S.files store.old) (check_named words.now)) }
+    ensures encodes { IfOk result (CheckEncoded (S.files store.old) (check_named words.now)) }
     ensures files { S.files store.new ≡ S.files store.old }
     ensures faults { S.faults store.old ≤ S.faults store.new }
 {

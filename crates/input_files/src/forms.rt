@@ -2,10 +2,10 @@
 
 ghost use Rattle.std.specs.Prelude.{◌≡◌, ◌<◌, ◌≤◌, ◌^◌, length, IfOk};
 ghost use Rattle.std.specs.List.{AllByRecursion};
-ghost use Rattle.api_listing.specs.Listing.{IsFew, SpellsListing};
-ghost use Rattle.cert_format.specs.Fits.{SpellsCertificate};
-ghost use Rattle.class_codec.specs.Fits.{CanSpell, SpellsClass};
-ghost use Rattle.conspec_parse.specs.Meaning.{SpellsPolicy};
+ghost use Rattle.api_listing.specs.Listing.{IsFew, EncodesListing};
+ghost use Rattle.cert_format.specs.Fits.{EncodesCertificate};
+ghost use Rattle.class_codec.specs.Fits.{IsEncodable, EncodesClass};
+ghost use Rattle.conspec_parse.specs.Meaning.{EncodesPolicy};
 ghost use Rattle.conspec_tree.specs.Tree.{IsPolicyTree};
 ghost use Rattle.input_files.specs.Kinds.{certificate_form, class_form, listing_form, policy_form, record_form};
 ghost use Rattle.mon_base.specs.Answer.{Answers};
@@ -44,11 +44,11 @@ pub struct ReadClass {
     pub len: u64,
 }
 
-/// The listing that a text spells.
+/// The listing that a text encodes.
 pub fn listing_read(alloc: Global, text: &[u8]) -> Result<Listing, InputFault>
     ensures read { Answers InputFault.Memory result (listing_form.reads text.now) }
     ensures few { IfOk result IsFew }
-    ensures listed { IfOk result (λ listing. SpellsListing text.now listing) }
+    ensures listed { IfOk result (λ listing. EncodesListing text.now listing) }
 {
     match read(alloc, text) {
         Ok(listing) => Ok(listing),
@@ -56,13 +56,13 @@ pub fn listing_read(alloc: Global, text: &[u8]) -> Result<Listing, InputFault>
     }
 }
 
-/// The policy that a text spells over the methods of a listing.
+/// The policy that a text encodes over the methods of a listing.
 pub fn policy_read(alloc: Global, text: &[u8], listing: &Listing) -> Result<PolicyTree, InputFault>
     requires { IsFew listing.now }
     ensures read { Answers InputFault.Memory result ((policy_form listing.now).reads text.now) }
     ensures few { IfOk result (λ tree. length tree.vars ≤ 16) }
     ensures sound { IfOk result (λ tree. IsPolicyTree listing.now tree) }
-    ensures spells { IfOk result (λ tree. SpellsPolicy text.now listing.now tree) }
+    ensures encodes { IfOk result (λ tree. EncodesPolicy text.now listing.now tree) }
 {
     match parse(alloc, text, listing) {
         Ok(tree) => Ok(tree),
@@ -70,10 +70,10 @@ pub fn policy_read(alloc: Global, text: &[u8], listing: &Listing) -> Result<Poli
     }
 }
 
-/// The certificate that a text spells for a policy of so many variables.
+/// The certificate that a text encodes for a policy of so many variables.
 pub fn certificate_read(alloc: Global, text: &[u8], vars: u32) -> Result<Certificate, InputFault>
     ensures read { Answers InputFault.Memory result ((certificate_form vars).reads text.now) }
-    ensures spells { IfOk result (λ certificate. SpellsCertificate text.now vars certificate) }
+    ensures encodes { IfOk result (λ certificate. EncodesCertificate text.now vars certificate) }
 {
     match cert_format::decode(alloc, text, vars) {
         Ok(certificate) => Ok(certificate),
@@ -81,11 +81,11 @@ pub fn certificate_read(alloc: Global, text: &[u8], vars: u32) -> Result<Certifi
     }
 }
 
-/// The class file that a text spells, with the text's length.
+/// The class file that a text encodes, with the text's length.
 pub fn class_read(alloc: Global, text: &[u8]) -> Result<ReadClass, InputFault>
     ensures read { Answers InputFault.Memory result (class_form.reads text.now) }
-    ensures fits { IfOk result (λ class. CanSpell class.file) }
-    ensures spells { IfOk result (λ class. SpellsClass text.now class.file) }
+    ensures fits { IfOk result (λ class. IsEncodable class.file) }
+    ensures encodes { IfOk result (λ class. EncodesClass text.now class.file) }
 {
     match class_codec::decode(alloc, text) {
         Ok(file) => {
@@ -98,7 +98,7 @@ pub fn class_read(alloc: Global, text: &[u8]) -> Result<ReadClass, InputFault>
     }
 }
 
-/// The record that a text spells over the classes and methods of a listing.
+/// The record that a text encodes over the classes and methods of a listing.
 pub fn record_read(alloc: Global, text: &[u8], listing: &Listing) -> Result<Record, InputFault>
     requires { IsFew listing.now }
     ensures { Answers InputFault.Memory result ((record_form listing.now).reads text.now) }

@@ -2,14 +2,14 @@
 
 ghost use Rattle.std.specs.Prelude.{◌≡◌, ◌≤◌, length, IfOk};
 ghost use Rattle.std.specs.List.{AllByRecursion};
-ghost use Rattle.api_listing.specs.Listing.{IsFew, SpellsListing};
-ghost use Rattle.cert_format.specs.Fits.{SpellsCertificate};
-ghost use Rattle.class_codec.specs.Fits.{CanSpell, SpellsClass};
-ghost use Rattle.conspec_parse.specs.Meaning.{SpellsPolicy};
+ghost use Rattle.api_listing.specs.Listing.{IsFew, EncodesListing};
+ghost use Rattle.cert_format.specs.Fits.{EncodesCertificate};
+ghost use Rattle.class_codec.specs.Fits.{IsEncodable, EncodesClass};
+ghost use Rattle.conspec_parse.specs.Meaning.{EncodesPolicy};
 ghost use Rattle.conspec_tree.specs.Tree.{IsPolicyTree};
 ghost use Rattle.input_files.specs.Forms.{ReadsForm, since};
 ghost use Rattle.input_files.specs.Kinds.{certificate_form, class_form, listing_form, policy_form, record_form};
-ghost use Rattle.input_files.specs.Spelled.{AreSpelled};
+ghost use Rattle.input_files.specs.Encoded.{AreEncoded};
 ghost use Rattle.mon_store.specs.Store.{HasFile};
 ghost use Rattle.input_files.specs.Named.{IsListed, IsOfName, IsPolicyOf, ReadsClasses as ReadsFiles};
 
@@ -46,13 +46,13 @@ fn of_name<T: Drop>(alloc: Global, name: &Bytes, read: Result<T, InputFault>) ->
     }
 }
 
-/// The listing that a file spells.
+/// The listing that a file encodes.
 pub fn listing_of<S: Store>(alloc: Global, store: &mut S, name: &Bytes) -> Result<Listing, Stop>
     ensures form { ReadsForm (S.files store.old) (since (S.faults store.old) (S.faults store.new) (S.last store.new))
         name.now listing_form result }
     ensures few { IfOk result IsFew }
     ensures listed { IfOk result IsListed }
-    ensures spells { IfOk result (λ listing. HasFile (S.files store.old) name.now (λ text. SpellsListing text listing)) }
+    ensures encodes { IfOk result (λ listing. HasFile (S.files store.old) name.now (λ text. EncodesListing text listing)) }
     ensures files { S.files store.new ≡ S.files store.old }
     ensures faults { S.faults store.old ≤ S.faults store.new }
 {
@@ -60,7 +60,7 @@ pub fn listing_of<S: Store>(alloc: Global, store: &mut S, name: &Bytes) -> Resul
     of_name(alloc, name, listing_read(alloc, text.as_slice()))
 }
 
-/// The policy that a file spells, over the methods of the listing.
+/// The policy that a file encodes, over the methods of the listing.
 pub fn policy_of<S: Store>(
     alloc: Global,
     store: &mut S,
@@ -72,8 +72,8 @@ pub fn policy_of<S: Store>(
         name.now (policy_form listing.now) result }
     ensures few { IfOk result (λ tree. length tree.vars ≤ 16) }
     ensures sound { IfOk result (λ tree. IsPolicyTree listing.now tree) }
-    ensures spelled { IfOk result (λ tree. IsPolicyOf listing.now tree) }
-    ensures spells { IfOk result (λ tree. HasFile (S.files store.old) name.now (λ text. SpellsPolicy text listing.now tree)) }
+    ensures encoded { IfOk result (λ tree. IsPolicyOf listing.now tree) }
+    ensures encodes { IfOk result (λ tree. HasFile (S.files store.old) name.now (λ text. EncodesPolicy text listing.now tree)) }
     ensures files { S.files store.new ≡ S.files store.old }
     ensures faults { S.faults store.old ≤ S.faults store.new }
 {
@@ -81,7 +81,7 @@ pub fn policy_of<S: Store>(
     of_name(alloc, name, policy_read(alloc, text.as_slice(), listing))
 }
 
-/// The certificate that a file spells, for a policy of so many variables.
+/// The certificate that a file encodes, for a policy of so many variables.
 pub fn certificate_of<S: Store>(
     alloc: Global,
     store: &mut S,
@@ -90,7 +90,7 @@ pub fn certificate_of<S: Store>(
 ) -> Result<Certificate, Stop>
     ensures form { ReadsForm (S.files store.old) (since (S.faults store.old) (S.faults store.new) (S.last store.new))
         name.now (certificate_form vars) result }
-    ensures spells { IfOk result (λ certificate. HasFile (S.files store.old) name.now (λ bytes. SpellsCertificate bytes vars certificate)) }
+    ensures encodes { IfOk result (λ certificate. HasFile (S.files store.old) name.now (λ bytes. EncodesCertificate bytes vars certificate)) }
     ensures files { S.files store.new ≡ S.files store.old }
     ensures faults { S.faults store.old ≤ S.faults store.new }
 {
@@ -98,7 +98,7 @@ pub fn certificate_of<S: Store>(
     of_name(alloc, name, certificate_read(alloc, text.as_slice(), vars))
 }
 
-/// The record that a file spells, over the classes and methods of the listing.
+/// The record that a file encodes, over the classes and methods of the listing.
 pub fn record_of<S: Store>(
     alloc: Global,
     store: &mut S,
@@ -119,8 +119,8 @@ pub fn record_of<S: Store>(
 fn class_of<S: Store>(alloc: Global, store: &mut S, name: &Bytes) -> Result<ReadClass, Stop>
     ensures form { ReadsForm (S.files store.old) (since (S.faults store.old) (S.faults store.new) (S.last store.new))
         name.now class_form result }
-    ensures fits { IfOk result (λ class. CanSpell class.file) }
-    ensures spells { IfOk result (λ class. HasFile (S.files store.old) name.now (λ bytes. SpellsClass bytes class.file)) }
+    ensures fits { IfOk result (λ class. IsEncodable class.file) }
+    ensures encodes { IfOk result (λ class. HasFile (S.files store.old) name.now (λ bytes. EncodesClass bytes class.file)) }
     ensures files { S.files store.new ≡ S.files store.old }
     ensures faults { S.faults store.old ≤ S.faults store.new }
 {
@@ -136,8 +136,8 @@ pub fn classes_of<S: Store>(
 ) -> Result<ReadClasses, Stop>
     ensures read { ReadsFiles (S.files store.old) (since (S.faults store.old) (S.faults store.new) (S.last store.new))
         names.now result }
-    ensures fits { IfOk result (λ classes. AllByRecursion CanSpell classes.files) }
-    ensures spells { IfOk result (λ classes. AreSpelled (S.files store.old) names.now classes.files) }
+    ensures fits { IfOk result (λ classes. AllByRecursion IsEncodable classes.files) }
+    ensures encodes { IfOk result (λ classes. AreEncoded (S.files store.old) names.now classes.files) }
     ensures files { S.files store.new ≡ S.files store.old }
     ensures faults { S.faults store.old ≤ S.faults store.new }
 {

@@ -4,7 +4,7 @@ ghost use Rattle.std.specs.Prelude.{◌≡◌, ◌≤◌, IfOk};
 ghost use Rattle.conspec_tree.specs.Tree.{IsPolicyTree};
 ghost use Rattle.input_files.specs.Forms.{since};
 ghost use Rattle.input_files.specs.RaceInputs.{RaceSound, ReadsRace};
-ghost use Rattle.input_files.specs.Spelled.{PolicySpelled};
+ghost use Rattle.input_files.specs.Encoded.{PolicyEncoded};
 ghost use Rattle.command_words.specs.Words.{race_named};
 
 use crate::files::Stop;
@@ -33,7 +33,7 @@ pub fn listed_policy<S: Store>(
     ensures read { ReadsRace (S.files store.old) (since (S.faults store.old) (S.faults store.new) (S.last store.new))
         (record { policy = policy.now; listing = listing.now }) result }
     ensures sound { IfOk result RaceSound }
-    ensures spells { IfOk result (PolicySpelled (S.files store.old) listing.now policy.now) }
+    ensures encodes { IfOk result (PolicyEncoded (S.files store.old) listing.now policy.now) }
     ensures files { S.files store.new ≡ S.files store.old }
     ensures faults { S.faults store.old ≤ S.faults store.new }
 {

@@ -3,7 +3,7 @@
 ghost use Rattle.std.specs.Prelude.{◌≡◌, ◌≤◌, IfOk};
 ghost use Rattle.std.specs.List.{AllByRecursion};
 ghost use Rattle.api_listing.specs.Listing.{IsFew};
-ghost use Rattle.class_codec.specs.Fits.{CanSpell};
+ghost use Rattle.class_codec.specs.Fits.{IsEncodable};
 ghost use Rattle.input_files.specs.Forms.{since};
 ghost use Rattle.input_files.specs.Kinds.{record_form};
 ghost use Rattle.input_files.specs.Named.{ReadsBefore};
@@ -36,7 +36,7 @@ fn read_over<S: Store>(
     requires { IsFew listing.now }
     ensures read { ReadsBefore (S.files store.old) (since (S.faults store.old) (S.faults store.new) (S.last store.new))
         (replay_named words.now).recorded (record_form listing.now) (replay_named words.now).classes result }
-    ensures fits { IfOk result (λ r. AllByRecursion CanSpell r.1.files) }
+    ensures fits { IfOk result (λ r. AllByRecursion IsEncodable r.1.files) }
     ensures files { S.files store.new ≡ S.files store.old }
     ensures faults { S.faults store.old ≤ S.faults store.new }
 {

@@ -3,7 +3,7 @@
 ghost use Rattle.std.specs.Prelude.{◌≡◌, ◌≤◌, IfOk};
 ghost use Rattle.input_files.specs.Forms.{since};
 ghost use Rattle.std.specs.List.{AllByRecursion};
-ghost use Rattle.class_codec.specs.Fits.{CanSpell};
+ghost use Rattle.class_codec.specs.Fits.{IsEncodable};
 ghost use Rattle.input_files.specs.ShowInputs.{ReadsShow};
 ghost use Rattle.command_words.specs.Words.{show_named};
 
@@ -29,7 +29,7 @@ pub fn read_show<S: Store>(
 ) -> Result<ShowInputs, Stop>
     ensures read { ReadsShow (S.files store.old) (since (S.faults store.old) (S.faults store.new) (S.last store.new))
         (show_named words.now) result }
-    ensures fits { IfOk result (λ inputs. AllByRecursion CanSpell inputs.classes.files) }
+    ensures fits { IfOk result (λ inputs. AllByRecursion IsEncodable inputs.classes.files) }
     ensures files { S.files store.new ≡ S.files store.old }
     ensures faults { S.faults store.old ≤ S.faults store.new }
 {

@@ -1,4 +1,4 @@
--- A code is read exactly as it is spelled.
+-- A code is read exactly as it is encoded.
 use Rattle.std.proofs.Common.{◌≡◌, ℕ, zero, suc, ℤ, ◌+◌, ◌*◌, ◌≤◌, Bool, true, false, not, List, [], ◌∷◌, ◌++◌, length, replicate, Result, Ok, Err, refl, sym, ap, subst, ◌∙◌, inl, inr, arith}
 use Rattle.std.specs.Prelude.{IfOk}
 use Rattle.std.specs.List.{flat_map, AllByRecursion}
@@ -12,8 +12,8 @@ use Rattle.insn_codec.specs.declared.insn.Insn.{Insn}
 use Rattle.insn_codec.specs.declared.insn.Insn.TheVariants.{Plain, Byte, Short, Ldc, Pool, Iface, Local, Inc, Branch, GotoW, NewArray, Table, Lookup}
 use Rattle.insn_codec.specs.Opcodes.{goes_on}
 use Rattle.mon_base.specs.Widths.{u1}
-use Rattle.insn_codec.specs.Spelling.{i4, range, keyed, opcode_of, padding, size, starts_of, offset, case, cases, bytes_of, bytes_from}
-use Rattle.insn_codec.specs.Fits.{IsInsn, AimsWithin, ReachFrom, Ends, SpellsCode}
+use Rattle.insn_codec.specs.Encoding.{i4, range, keyed, opcode_of, padding, size, starts_of, offset, case, cases, bytes_of, bytes_from}
+use Rattle.insn_codec.specs.Fits.{IsInsn, AimsWithin, ReachFrom, Ends, EncodesCode}
 use Rattle.mon_base.specs.Answer.{Answers}
 use Rattle.insn_codec.specs.Reading.{Finder, any, among, insn_at, insns_at, insns_of, ended, code_of}
 use Rattle.insn_codec.proofs.Laws.{Leads}
@@ -27,13 +27,13 @@ use Rattle.insn_codec.specs.declared.opcodes.TheConstants.{TABLESWITCH, LOOKUPSW
 
 -- ---- sizes
 
-four_each : {X : Type 0} (spell : X → List ℕ) → ((x : X) → length (spell x) ≡ 4) → (xs : List X) → length (flat_map spell xs) ≡ 4 * length xs
-four_each spell each [] = omega arith
-four_each spell each (x ∷ xs) = omega (arith, each x, four_each spell each xs, length-append (spell x) (flat_map spell xs))
+four_each : {X : Type 0} (encode : X → List ℕ) → ((x : X) → length (encode x) ≡ 4) → (xs : List X) → length (flat_map encode xs) ≡ 4 * length xs
+four_each encode each [] = omega arith
+four_each encode each (x ∷ xs) = omega (arith, each x, four_each encode each xs, length-append (encode x) (flat_map encode xs))
 
-eight_each : {X : Type 0} (spell : X → List ℕ) → ((x : X) → length (spell x) ≡ 8) → (xs : List X) → length (flat_map spell xs) ≡ 8 * length xs
-eight_each spell each [] = omega arith
-eight_each spell each (x ∷ xs) = omega (arith, each x, eight_each spell each xs, length-append (spell x) (flat_map spell xs))
+eight_each : {X : Type 0} (encode : X → List ℕ) → ((x : X) → length (encode x) ≡ 8) → (xs : List X) → length (flat_map encode xs) ≡ 8 * length xs
+eight_each encode each [] = omega arith
+eight_each encode each (x ∷ xs) = omega (arith, each x, eight_each encode each xs, length-append (encode x) (flat_map encode xs))
 
 len_cases : (ks : List ℤ) (ts : List ℕ) → length ks ≡ length ts → length (cases ks ts) ≡ length ts
 len_cases [] [] e = refl
@@ -84,27 +84,27 @@ abbrev FitsFrom : List ℕ → ℕ → ℕ → List Insn → Type 0
 FitsFrom starts n at [] = Unit {0}
 FitsFrom starts n at (first ∷ others) = FitsInsn starts n at first × FitsFrom starts n (at + size at first) others
 
-abbrev Spells : List ℕ → ℕ → ℕ → List Insn → List ℕ → Type 0
-Spells starts n at xs bytes = (bytes ≡ bytes_from starts at xs) × FitsFrom starts n at xs
+abbrev Encodes : List ℕ → ℕ → ℕ → List Insn → List ℕ → Type 0
+Encodes starts n at xs bytes = (bytes ≡ bytes_from starts at xs) × FitsFrom starts n at xs
 
-nothing_spelled : (starts : List ℕ) (n at : ℕ) (bytes : List ℕ) (xs : List Insn) → bytes ≡ [] → [] ≡ xs → Spells starts n at xs bytes
-nothing_spelled starts n at bytes xs none is =
-    subst (λ (ys : List Insn). Spells starts n at ys bytes) is (none ∙ sym (bytes_none starts at), tt)
+nothing_encoded : (starts : List ℕ) (n at : ℕ) (bytes : List ℕ) (xs : List Insn) → bytes ≡ [] → [] ≡ xs → Encodes starts n at xs bytes
+nothing_encoded starts n at bytes xs none is =
+    subst (λ (ys : List Insn). Encodes starts n at ys bytes) is (none ∙ sym (bytes_none starts at), tt)
 
 insns_takes : (find : Finder) (starts : List ℕ) (n : ℕ) → Leads find starts n → (fuel : ℕ) (p : Place) (xs : List Insn) (next : Place)
-    → IsBytes p.rest → length p.rest ≤ fuel → insns_at find fuel p ≡ Ok (xs, next) → Spells starts n p.at xs p.rest
+    → IsBytes p.rest → length p.rest ≤ fuel → insns_at find fuel p ≡ Ok (xs, next) → Encodes starts n p.at xs p.rest
 insns_takes find starts n leads zero p xs next fits short e =
     let none : p.rest ≡ [] = nothing p.rest (omega arith) in
     let made : List Insn × Place = ([], p) in
     let is = ok_is CodeFault made (xs, next) (sym (none_left find 0 p none) ∙ e) in
-    nothing_spelled starts n p.at p.rest xs none (ap (λ (x : List Insn × Place). x.0) is)
+    nothing_encoded starts n p.at p.rest xs none (ap (λ (x : List Insn × Place). x.0) is)
 insns_takes find starts n leads (suc fuel) p xs next fits short e =
     elim (cases_lt 0 (length p.rest)) [
       | inr empty ↦
           let none : p.rest ≡ [] = nothing p.rest (omega arith) in
           let made : List Insn × Place = ([], p) in
           let is = ok_is CodeFault made (xs, next) (sym (none_left find (suc fuel) p none) ∙ e) in
-          nothing_spelled starts n p.at p.rest xs none (ap (λ (x : List Insn × Place). x.0) is)
+          nothing_encoded starts n p.at p.rest xs none (ap (λ (x : List Insn × Place). x.0) is)
       | inl some ↦
           let e' = sym (first_of find fuel p (omega arith)) ∙ e in
           let a = bind_ok (insn_at find p.at p) (λ first. insns_at find fuel first.1 >>= λ others. Ok (first.0 ∷ others.0, others.1)) (xs, next) e' in
@@ -114,15 +114,15 @@ insns_takes find starts n leads (suc fuel) p xs next fits short e =
           let at : a.0.1.at ≡ p.at + size p.at a.0.0 = omega (arith, one.0.moved, len) in
           let shorter : length a.0.1.rest ≤ fuel = omega (arith, ap length one.0.parts, length-append (bytes_of starts p.at a.0.0) a.0.1.rest, len, size-some p.at a.0.0) in
           let two = insns_takes find starts n leads fuel a.0.1 b.0.0 b.0.1 one.0.fits shorter b.1 in
-          let two' = subst (λ (k : ℕ). Spells starts n k b.0.0 a.0.1.rest) at two in
+          let two' = subst (λ (k : ℕ). Encodes starts n k b.0.0 a.0.1.rest) at two in
           let all : p.rest ≡ bytes_from starts p.at (a.0.0 ∷ b.0.0) = one.0.parts ∙ ap (λ (bs : List ℕ). bytes_of starts p.at a.0.0 ++ bs) two'.0 ∙ sym (bytes_first starts p.at a.0.0 b.0.0) in
           let made : List Insn × Place = (a.0.0 ∷ b.0.0, b.0.1) in
           let is = ok_is CodeFault made (xs, next) b.2 in
-          subst (λ (ys : List Insn). Spells starts n p.at ys p.rest) (ap (λ (x : List Insn × Place). x.0) is) (all, (one.1, two'.1))
+          subst (λ (ys : List Insn). Encodes starts n p.at ys p.rest) (ap (λ (x : List Insn × Place). x.0) is) (all, (one.1, two'.1))
     ]
 
 insns_again : (find : Finder) (starts : List ℕ) (n : ℕ) → Leads find starts n → (xs : List Insn) (fuel : ℕ) (p : Place)
-    → Spells starts n p.at xs p.rest → length p.rest ≤ fuel → (next : Place) × (insns_at find fuel p ≡ Ok (xs, next))
+    → Encodes starts n p.at xs p.rest → length p.rest ≤ fuel → (next : Place) × (insns_at find fuel p ≡ Ok (xs, next))
 insns_again find starts n leads [] fuel p h short = (p, none_left find fuel p (h.0 ∙ bytes_none starts p.at))
 insns_again find starts n leads (x ∷ xs) zero p h short =
     let len = size_is starts p.at x h.1.0.0 in
@@ -136,8 +136,8 @@ insns_again find starts n leads (x ∷ xs) (suc fuel) p h short =
     let at : p.at + size p.at x ≡ mid.at = omega (arith, len) in
     let shorter : length mid.rest ≤ fuel = omega (arith, ap length e, length-append (bytes_of starts p.at x) rest, len, size-some p.at x) in
     let long : 1 ≤ length p.rest = omega (arith, ap length e, length-append (bytes_of starts p.at x) rest, len, size-some p.at x) in
-    let spelled : Spells starts n mid.at xs mid.rest = subst (λ (k : ℕ). Spells starts n k xs rest) at (refl, h.1.1) in
-    let two = insns_again find starts n leads xs fuel mid spelled shorter in
+    let encoded : Encodes starts n mid.at xs mid.rest = subst (λ (k : ℕ). Encodes starts n k xs rest) at (refl, h.1.1) in
+    let two = insns_again find starts n leads xs fuel mid encoded shorter in
     let step : insns_at find (suc fuel) p ≡ Ok (x ∷ xs, two.0) = first_of find fuel p long ∙ rw (one, two.1) refl in
     (two.0, step)
 
@@ -183,13 +183,13 @@ code_any find code xs e =
 -- ---- the code
 
 code_takes : (find : Finder) (starts : List ℕ) (n : ℕ) (code : List ℕ) (xs : List Insn) → Leads find starts n → IsBytes code
-    → insns_of find code ≡ Ok xs → Spells starts n 0 xs code
+    → insns_of find code ≡ Ok xs → Encodes starts n 0 xs code
 unfolding insns_of
 code_takes find starts n code xs leads fits e =
     let a = bind_ok (insns_at find (length code) (record { at = 0; rest = code })) (λ all. Ok all.0) xs e in
     let is = ok_is CodeFault a.0.0 xs a.2 in
     let h = insns_takes find starts n leads (length code) (record { at = 0; rest = code }) a.0.0 a.0.1 fits (omega arith) a.1 in
-    subst (λ (ys : List Insn). Spells starts n 0 ys code) is h
+    subst (λ (ys : List Insn). Encodes starts n 0 ys code) is h
 
 each_fits : (starts : List ℕ) (n at : ℕ) (xs : List Insn) → FitsFrom starts n at xs → AllByRecursion IsInsn xs
 each_fits starts n at [] h = tt
@@ -228,9 +228,9 @@ when_ends at [] h = refl
 when_ends at (x ∷ []) h = ap (λ (b : Bool). need b (faults.End at)) (not_false (goes_on (opcode_of x)) h)
 when_ends at (x ∷ y ∷ ys) h = ended_on at x (y ∷ ys) (omega arith) ∙ when_ends (at + size at x) (y ∷ ys) h
 
-spells_code : (code : List ℕ) (shapes all : List Insn) → IsBytes code → insns_of any code ≡ Ok shapes → insns_of (among shapes) code ≡ Ok all
-    → ended 0 all ≡ Ok tt → SpellsCode code all
-spells_code code shapes all fits one two three =
+encodes_code : (code : List ℕ) (shapes all : List Insn) → IsBytes code → insns_of any code ≡ Ok shapes → insns_of (among shapes) code ≡ Ok all
+    → ended 0 all ≡ Ok tt → EncodesCode code all
+encodes_code code shapes all fits one two three =
     let h = code_any (among shapes) code all two in
     let same : h.0 ≡ shapes = ok_is CodeFault h.0 shapes (sym h.1 ∙ one) in
     let alike : Alike shapes all = subst (λ (ys : List Insn). Alike ys all) same h.2 in
@@ -246,17 +246,17 @@ spells_code code shapes all fits one two three =
       };
     }
 
-code_spells : (code : List ℕ) (all : List Insn) → IsBytes code → code_of code ≡ Ok all → SpellsCode code all
+code_encodes : (code : List ℕ) (all : List Insn) → IsBytes code → code_of code ≡ Ok all → EncodesCode code all
 unfolding code_of
-code_spells code all fits e =
+code_encodes code all fits e =
     let a = bind_ok (insns_of any code) (λ shapes. insns_of (among shapes) code >>= λ all. ended 0 all >>= λ _. Ok all) all e in
     let b = bind_ok (insns_of (among a.0) code) (λ all. ended 0 all >>= λ _. Ok all) all a.2 in
     let c = bind_ok (ended 0 b.0) (λ _. Ok b.0) all b.2 in
     let is = ok_is CodeFault b.0 all c.2 in
-    subst (λ (xs : List Insn). SpellsCode code xs) is (spells_code code a.0 b.0 fits a.1 b.1 c.1)
+    subst (λ (xs : List Insn). EncodesCode code xs) is (encodes_code code a.0 b.0 fits a.1 b.1 c.1)
 
-pub spelled_code : (code : List ℕ) (all : List Insn) → SpellsCode code all → code_of code ≡ Ok all
-spelled_code code all s =
+pub encoded_code : (code : List ℕ) (all : List Insn) → EncodesCode code all → code_of code ≡ Ok all
+encoded_code code all s =
     let fits = all_fit (starts_of all) (length all) 0 all s.fits.each s.fits.targets s.fits.offsets in
     let h = insns_again (among all) (starts_of all) (length all) (leads all) all (length code) (record { at = 0; rest = code }) (s.is, fits) (omega arith) in
     let two : insns_of (among all) code ≡ Ok all = all_read (among all) code all h.0 h.1 in
@@ -264,13 +264,13 @@ spelled_code code all s =
     let two' : insns_of (among g.0) code ≡ Ok all = subst (λ (find : Finder). insns_of find code ≡ Ok all) (sym (same_finder g.0 all g.2)) two in
     code_read code g.0 all g.1 two' (when_ends 0 all s.fits.ends)
 
-pub is_found : (code : List ℕ) (r : Result (List Insn) CodeFault) → IsBytes code → Answers faults.Memory r (code_of code) → IfOk r (λ all. SpellsCode code all)
-is_found code (Ok all) fits given = code_spells code all fits given
+pub is_found : (code : List ℕ) (r : Result (List Insn) CodeFault) → IsBytes code → Answers faults.Memory r (code_of code) → IfOk r (λ all. EncodesCode code all)
+is_found code (Ok all) fits given = code_encodes code all fits given
 is_found code (Err e) fits given = tt
 
-pub is_only : (code : List ℕ) (r : Result (List Insn) CodeFault) (all : List Insn) → Answers faults.Memory r (code_of code) → SpellsCode code all → Answers faults.Memory r (Ok all)
-is_only code r all given s = subst (λ (read : Result (List Insn) CodeFault). Answers faults.Memory r read) (spelled_code code all s) given
+pub is_only : (code : List ℕ) (r : Result (List Insn) CodeFault) (all : List Insn) → Answers faults.Memory r (code_of code) → EncodesCode code all → Answers faults.Memory r (Ok all)
+is_only code r all given s = subst (λ (read : Result (List Insn) CodeFault). Answers faults.Memory r read) (encoded_code code all s) given
 
 pub is_each : (code : List ℕ) (r : Result (List Insn) CodeFault) → IsBytes code → Answers faults.Memory r (code_of code) → IfOk r (λ all. AllByRecursion IsInsn all)
-is_each code (Ok all) fits given = (code_spells code all fits given).fits.each
+is_each code (Ok all) fits given = (code_encodes code all fits given).fits.each
 is_each code (Err e) fits given = tt

@@ -14,7 +14,7 @@ use Rattle.insn_codec.specs.declared.insn.Case.{Case}
 use Rattle.insn_codec.specs.declared.insn.Insn.{Insn}
 use Rattle.insn_codec.specs.declared.insn.Insn.TheVariants.{Branch, GotoW, Table, Lookup}
 use Rattle.insn_codec.specs.Opcodes.{operands_of}
-use Rattle.insn_codec.specs.Spelling.{padding, size, starts_from, starts_of}
+use Rattle.insn_codec.specs.Encoding.{padding, size, starts_from, starts_of}
 use Rattle.insn_codec.specs.Reading.{Finder, Read, any, among, next_index, index_from, target_of, u1_at, i2_at, i4_at, near_at, far_at, padding_at, all_zero, bounds_at, ranged_at, table_at, case_at, ascend, count_at, cases_at, keyed_at, lookup_at, operands_at, insn_at}
 use Rattle.insn_codec.proofs.Laws.{Leads}
 use Rattle.insn_codec.proofs.Marks.{index_none, index_here, index_later, index_before}

@@ -9,7 +9,7 @@ use Rattle.insn_codec.specs.declared.insn.Insn.{Insn}
 use Rattle.insn_codec.specs.declared.insn.Insn.TheVariants.{Plain, Byte, Short, Ldc, Pool, Iface, Local, Inc, Branch, GotoW, NewArray, Table, Lookup}
 use Rattle.insn_codec.specs.Opcodes.{Opcode, opcode_at, operands_of}
 use Rattle.mon_base.specs.Widths.{u1, u2}
-use Rattle.insn_codec.specs.Spelling.{i1, i2, i4, offset, padding}
+use Rattle.insn_codec.specs.Encoding.{i1, i2, i4, offset, padding}
 use Rattle.insn_codec.specs.Fits.{IsInsn, AimsWithin, Reaches}
 use Rattle.insn_codec.proofs.OpcodeTable.{no_opcode}
 use Rattle.insn_codec.proofs.SwitchLaws.{is_table, is_lookup, after_padding, after_zeros}

@@ -1,4 +1,4 @@
--- An instruction is read exactly as it is spelled.
+-- An instruction is read exactly as it is encoded.
 use Rattle.std.proofs.Common.{◌≡◌, ℕ, ◌<◌, ◌^◌, true, false, List, [], ◌∷◌, ◌++◌, replicate, Ok, refl, sym, ap, subst, ◌∙◌, append_assoc, FitsSigned, inl, inr, arith}
 use Rattle.std.specs.Prelude.{◌==◌, ◌&&◌, ◌⊎◌, nat_le}
 use Rattle.std.specs.Int.{w8, w16, w32}
@@ -7,7 +7,7 @@ use Rattle.std.proofs.lemmas.Bool.{false≢true}
 use Rattle.std.proofs.lemmas.Bool.Decides.{nat_tests}
 use Rattle.std.proofs.lemmas.List.{append-nil}
 use Rattle.mon_base.specs.Reading.{Place, ◌>>=◌, need}
-use Rattle.mon_base.proofs.Reading.{bind_ok, ok_is, need_ok, after, Took, IsTail, IsReader, then, said, done, spelled, refuse}
+use Rattle.mon_base.proofs.Reading.{bind_ok, ok_is, need_ok, after, Took, IsTail, IsReader, then, said, done, encoded, refuse}
 use Rattle.mon_base.proofs.Readers.{tested, wrapped}
 use Rattle.insn_codec.specs.declared.fault.CodeFault.TheVariants as faults
 use Rattle.insn_codec.specs.declared.opcode.Operands.{Operands}
@@ -16,7 +16,7 @@ use Rattle.insn_codec.specs.declared.insn.Insn.{Insn}
 use Rattle.insn_codec.specs.declared.insn.Insn.TheVariants.{Plain, Byte, Short, Ldc, Pool, Iface, Local, Inc, Branch, GotoW, NewArray, Table, Lookup}
 use Rattle.insn_codec.specs.Opcodes.{operands_of}
 use Rattle.mon_base.specs.Widths.{u1}
-use Rattle.insn_codec.specs.Spelling.{offset, padding, bytes_of}
+use Rattle.insn_codec.specs.Encoding.{offset, padding, bytes_of}
 use Rattle.mon_base.specs.Widths.{IsU1}
 use Rattle.insn_codec.specs.Fits.{is_item_type, IsInsn}
 use Rattle.insn_codec.specs.Reading.{Finder, u1_at, iface_at, new_array_at, inc_at, wide_inc_at, widened_at, wide_at, operands_at, insn_at}
@@ -40,7 +40,7 @@ IsForm find starts n at o op = IsTail (operands_at o find at op) (after_first st
 
 plain_form : (find : Finder) (starts : List ℕ) (n at op : ℕ) → operands_of op ≡ ops.Plain → IsForm find starts n at ops.Plain op
 plain_form find starts n at op is =
-    said (spelled (done {known = Known ops.Plain op} (Plain op) (refl, refl) (λ a k. plain_made op a k))
+    said (encoded (done {known = Known ops.Plain op} (Plain op) (refl, refl) (λ a k. plain_made op a k))
     (λ a k. ap (after_first starts at) (sym (plain_made op a k))))
     (λ a f k. (subst (FitsInsn starts n at) (sym (plain_made op a k)) ((small ops.Plain refl op is, is), (tt, tt)), k))
     (λ a f k. (tt, k))
@@ -93,7 +93,7 @@ goto_w_form find starts n at op leads is = wrapped {A = Insn} (λ to. GotoW to) 
 
 inc_form : (find : Finder) (starts : List ℕ) (n at op : ℕ) → operands_of op ≡ ops.Inc → IsForm find starts n at ops.Inc op
 unfolding inc_at
-inc_form find starts n at op is = said (spelled (then {Fits = λ a. FitsSigned w8 (by_of a)} {known = Known ops.Inc op} _ (u1_is at) slot_of (λ a k. tt)
+inc_form find starts n at op is = said (encoded (then {Fits = λ a. FitsSigned w8 (by_of a)} {known = Known ops.Inc op} _ (u1_is at) slot_of (λ a k. tt)
     (λ slot k. wrapped {A = Insn} (λ by. Inc slot by false) (i1_is at)
     (λ by f k. (refl, f, ((sym (only_inc op is), refl), refl)))
     (λ a f k. (by_of a, ap (λ (m : ℕ). Inc m (by_of a) false) (sym k.1) ∙ inc_made a k.0.1, f, tt))))
@@ -103,7 +103,7 @@ inc_form find starts n at op is = said (spelled (then {Fits = λ a. FitsSigned w
 
 iface_form : (find : Finder) (starts : List ℕ) (n at op : ℕ) → operands_of op ≡ ops.Iface → IsForm find starts n at ops.Iface op
 unfolding iface_at
-iface_form find starts n at op is = said (spelled (then {Fits = λ a. IsU1 (count_of a) × Unit {0}} {known = Known ops.Iface op} _ (u2_is at) index_of (λ a k. tt)
+iface_form find starts n at op is = said (encoded (then {Fits = λ a. IsU1 (count_of a) × Unit {0}} {known = Known ops.Iface op} _ (u2_is at) index_of (λ a k. tt)
     (λ index k. then {Fits = λ a. Unit {0}} _ (u1_is at) count_of (λ a k. tt)
     (λ count k. tested {A = Insn} (λ z. z == 0) (faults.Form at) (λ z. Iface index count) (u1_is at)
     (λ z f k e. (ap u1 (equal_numbers z 0 e), tt, (((sym (only_iface op is), refl), refl), refl)))
@@ -270,7 +270,7 @@ KnownInc first op a = KnownWide first op a × (Inc (slot_of a) (by_of a) true �
 
 widened_inc : (at first op : ℕ) → first ≡ WIDE → operands_of op ≡ ops.Inc → IsWidened at first ops.Inc op
 unfolding wide_inc_at
-widened_inc at first op here is = said (spelled (then {Fits = λ a. FitsSigned w16 (by_of a)} {known = KnownInc first op} _ (u2_is at) slot_of (λ a k. tt)
+widened_inc at first op here is = said (encoded (then {Fits = λ a. FitsSigned w16 (by_of a)} {known = KnownInc first op} _ (u2_is at) slot_of (λ a k. tt)
     (λ slot k. wrapped {A = Insn} (λ by. Inc slot by true) (i2_is at)
     (λ by f k. (refl, f, ((((sym here, refl), sym (only_inc op is)), refl), refl)))
     (λ a f k. (by_of a, ap (λ (m : ℕ). Inc m (by_of a) true) (sym k.1) ∙ k.0.1, f, tt))))
@@ -286,7 +286,7 @@ widened_is at first here o op is = refuse (λ p. faults.Form at) (λ a f k. neve
 
 wide_form : (find : Finder) (starts : List ℕ) (n at op : ℕ) → operands_of op ≡ ops.Wide → IsForm find starts n at ops.Wide op
 unfolding wide_at
-wide_form find starts n at first is = said (spelled (then {Fits = IsInsn} {known = Known ops.Wide first} _ (u1_is at) inner_of (λ a k. tt)
+wide_form find starts n at first is = said (encoded (then {Fits = IsInsn} {known = Known ops.Wide first} _ (u1_is at) inner_of (λ a k. tt)
     (λ op k. widened_is at first (only_wide first is) (operands_of op) op refl))
     (λ a k. wide_after starts at a k.1))
     (λ a f k. (wide_fits starts n at a k.1 f.1, k))
@@ -324,7 +324,7 @@ table_from starts n at (Table other low targets) h f = ((f.1.0.0, f.1.1.0), (rec
 table_from starts n at a h f = absurd (false≢true h)
 
 table_op : (find : Finder) (starts : List ℕ) (n at op : ℕ) → Leads find starts n → operands_of op ≡ ops.Table → IsForm find starts n at ops.Table op
-table_op find starts n at op leads is = said (spelled (table_is find starts n at leads) (λ a k. table_after starts at a k))
+table_op find starts n at op leads is = said (encoded (table_is find starts n at leads) (λ a k. table_after starts at a k))
     (λ a f k. let h = table_known a k in (table_to starts n at a k f.1, (h.0 ∙ sym (only_table op is), h.1)))
     (λ a f k. let h = table_form a k.1 in ((tt, table_from starts n at a h f), h))
 
@@ -345,7 +345,7 @@ lookup_from starts n at (Lookup other keys targets) h f = ((f.1.0.0, f.1.1.0), (
 lookup_from starts n at a h f = absurd (false≢true h)
 
 lookup_op : (find : Finder) (starts : List ℕ) (n at op : ℕ) → Leads find starts n → operands_of op ≡ ops.Lookup → IsForm find starts n at ops.Lookup op
-lookup_op find starts n at op leads is = said (spelled (lookup_is find starts n at leads) (λ a k. lookup_after starts at a k))
+lookup_op find starts n at op leads is = said (encoded (lookup_is find starts n at leads) (λ a k. lookup_after starts at a k))
     (λ a f k. let h = lookup_known a k in (lookup_to starts n at a k f.1, (h.0 ∙ sym (only_lookup op is), h.1)))
     (λ a f k. let h = lookup_form a k.1 in ((tt, lookup_from starts n at a h f), h))
 
@@ -425,7 +425,7 @@ first_after starts at (Lookup other keys targets) = simp append_assoc
 pub insn_is : (find : Finder) (starts : List ℕ) (n at : ℕ) → Leads find starts n
     → IsReader (insn_at find at) (bytes_of starts at) (FitsInsn starts n at)
 unfolding insn_at
-insn_is find starts n at leads = said (spelled (then {Fits = FitsInsn starts n at} {known = λ _. Unit {0}} _ (u1_is at) first_byte (λ a k. tt)
+insn_is find starts n at leads = said (encoded (then {Fits = FitsInsn starts n at} {known = λ _. Unit {0}} _ (u1_is at) first_byte (λ a k. tt)
     (λ op k. said (operands_is find starts n at leads (operands_of op) op refl)
     (λ a f k. (f, (tt, k.0)))
     (λ a f k. (f, (k.1, sym (fits_form a f.0) ∙ ap operands_of k.1)))))

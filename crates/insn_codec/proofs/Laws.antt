@@ -1,4 +1,4 @@
--- Numbers, targets and switches are read exactly as they are spelled.
+-- Numbers, targets and switches are read exactly as they are encoded.
 use Rattle.std.proofs.Common.{◌≡◌, ℕ, ℤ, pos, ◌+ℤ◌, ◌-ℤ◌, ◌<◌, List, Some, Ok, refl, sym, ap, subst, ◌∙◌, FitsSigned, arith}
 use Rattle.std.specs.Prelude.{slice_index}
 use Rattle.std.specs.Int.{Width, w8, w16, w32}
@@ -8,7 +8,7 @@ use Rattle.mon_base.proofs.Reading.{ok_or_ok, IsReader, number_is, one, two, fou
 use Rattle.mon_base.proofs.Readers.{through, signed_is}
 use Rattle.insn_codec.specs.declared.fault.CodeFault.TheVariants.{Cut, Target}
 use Rattle.mon_base.specs.Widths.{u1, u2}
-use Rattle.insn_codec.specs.Spelling.{i1, i2, i4, offset}
+use Rattle.insn_codec.specs.Encoding.{i1, i2, i4, offset}
 use Rattle.mon_base.specs.Widths.{IsU1, IsU2}
 use Rattle.insn_codec.specs.Reading.{Finder, Read, u1_at, u2_at, i1_at, i2_at, i4_at, target_of, near_at, far_at}
 
@@ -60,11 +60,11 @@ target_from find starts n at to leads lt =
     rw h refl
 
 -- an offset of so many bits, turned into the index of its target
-target_is : (w : Width) {reader : Place → Read ℤ} {spell : ℤ → List ℕ} (find : Finder) (starts : List ℕ) (n at : ℕ) → Leads find starts n
-    → IsReader reader spell (λ z. FitsSigned w z)
-    → IsReader (λ p. reader p >>= λ by. target_of find at by.0 >>= λ to. Ok (to, by.1)) (λ to. spell (offset starts at to)) (λ to. (to < n) × FitsSigned w (offset starts at to))
-target_is w {spell = spell} find starts n at leads is = through (λ p by. target_of find at by) is
-    (λ p by to f k e. let h = target_to find starts n at by to leads e in (ap spell (sym h.1), (h.0, subst (FitsSigned w) (sym h.1) f), tt))
+target_is : (w : Width) {reader : Place → Read ℤ} {encode : ℤ → List ℕ} (find : Finder) (starts : List ℕ) (n at : ℕ) → Leads find starts n
+    → IsReader reader encode (λ z. FitsSigned w z)
+    → IsReader (λ p. reader p >>= λ by. target_of find at by.0 >>= λ to. Ok (to, by.1)) (λ to. encode (offset starts at to)) (λ to. (to < n) × FitsSigned w (offset starts at to))
+target_is w {encode = encode} find starts n at leads is = through (λ p by. target_of find at by) is
+    (λ p by to f k e. let h = target_to find starts n at by to leads e in (ap encode (sym h.1), (h.0, subst (FitsSigned w) (sym h.1) f), tt))
     (λ to f k. (offset starts at to, λ p. target_from find starts n at to leads f.0, refl, f.1, tt))
 
 pub near_is : (find : Finder) (starts : List ℕ) (n at : ℕ) → Leads find starts n

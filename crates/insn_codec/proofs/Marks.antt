@@ -6,7 +6,7 @@ use Rattle.std.proofs.lemmas.Bool.{cases_lt}
 use Rattle.std.proofs.lemmas.Bool.Decides.{nat_tests}
 use Rattle.insn_codec.specs.declared.insn.Insn.{Insn}
 use Rattle.insn_codec.specs.declared.targets.Targets.TheVariants.{Among}
-use Rattle.insn_codec.specs.Spelling.{size}
+use Rattle.insn_codec.specs.Encoding.{size}
 use Rattle.insn_codec.specs.Reading.{next_index, index_from, among}
 use Rattle.insn_codec.specs.Targets.{mark, finds, marks_from}
 use Rattle.insn_codec.proofs.Standing.{size-some}

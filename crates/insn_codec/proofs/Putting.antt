@@ -10,7 +10,7 @@ use Rattle.insn_codec.specs.declared.fault.CodeOverflow.{CodeOverflow}
 use Rattle.insn_codec.specs.declared.fault.CodeOverflow.TheVariants.{Length, Memory}
 use Rattle.insn_codec.specs.declared.insn.Case.{Case}
 use Rattle.insn_codec.specs.declared.insn.Insn.{Insn}
-use Rattle.insn_codec.specs.Spelling.{i4, size, offset, case, cases, bytes_of, bytes_from, starts_of, len_from, spelling}
+use Rattle.insn_codec.specs.Encoding.{i4, size, offset, case, cases, bytes_of, bytes_from, starts_of, len_from, encoding}
 use Rattle.insn_codec.specs.Fits.{IsInsn}
 use Rattle.mon_base.specs.Answer.{Fails, Answers}
 use Rattle.mon_base.proofs.Answering.{failed, along}
@@ -84,24 +84,24 @@ case_far starts at i targets total lt h so_far =
     let one : all_far starts at (drop i targets) ≡ all_far starts at (drop (i + 1) targets) = far_drop starts at i targets lt ∙ rw h refl in
     sym one ∙ so_far
 
-abbrev spelled : List ℕ → ℕ → List ℤ → List ℕ → List ℕ
-spelled starts at keys targets = flat_map (case starts at) (cases keys targets)
+abbrev encoded : List ℕ → ℕ → List ℤ → List ℕ → List ℕ
+encoded starts at keys targets = flat_map (case starts at) (cases keys targets)
 
 cases_drop : (starts : List ℕ) (at i : ℕ) (keys : List ℤ) (targets : List ℕ) → i < length keys → i < length targets
-    → spelled starts at (drop i keys) (drop i targets)
-    ≡ (i4 (get_or keys i (pos 0)) ++ i4 (offset starts at (get_or targets i 0))) ++ spelled starts at (drop (i + 1) keys) (drop (i + 1) targets)
+    → encoded starts at (drop i keys) (drop i targets)
+    ≡ (i4 (get_or keys i (pos 0)) ++ i4 (offset starts at (get_or targets i 0))) ++ encoded starts at (drop (i + 1) keys) (drop (i + 1) targets)
 cases_drop starts at i keys targets a b =
     let one : drop i keys ≡ get_or keys i (pos 0) ∷ drop (i + 1) keys = rw add-one (drop-cons keys i (pos 0) a) in
     let two : drop i targets ≡ get_or targets i 0 ∷ drop (i + 1) targets = rw add-one (drop-cons targets i 0 b) in
-    ap (λ (ks : List ℤ). spelled starts at ks (drop i targets)) one ∙ ap (λ (ts : List ℕ). spelled starts at (get_or keys i (pos 0) ∷ drop (i + 1) keys) ts) two
+    ap (λ (ks : List ℤ). encoded starts at ks (drop i targets)) one ∙ ap (λ (ts : List ℕ). encoded starts at (get_or keys i (pos 0) ∷ drop (i + 1) keys) ts) two
 
 pub cases_on : (starts : List ℕ) (at i : ℕ) (keys : List ℤ) (targets : List ℕ) (out total : List ℕ) → i < length keys → i < length targets
-    → out ++ spelled starts at (drop i keys) (drop i targets) ≡ total
-    → ((out ++ i4 (get_or keys i (pos 0))) ++ i4 (offset starts at (get_or targets i 0))) ++ spelled starts at (drop (i + 1) keys) (drop (i + 1) targets) ≡ total
+    → out ++ encoded starts at (drop i keys) (drop i targets) ≡ total
+    → ((out ++ i4 (get_or keys i (pos 0))) ++ i4 (offset starts at (get_or targets i 0))) ++ encoded starts at (drop (i + 1) keys) (drop (i + 1) targets) ≡ total
 cases_on starts at i keys targets out total a b so_far =
     let k = i4 (get_or keys i (pos 0)) in
     let t = i4 (offset starts at (get_or targets i 0)) in
-    let rest = spelled starts at (drop (i + 1) keys) (drop (i + 1) targets) in
+    let rest = encoded starts at (drop (i + 1) keys) (drop (i + 1) targets) in
     let one : ((out ++ k) ++ t) ++ rest ≡ out ++ ((k ++ t) ++ rest) = ap (λ (xs : List ℕ). xs ++ rest) (append_assoc out k t) ∙ append_assoc out (k ++ t) rest in
     one ∙ ap (λ (xs : List ℕ). out ++ xs) (sym (cases_drop starts at i keys targets a b)) ∙ so_far
 
@@ -118,7 +118,7 @@ cases_far_done starts at i targets total le so_far =
     sym so_far ∙ ap (all_far starts at) (nothing_dropped targets i le) ∙ far_none starts at
 
 pub cases_done : (starts : List ℕ) (at i : ℕ) (keys : List ℤ) (targets : List ℕ) (out total : List ℕ) → length targets ≤ i
-    → out ++ spelled starts at (drop i keys) (drop i targets) ≡ total → out ≡ total
+    → out ++ encoded starts at (drop i keys) (drop i targets) ≡ total → out ≡ total
 cases_done starts at i keys targets out total le so_far =
     let none : cases (drop i keys) (drop i targets) ≡ [] = ap (cases (drop i keys)) (nothing_dropped targets i le) ∙ no_cases (drop i keys) in
     sym (append-nil out) ∙ ap (λ (xs : List Case). out ++ flat_map (case starts at) xs) (sym none) ∙ so_far
@@ -189,7 +189,7 @@ others_fit (x ∷ xs) some h = rw (rest_is x xs) h.1
 
 -- ---- the code
 
-pub is_written : (insns : List Insn) → len_from 0 insns ≤ 65535 → reach_from (starts_of insns) 0 insns ≡ Ok tt → written insns ≡ Ok (spelling insns)
+pub is_written : (insns : List Insn) → len_from 0 insns ≤ 65535 → reach_from (starts_of insns) 0 insns ≡ Ok tt → written insns ≡ Ok (encoding insns)
 unfolding written
 is_written insns short held =
     let b : nat_le (len_from 0 insns) 65535 ≡ true = grind (arith, nat_tests) in
@@ -201,7 +201,7 @@ too_long insns long =
     let b : nat_le (len_from 0 insns) 65535 ≡ false = grind (arith, nat_tests) in
     rw b refl
 
-after_length : (insns : List Insn) → len_from 0 insns ≤ 65535 → written insns ≡ (reach_from (starts_of insns) 0 insns >>= λ _. Ok (spelling insns))
+after_length : (insns : List Insn) → len_from 0 insns ≤ 65535 → written insns ≡ (reach_from (starts_of insns) 0 insns >>= λ _. Ok (encoding insns))
 unfolding written
 after_length insns short =
     let b : nat_le (len_from 0 insns) 65535 ≡ true = grind (arith, nat_tests) in
@@ -210,8 +210,8 @@ after_length insns short =
 pub too_far : (insns : List Insn) (e : CodeOverflow) → len_from 0 insns ≤ 65535 → Fails Memory e (reach_from (starts_of insns) 0 insns)
     → Fails Memory e (written insns)
 too_far insns e short h =
-    along Memory e (reach_from (starts_of insns) 0 insns >>= λ _. Ok (spelling insns)) (written insns) (sym (after_length insns short))
-    (failed Memory e (reach_from (starts_of insns) 0 insns) (λ _. Ok (spelling insns)) h)
+    along Memory e (reach_from (starts_of insns) 0 insns >>= λ _. Ok (encoding insns)) (written insns) (sym (after_length insns short))
+    (failed Memory e (reach_from (starts_of insns) 0 insns) (λ _. Ok (encoding insns)) h)
 
 abbrev refused : CodeOverflow → Result (List ℕ) CodeOverflow
 refused e = Err e
@@ -226,12 +226,12 @@ held_is : (r : Result (Unit {0}) CodeOverflow) (bytes other : List ℕ) → (r >
 held_is (Ok done) bytes other h = cc
 held_is (Err e) bytes other h = absurd (not_both e other h)
 
-pub written_is : (insns : List Insn) (r : Result (List ℕ) CodeOverflow) → Answers Memory r (written insns) → IfOk r (λ bytes. bytes ≡ spelling insns)
+pub written_is : (insns : List Insn) (r : Result (List ℕ) CodeOverflow) → Answers Memory r (written insns) → IfOk r (λ bytes. bytes ≡ encoding insns)
 written_is insns (Err e) h = tt
 written_is insns (Ok bytes) h =
     elim (cases_lt 65535 (len_from 0 insns)) [
       | inl long ↦ absurd (not_both (Length (len_from 0 insns)) bytes (sym (too_long insns long) ∙ h))
-      | inr short ↦ sym (held_is (reach_from (starts_of insns) 0 insns) (spelling insns) bytes (sym (after_length insns short) ∙ h))
+      | inr short ↦ sym (held_is (reach_from (starts_of insns) 0 insns) (encoding insns) bytes (sym (after_length insns short) ∙ h))
     ]
 
 pub told_long : (insns : List Insn) (r : Result (List ℕ) CodeOverflow) → Answers Memory r (written insns) → 65535 < len_from 0 insns

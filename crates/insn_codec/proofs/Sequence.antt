@@ -7,7 +7,7 @@ use Rattle.std.proofs.lemmas.Bool.{false≢true}
 use Rattle.mon_base.specs.Reading.{Place, ◌>>=◌}
 use Rattle.insn_codec.specs.declared.fault.CodeFault.{CodeFault}
 use Rattle.insn_codec.specs.declared.insn.Insn.{Insn}
-use Rattle.insn_codec.specs.Spelling.{size, len_from}
+use Rattle.insn_codec.specs.Encoding.{size, len_from}
 use Rattle.mon_base.specs.Answer.{Fails}
 use Rattle.mon_base.proofs.Answering.{failed, along}
 use Rattle.mon_base.proofs.Loop.{with_front, regroup}

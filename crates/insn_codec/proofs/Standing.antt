@@ -7,7 +7,7 @@ use Rattle.mon_base.proofs.Lists.{rest_is, front_is}
 use Rattle.insn_codec.specs.declared.fault.CodeFault.{CodeFault}
 use Rattle.insn_codec.specs.declared.insn.Insn.{Insn}
 use Rattle.insn_codec.specs.declared.insn.Insn.TheVariants.{Plain, Byte, Short, Ldc, Pool, Iface, Local, Inc, Branch, GotoW, NewArray, Table, Lookup}
-use Rattle.insn_codec.specs.Spelling.{size, starts_from, len_from}
+use Rattle.insn_codec.specs.Encoding.{size, starts_from, len_from}
 use Rattle.insn_codec.specs.Reading.{ended}
 use Rattle.insn_codec.specs.Targets.{marks_from}
 

@@ -1,4 +1,4 @@
--- Switches are read exactly as they are spelled.
+-- Switches are read exactly as they are encoded.
 use Rattle.std.proofs.Common.{◌≡◌, ℕ, zero, suc, ℤ, pos, negsuc, ◌+ℤ◌, ◌-ℤ◌, ◌+◌, ◌≤◌, ◌<◌, ◌^◌, Bool, true, false, List, [], ◌∷◌, ◌++◌, length, map, replicate, refl, sym, ap, subst, ◌∙◌, FitsSigned, arith}
 use Rattle.std.specs.Prelude.{◌==◌, ◌&&◌, ◌<ℤ◌, int_le, nat_abs}
 use Rattle.std.specs.Int.{w32, cast_unsigned}
@@ -14,7 +14,7 @@ use Rattle.insn_codec.specs.declared.insn.Case.{Case}
 use Rattle.insn_codec.specs.declared.insn.Insn.{Insn}
 use Rattle.insn_codec.specs.declared.insn.Insn.TheVariants.{Table, Lookup}
 use Rattle.mon_base.specs.Widths.{u4}
-use Rattle.insn_codec.specs.Spelling.{i4, offset, padding, case, cases, keyed}
+use Rattle.insn_codec.specs.Encoding.{i4, offset, padding, case, cases, keyed}
 use Rattle.insn_codec.specs.Fits.{Ascend, FitsLookup}
 use Rattle.insn_codec.specs.Reading.{Finder, padding_at, all_zero, bounds_at, ranged_at, table_at, count_at, case_at, ascend_from, ascend, cases_at, keyed_at, lookup_at}
 use Rattle.insn_codec.proofs.Laws.{i4_is, Leads, FitsFar, far_is}

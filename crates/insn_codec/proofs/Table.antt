@@ -14,7 +14,7 @@ use Rattle.insn_codec.specs.declared.shape.Shape.{Shape}
 use Rattle.insn_codec.specs.declared.shape.Shape.TheVariants as shapes
 use Rattle.insn_codec.specs.Control.{View, goes_to, in_range, by_key}
 use Rattle.insn_codec.specs.Shapes.{shape_of, plain_shape, local_shape, branch_shape, test_shape, comparing_shape}
-use Rattle.insn_codec.specs.Spelling.{opcode_of}
+use Rattle.insn_codec.specs.Encoding.{opcode_of}
 use Rattle.insn_codec.specs.Fits.{IsInsn}
 use Rattle.insn_codec.specs.Table.{is_heap, ends, MarkedAlike, GoesOnAlike, NopAlone, GoesToSuccessor}
 use Rattle.insn_codec.proofs.OpcodeTests.{Agreement, is_nothing, is_switch, jumps_of, jumps_nowhere, plain_agrees, plain_stays, pool_agrees, pool_is_heap, local_agrees, local_stays, branch_agrees}

@@ -7,8 +7,8 @@ use Rattle.std.proofs.lemmas.List.{length-append}
 use Rattle.insn_codec.specs.declared.fault.CodeOverflow.{CodeOverflow}
 use Rattle.insn_codec.specs.declared.insn.Insn.{Insn}
 use Rattle.insn_codec.specs.declared.insn.Insn.TheVariants.{Branch, GotoW, Table, Lookup}
-use Rattle.insn_codec.specs.Spelling.{size, offset, starts_of, len_from, bytes_of, bytes_from}
-use Rattle.insn_codec.specs.Fits.{IsInsn, Reaches, ReachFrom, SpellsCode}
+use Rattle.insn_codec.specs.Encoding.{size, offset, starts_of, len_from, bytes_of, bytes_from}
+use Rattle.insn_codec.specs.Fits.{IsInsn, Reaches, ReachFrom, EncodesCode}
 use Rattle.mon_base.specs.Answer.{Answers}
 use Rattle.insn_codec.specs.declared.fault.CodeOverflow.TheVariants.{Memory}
 use Rattle.insn_codec.specs.Writing.{held_by_2, held_by_4, near, far, all_far, reach, reach_from, written}
@@ -53,7 +53,7 @@ len_is starts at (x ∷ xs) h =
     ap length (bytes_first starts at x xs) ∙ length-append (bytes_of starts at x) (bytes_from starts (at + size at x) xs)
     ∙ ap (λ (n : ℕ). n + length (bytes_from starts (at + size at x) xs)) one ∙ ap (λ (n : ℕ). size at x + n) others ∙ sym (len_first at x xs)
 
-pub is_back : (insns : List Insn) (r : Result (List ℕ) CodeOverflow) (bytes : List ℕ) → Answers Memory r (written insns) → SpellsCode bytes insns
+pub is_back : (insns : List Insn) (r : Result (List ℕ) CodeOverflow) (bytes : List ℕ) → Answers Memory r (written insns) → EncodesCode bytes insns
     → length bytes ≤ 65535 → Answers Memory r (Ok bytes)
 is_back insns r bytes told s short =
     let len = len_is (starts_of insns) 0 insns s.fits.each in

@@ -7,7 +7,7 @@ use Rattle.std.specs.Option.{option_map_or}
 use Rattle.insn_codec.specs.declared.insn.Insn.{Insn}
 use Rattle.insn_codec.specs.declared.insn.Insn.TheVariants as insns
 use Rattle.insn_codec.specs.Opcodes.{goes_on}
-use Rattle.insn_codec.specs.Spelling.{opcode_of}
+use Rattle.insn_codec.specs.Encoding.{opcode_of}
 use Rattle.insn_codec.specs.declared.shape.Relation.{Relation}
 use Rattle.insn_codec.specs.declared.shape.Relation.TheVariants as relations
 use Rattle.insn_codec.specs.declared.shape.Shape.{Shape}

@@ -8,7 +8,7 @@ use Rattle.insn_codec.specs.declared.opcode.Operands.TheVariants as ops
 use Rattle.insn_codec.specs.declared.insn.Insn.{Insn}
 use Rattle.insn_codec.specs.declared.insn.Insn.TheVariants.{Plain, Byte, Short, Ldc, Pool, Iface, Local, Inc, Branch, GotoW, NewArray, Table, Lookup}
 use Rattle.insn_codec.specs.Opcodes.{operands_of, goes_on}
-use Rattle.insn_codec.specs.Spelling.{opcode_of, size, offset, starts_of, spelling}
+use Rattle.insn_codec.specs.Encoding.{opcode_of, size, offset, starts_of, encoding}
 
 -- the types of an array's items: boolean, char, byte, short, int
 abbrev pub is_item_type : ℕ → Bool
@@ -81,13 +81,13 @@ Ends [] = ⊤
 Ends (last ∷ []) = goes_on (opcode_of last) ≡ false
 Ends (first ∷ next ∷ others) = Ends (next ∷ others)
 
-pub record CanSpell (insns : List Insn) : Type 0 where
+pub record IsEncodable (insns : List Insn) : Type 0 where
   pub each : AllByRecursion IsInsn insns
   pub targets : AllByRecursion (AimsWithin (length insns)) insns
   pub offsets : ReachFrom (starts_of insns) 0 insns
   pub ends : Ends insns
 
 -- The bytes are those of the code.
-pub record SpellsCode (bytes : List ℕ) (insns : List Insn) : Type 0 where
-  pub fits : CanSpell insns
-  pub is : bytes ≡ spelling insns
+pub record EncodesCode (bytes : List ℕ) (insns : List Insn) : Type 0 where
+  pub fits : IsEncodable insns
+  pub is : bytes ≡ encoding insns

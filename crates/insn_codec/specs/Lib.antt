@@ -1,5 +1,5 @@
 pub mod Opcodes
-pub mod Spelling
+pub mod Encoding
 pub mod Fits
 pub mod Reading
 pub mod Targets

@@ -11,7 +11,7 @@ use Rattle.insn_codec.specs.declared.insn.Insn.{Insn}
 use Rattle.insn_codec.specs.declared.insn.Insn.TheVariants as insns
 use Rattle.insn_codec.specs.declared.insn.Case.{Case}
 use Rattle.insn_codec.specs.Opcodes.{operands_of, goes_on}
-use Rattle.insn_codec.specs.Spelling.{opcode_of, padding, size}
+use Rattle.insn_codec.specs.Encoding.{opcode_of, padding, size}
 use Rattle.insn_codec.specs.Fits.{is_item_type}
 use Rattle.insn_codec.specs.declared.opcodes.TheConstants.{NEWARRAY}
 

@@ -4,7 +4,7 @@ use Rattle.std.specs.Prelude.{ℕ, ℤ, pos, negsuc, ◌+◌, ◌-◌, List, [],
 use Rattle.insn_codec.specs.declared.insn.Insn.{Insn}
 use Rattle.insn_codec.specs.declared.targets.Targets.{Targets}
 use Rattle.insn_codec.specs.declared.targets.Targets.TheVariants.{Any, Among}
-use Rattle.insn_codec.specs.Spelling.{size}
+use Rattle.insn_codec.specs.Encoding.{size}
 
 abbrev pub mark : Option (Option ℕ) → Option ℕ
 mark None = None

@@ -6,7 +6,7 @@ use Rattle.insn_codec.specs.declared.fault.CodeOverflow.{CodeOverflow}
 use Rattle.insn_codec.specs.declared.fault.CodeOverflow.TheVariants as overflows
 use Rattle.insn_codec.specs.declared.insn.Insn.{Insn}
 use Rattle.insn_codec.specs.declared.insn.Insn.TheVariants.{Branch, GotoW, Table, Lookup}
-use Rattle.insn_codec.specs.Spelling.{size, offset, starts_of, len_from, spelling}
+use Rattle.insn_codec.specs.Encoding.{size, offset, starts_of, len_from, encoding}
 
 -- Whether two and four bytes hold a number.
 abbrev pub held_by_2 : ℤ → Bool
@@ -43,7 +43,7 @@ unfoldable pub written : List Insn → Result (List ℕ) CodeOverflow
 written insns = do
   short ← need (nat_le (len_from 0 insns) 65535) (overflows.Length (len_from 0 insns))
   held ← reach_from (starts_of insns) 0 insns
-  Ok (spelling insns)
+  Ok (encoding insns)
 
 -- What a call that appends bytes answered, unless memory ran out.
 abbrev pub Puts : Result (Unit {0}) CodeOverflow → Result (Unit {0}) CodeOverflow → List ℕ → List ℕ → List ℕ → Type 0

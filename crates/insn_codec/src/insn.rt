@@ -1,7 +1,7 @@
 //! The instructions of a code.
 
 ghost use Rattle.std.specs.Prelude.{◌≡◌};
-ghost use Rattle.insn_codec.specs.Spelling.{opcode_of};
+ghost use Rattle.insn_codec.specs.Encoding.{opcode_of};
 
 use crate::opcodes::{
     BIPUSH, GOTO_W, IINC, INVOKEINTERFACE, LDC, LOOKUPSWITCH, NEWARRAY, SIPUSH, TABLESWITCH,

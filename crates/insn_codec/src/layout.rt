@@ -1,7 +1,7 @@
 //! Where instructions stand.
 
 ghost use Rattle.std.specs.Prelude.{◌≡◌, ◌++◌, ◌∷◌, ◌-◌, ◌+◌, ◌<◌, ◌≤◌, ◌^◌, replicate, Some, None, IfOk, OnOk};
-ghost use Rattle.insn_codec.specs.Spelling.{padding, size, starts_of, len_from};
+ghost use Rattle.insn_codec.specs.Encoding.{padding, size, starts_of, len_from};
 ghost use Rattle.insn_codec.specs.Reading.{ended};
 ghost use Rattle.insn_codec.specs.Targets.{marks_from};
 

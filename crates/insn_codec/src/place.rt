@@ -1,7 +1,7 @@
 //! Numbers at a place of the code, in the instruction at `at`.
 
 ghost use Rattle.std.specs.Prelude.{◌≡◌, ◌+◌, OnOk, length, IfOk};
-ghost use Rattle.insn_codec.specs.Spelling.{padding};
+ghost use Rattle.insn_codec.specs.Encoding.{padding};
 ghost use Rattle.mon_base.specs.Answer.{Reads, ReadsAs};
 ghost use Rattle.insn_codec.specs.Reading.{u1_at, u2_at, i1_at, i2_at, i4_at, padding_at, end_of};
 

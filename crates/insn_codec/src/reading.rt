@@ -2,13 +2,13 @@
 
 ghost use Rattle.std.specs.Prelude.{◌≡◌, ◌+◌, ◌<◌, ◌^◌, length, OnOk, IfOk, Ok, List};
 ghost use Rattle.std.specs.List.{AllByRecursion};
-ghost use Rattle.insn_codec.specs.Spelling.{size, len_from};
+ghost use Rattle.insn_codec.specs.Encoding.{size, len_from};
 ghost use Rattle.mon_base.specs.Answer.{Reads, Answers};
 ghost use Rattle.insn_codec.specs.Reading.{iface_at, new_array_at, inc_at, wide_inc_at, widened_at, wide_at};
 ghost use Rattle.mon_base.specs.Answer.{AnswersAs};
 ghost use Rattle.insn_codec.specs.Reading.{end_of, operands_at, insn_at, insns_of, code_of};
 ghost use Rattle.insn_codec.specs.Opcodes.{operands_of};
-ghost use Rattle.insn_codec.specs.Fits.{IsInsn, SpellsCode};
+ghost use Rattle.insn_codec.specs.Fits.{IsInsn, EncodesCode};
 ghost use Rattle.insn_codec.specs.Targets.{finds};
 ghost use Rattle.insn_codec.specs.declared.insn.Insn.{Insn};
 
@@ -208,10 +208,10 @@ fn all(alloc: Global, code: &[u8]) -> Result<List<Insn>, CodeFault>
 /// The instructions of a code, whose targets are given by index. The faults are those of [`CodeFault`].
 pub fn read_code(alloc: Global, code: &[u8]) -> Result<List<Insn>, CodeFault>
     requires { length code.now < 2 ^ 32 }
-    // What is read is spelled so.
-    ensures found { IfOk result (λ insns. SpellsCode code.now insns) }
-    // What is spelled so is read, unless memory runs out.
-    ensures only { (insns : List Insn) → SpellsCode code.now insns → Answers CodeFault.Memory result (Ok insns) }
+    // What is read is encoded so.
+    ensures found { IfOk result (λ insns. EncodesCode code.now insns) }
+    // What is encoded so is read, unless memory runs out.
+    ensures only { (insns : List Insn) → EncodesCode code.now insns → Answers CodeFault.Memory result (Ok insns) }
     // The instructions can be written, and have all the bytes.
     ensures each { IfOk result (λ insns. AllByRecursion IsInsn insns) }
     ensures len { IfOk result (λ insns. len_from 0 insns ≡ length code.now) }

@@ -2,7 +2,7 @@
 
 ghost use Rattle.std.specs.Prelude.{◌≡◌, ◌+◌, ◌*◌, ◌<◌, ◌^◌, ◌&&◌, length, map, IfOk, OnOk};
 ghost use Rattle.mon_base.specs.Reading.{counted};
-ghost use Rattle.insn_codec.specs.Spelling.{padding, size};
+ghost use Rattle.insn_codec.specs.Encoding.{padding, size};
 ghost use Rattle.mon_base.specs.Answer.{Reads, ReadsAs};
 ghost use Rattle.insn_codec.specs.Reading.{all_zero, bounds_at, ranged_at, table_at, end_of};
 ghost use Rattle.insn_codec.specs.Reading.{far_at, case_at, ascend, count_at, cases_at, keyed_at, lookup_at};

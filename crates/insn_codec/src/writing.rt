@@ -4,9 +4,9 @@ ghost use Rattle.std.specs.Prelude.{◌≡◌, ◌<◌, ◌≤◌, ◌^◌, ℕ,
 ghost use Rattle.std.specs.Prelude.{List, [], ◌++◌, length, slice_index, replicate};
 ghost use Rattle.std.specs.List.{flat_map, AllByRecursion};
 ghost use Rattle.mon_base.specs.Widths.{u1, u2, u4};
-ghost use Rattle.insn_codec.specs.Spelling.{i2, i4, offset, padding, case, cases, bytes_of, bytes_from};
-ghost use Rattle.insn_codec.specs.Spelling.{range, keyed, len_from, size, starts_of, spelling};
-ghost use Rattle.insn_codec.specs.Fits.{FitsSlot, FitsBy, FitsTable, FitsLookup, IsInsn, SpellsCode};
+ghost use Rattle.insn_codec.specs.Encoding.{i2, i4, offset, padding, case, cases, bytes_of, bytes_from};
+ghost use Rattle.insn_codec.specs.Encoding.{range, keyed, len_from, size, starts_of, encoding};
+ghost use Rattle.insn_codec.specs.Fits.{FitsSlot, FitsBy, FitsTable, FitsLookup, IsInsn, EncodesCode};
 ghost use Rattle.insn_codec.specs.declared.insn.Insn.TheVariants.{Local, Inc, Table, Lookup};
 ghost use Rattle.mon_base.specs.Answer.{Answers};
 ghost use Rattle.insn_codec.specs.Writing.{near, far, all_far, reach, reach_from, written, Puts};
@@ -425,13 +425,13 @@ pub fn write_code(alloc: Global, insns: &[Insn]) -> Result<Bytes, CodeOverflow>
     requires len { len_from 0 insns.now < 2 ^ 32 }
     requires each { AllByRecursion IsInsn insns.now }
     // The bytes are those of the instructions.
-    ensures is { IfOk result (λ bytes. bytes ≡ spelling insns.now) }
+    ensures is { IfOk result (λ bytes. bytes ≡ encoding insns.now) }
     // A code that is too long is refused before all else.
     ensures length { 65535 < len_from 0 insns.now → Answers CodeOverflow.Memory result (Err (Length (len_from 0 insns.now))) }
     // Which overflow it is, and that there is none where the code is short and each offset is held.
     ensures exact { Answers CodeOverflow.Memory result (written insns.now) }
     // What was read is written as it was.
-    ensures back { (bytes : List ℕ) → SpellsCode bytes insns.now → length bytes ≤ 65535 → Answers CodeOverflow.Memory result (Ok bytes) }
+    ensures back { (bytes : List ℕ) → EncodesCode bytes insns.now → length bytes ≤ 65535 → Answers CodeOverflow.Memory result (Ok bytes) }
 {
     written(alloc, insns)
 }

@@ -206,15 +206,15 @@ said_more line parts some = by parts some.is where
       let count : length (line ∷ p ∷ ps) - 1 ≡ suc (length (p ∷ ps) - 1) = omega arith in
       ap (λ (n : ℕ). map said (take n (line ∷ p ∷ ps)) ++ ending (slice_index_or (line ∷ p ∷ ps) n [])) count
 
-said_behind : (lines parts : List (List ℕ)) → HasPiece parts → said_lines (lines ++ parts) ≡ map said lines ++ said_lines parts
-said_behind [] parts some = refl
-said_behind (line ∷ lines) parts some = said_more line (lines ++ parts) (by lines) ∙ ap (λ (ss : List Said). said line ∷ ss) (said_behind lines parts some) where
+said_after : (lines parts : List (List ℕ)) → HasPiece parts → said_lines (lines ++ parts) ≡ map said lines ++ said_lines parts
+said_after [] parts some = refl
+said_after (line ∷ lines) parts some = said_more line (lines ++ parts) (by lines) ∙ ap (λ (ss : List Said). said line ∷ ss) (said_after lines parts some) where
   by : (ls : List (List ℕ)) → HasPiece (ls ++ parts)
   by [] = some
   by (l ∷ ls) = record { first = l; rest = ls ++ parts; is = refl }
 
-text_said : (n : ℕ) (front behind : List ℕ) (is : IsLines n front) → lines_said (front ++ behind) ≡ map said is.lines ++ lines_said behind
-text_said n front behind is = ap said_lines (pieces_of_lines 10 front behind is.lines is.ended) ∙ said_behind is.lines (pieces 10 behind) (some_piece 10 behind)
+text_said : (n : ℕ) (front following : List ℕ) (is : IsLines n front) → lines_said (front ++ following) ≡ map said is.lines ++ lines_said following
+text_said n front following is = ap said_lines (pieces_of_lines 10 front following is.lines is.ended) ∙ said_after is.lines (pieces 10 following) (some_piece 10 following)
 
 last_said : (before : List (List ℕ)) (line : List ℕ) → IsClass (said line) → LastIsClass (map said (before ++ line ∷ []))
 last_said [] line is = is
@@ -256,21 +256,21 @@ module _ (n : ℕ) (front a b : List ℕ) (is : IsLines n front) where
   first_lines = map said is.lines
 
   abbrev known_in : List ℕ → List ℕ → Bool
-  known_in behind = is_known (classes_in (lines_said (front ++ behind)))
+  known_in following = is_known (classes_in (lines_said (front ++ following)))
 
   abbrev reads : List ℕ → Result Listing ListFault → Type 0
-  reads behind r = after_lines (known_in behind) 1 built_in_listing (first_lines ++ lines_said behind) ≡ r
+  reads following r = after_lines (known_in following) 1 built_in_listing (first_lines ++ lines_said following) ≡ r
 
   counted : n + 1 ≡ 1 + length first_lines
   counted = omega (arith, is.count, length-map said is.lines)
 
-  by_lines : (behind : List ℕ) (r : Result Listing ListFault) → read_lines (lines_said (front ++ behind)) ≡ r → (refused (faults.TooMany (length (lines_said (front ++ behind)))) ≡ r → ⊥) → reads behind r
-  by_lines behind r h other =
-      subst (λ (xs : List Said). after_lines (known_in behind) 1 built_in_listing xs ≡ r) (text_said n front behind is) (not_many (lines_said (front ++ behind)) r h other)
+  by_lines : (following : List ℕ) (r : Result Listing ListFault) → read_lines (lines_said (front ++ following)) ≡ r → (refused (faults.TooMany (length (lines_said (front ++ following)))) ≡ r → ⊥) → reads following r
+  by_lines following r h other =
+      subst (λ (xs : List Said). after_lines (known_in following) 1 built_in_listing xs ≡ r) (text_said n front following is) (not_many (lines_said (front ++ following)) r h other)
 
-  of_lines : (behind : List ℕ) (r : Result Listing ListFault) → IsShort (front ++ behind) → reads behind r → read_lines (lines_said (front ++ behind)) ≡ r
-  of_lines behind r short h =
-      few_read (lines_said (front ++ behind)) short ∙ ap (after_lines (known_in behind) 1 built_in_listing) (text_said n front behind is) ∙ h
+  of_lines : (following : List ℕ) (r : Result Listing ListFault) → IsShort (front ++ following) → reads following r → read_lines (lines_said (front ++ following)) ≡ r
+  of_lines following r short h =
+      few_read (lines_said (front ++ following)) short ∙ ap (after_lines (known_in following) 1 built_in_listing) (text_said n front following is) ∙ h
 
   told_stays : (f : ListFault) → IsToldBy n front f → read_lines (lines_said (front ++ a)) ≡ refused f → Stays (known_in a) (known_in b) f 1 built_in_listing (first_lines ++ lines_said b)
   told_stays f told h =

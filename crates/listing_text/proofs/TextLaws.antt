@@ -1,4 +1,4 @@
--- What is read of a text is spelled so, and what is spelled so is read.
+-- What is read of a text is encoded so, and what is encoded so is read.
 use Rattle.std.proofs.Common.{◌≡◌, ℕ, ◌+◌, ◌-◌, ◌≤◌, Bool, true, false, not, cond, ltb, List, [], ◌∷◌, ◌++◌, length, take, map, Option, Some, None, Result, Ok, Err, refl, sym, ap, subst, ◌∙◌, append_assoc, arith, length-append, eqb}
 use Rattle.std.specs.Prelude.{filter, IfOk, MatchResult}
 use Rattle.std.specs.List.{list_all, filter_map, slice_index_or}
@@ -21,7 +21,7 @@ use Rattle.mon_base.specs.Answer.{Answers, Fails}
 use Rattle.api_listing.specs.Fault.{Read}
 use Rattle.api_listing.specs.Lines.{says_something}
 use Rattle.listing_text.specs.Saying.{form_of, said_as, said, ending, said_lines}
-use Rattle.api_listing.specs.Listing.{is_known, stands_already, names_known, class_declared, method_declared, field_declared, listing_of, AreSaid, SpellsListing, IsFew}
+use Rattle.api_listing.specs.Listing.{is_known, stands_already, names_known, class_declared, method_declared, field_declared, listing_of, AreSaid, EncodesListing, IsFew}
 use Rattle.listing_text.specs.Reading.{with_declaration, built_in_listing, declared, after_lines, class_said, classes_in, read_lines, reading}
 use Rattle.listing_text.proofs.Lists.{not_true}
 use Rattle.api_listing.proofs.DescriptorLaws.{both}
@@ -69,7 +69,7 @@ listing_more front (Method m types) =
 listing_more front (Field id class) =
     rw (filter_map-append class_declared front (Field id class ∷ []), filter_map-append method_declared front (Field id class ∷ []), filter_map-append field_declared front (Field id class ∷ []), append-nil (filter_map class_declared front), append-nil (filter_map method_declared front)) refl
 
--- ---- each behind those before it
+-- ---- each after those before it
 
 module _ (known : List ℕ → Bool) where
   abbrev Goes : List Declaration → List Declaration → Type 0
@@ -242,7 +242,7 @@ pub length-map : {X Y : Type 0} (f : X → Y) (xs : List X) → length (map f xs
 length-map f [] = refl
 length-map f (x ∷ xs) = omega (arith, length-map f xs)
 
-pub text_found : (text : List ℕ) (l : Listing) → reading text ≡ Ok l → SpellsListing text l
+pub text_found : (text : List ℕ) (l : Listing) → reading text ≡ Ok l → EncodesListing text l
 unfolding reading
 text_found text l h =
     let parts = pieces 10 text in
@@ -261,16 +261,16 @@ text_found text l h =
       said = ds;
       ended = ended;
       few = omega (arith, fits.0, length-map said lines);
-      spelled = said_found lines fits.1.0;
+      encoded = said_found lines fits.1.0;
       listed = fits.1.1;
       once = λ before after d e. ap not (goes_split (is_known l.classes) [] ds goes before after d e).0;
       named = λ before after d e. (goes_split (is_known l.classes) [] ds goes before after d e).1;
     }
 
-pub text_again : (text : List ℕ) (l : Listing) → SpellsListing text l → reading text ≡ Ok l
+pub text_again : (text : List ℕ) (l : Listing) → EncodesListing text l → reading text ≡ Ok l
 unfolding reading
 text_again text l s =
-    let read = said_again s.lines s.said s.spelled in
+    let read = said_again s.lines s.said s.encoded in
     let are : said_lines (pieces 10 text) ≡ map said s.lines = ap said_lines s.ended ∙ said_of_lines s.lines in
     let classes : is_known l.classes ≡ is_known (classes_in (map said s.lines)) =
     ap is_known (ap (λ (x : Listing). x.classes) s.listed ∙ ap (λ (ds : List Declaration). (listing_of ds).classes) (sym read.1) ∙ sym (classes_are (map said s.lines))) in
@@ -283,7 +283,7 @@ text_again text l s =
 
 -- ---- a call that answers what is read
 
-pub answer_found : (text : List ℕ) (result : Result Listing ListFault) → Answers faults.Memory result (reading text) → IfOk result (λ l. SpellsListing text l)
+pub answer_found : (text : List ℕ) (result : Result Listing ListFault) → Answers faults.Memory result (reading text) → IfOk result (λ l. EncodesListing text l)
 answer_found text (Ok l) h = text_found text l h
 answer_found text (Err e) h = tt
 
@@ -294,7 +294,7 @@ refused (faults.Twice line) l read h is = absurd (none_listed (faults.Twice line
 refused (faults.NoSuper line) l read h is = absurd (none_listed (faults.NoSuper line) l (sym (h (λ same. cc)) ∙ is))
 refused (faults.TooMany count) l read h is = absurd (none_listed (faults.TooMany count) l (sym (h (λ same. cc)) ∙ is))
 
-pub answer_only : (text : List ℕ) (result : Result Listing ListFault) → Answers faults.Memory result (reading text) → (l : Listing) → SpellsListing text l → MatchResult result (λ r. r ≡ l) (λ e. e ≡ faults.Memory)
+pub answer_only : (text : List ℕ) (result : Result Listing ListFault) → Answers faults.Memory result (reading text) → (l : Listing) → EncodesListing text l → MatchResult result (λ r. r ≡ l) (λ e. e ≡ faults.Memory)
 answer_only text (Ok r) h l s = listed_is r l (sym h ∙ text_again text l s)
 answer_only text (Err e) h l s = refused e l (reading text) h (text_again text l s)
 
@@ -324,9 +324,9 @@ built_in_count : length built_in_classes ≡ 20
 unfolding class_rows
 built_in_count = refl
 
-few_spelled : (text : List ℕ) (l : Listing) → SpellsListing text l → IsFew l
-few_spelled text l s =
-    let count : length s.said ≤ 20000 = omega (arith, s.few, few_left says_something s.lines, one_each (filter says_something s.lines) s.said s.spelled) in
+few_encoded : (text : List ℕ) (l : Listing) → EncodesListing text l → IsFew l
+few_encoded text l s =
+    let count : length s.said ≤ 20000 = omega (arith, s.few, few_left says_something s.lines, one_each (filter says_something s.lines) s.said s.encoded) in
     let few : IsFew (listing_of s.said) = record {
       classes = omega (arith, count, built_in_count, few_given class_declared s.said, length-append built_in_classes (filter_map class_declared s.said));
       methods = omega (arith, count, few_given method_declared s.said);
@@ -335,5 +335,5 @@ few_spelled text l s =
     subst IsFew (sym s.listed) few
 
 pub answer_few : (text : List ℕ) (result : Result Listing ListFault) → Answers faults.Memory result (reading text) → IfOk result (λ l. IsFew l)
-answer_few text (Ok l) h = few_spelled text l (text_found text l h)
+answer_few text (Ok l) h = few_encoded text l (text_found text l h)
 answer_few text (Err e) h = tt

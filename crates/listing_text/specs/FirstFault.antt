@@ -42,7 +42,7 @@ IsToldBy n text faults.Memory = ⊥
 
 -- ---- the laws
 
--- A fault that the first n lines tell stays, whatever stands behind them, if it declares each class that was declared.
+-- A fault that the first n lines tell stays, whatever stands after them, if it declares each class that was declared.
 abbrev pub FaultStays : Type 0
 FaultStays = (n : ℕ) (front a b : List ℕ) (fault : ListFault) → IsLines n front → IsToldBy n front fault → IsShort (front ++ b)
     → ((name : List ℕ) → IsTrue (knows (front ++ a) name) → IsTrue (knows (front ++ b) name))
@@ -53,7 +53,7 @@ abbrev pub FaultIsFinal : Type 0
 FaultIsFinal = (n : ℕ) (front a b : List ℕ) (fault : ListFault) (listing : Listing) → IsLines n front → IsToldBy n front fault
     → reading (front ++ a) ≡ Err fault → reading (front ++ b) ≢ Ok listing
 
--- 163 at line n stays, whatever stands behind the first n lines, if it declares the same classes.
+-- 163 at line n stays, whatever stands after the first n lines, if it declares the same classes.
 abbrev pub MissingStays : Type 0
 MissingStays = (n : ℕ) (front a b : List ℕ) → IsLines n front → IsShort (front ++ b)
     → ((name : List ℕ) → knows (front ++ a) name ≡ knows (front ++ b) name)

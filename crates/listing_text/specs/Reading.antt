@@ -28,7 +28,7 @@ with_method l m = record { classes = l.classes; methods = l.methods ++ m ∷ [];
 abbrev pub with_field : Listing → MethodId → Listing
 with_field l id = record { classes = l.classes; methods = l.methods; fields = l.fields ++ id ∷ [] }
 
--- the listing with the declaration behind its own
+-- the listing with the declaration after its own
 abbrev pub with_declaration : Listing → Declaration → Listing
 with_declaration l (Class c) = with_class l c
 with_declaration l (Method m types) = with_method l m

@@ -75,11 +75,11 @@ said_as (Err e) = saids.NoForm
 abbrev pub said : List ℕ → Said
 said line = if says_something line then said_as (form_of (pieces 32 line)) else saids.Nothing
 
--- What stands behind the last newline is nothing, or a line of no form.
+-- What stands after the last newline is nothing, or a line of no form.
 abbrev pub ending : List ℕ → List Said
 ending [] = []
 ending (b ∷ bytes) = saids.NoForm ∷ []
 
--- what the lines say that stand between newlines, and what stands behind the last
+-- what the lines say that stand between newlines, and what stands after the last
 abbrev pub said_lines : List (List ℕ) → List Said
 said_lines parts = map said (take (length parts - 1) parts) ++ ending (slice_index_or parts (length parts - 1) [])

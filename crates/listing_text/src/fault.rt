@@ -11,7 +11,7 @@ use thiserror::Error;
 /// from 1.
 #[derive(Clone, Copy, Debug, Error)]
 pub enum ListFault {
-    /// The line has none of the five forms, or it is the last and has no newline behind it.
+    /// The line has none of the five forms, or it is the last and has no newline after it.
     #[error("line {line} has no form of a listing")]
     Line { line: u64 },
     /// What the line declares stands on an earlier line, is built in, or is the tool's own class.

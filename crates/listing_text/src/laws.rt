@@ -3,7 +3,7 @@
 ghost use Rattle.listing_text.specs.FirstFault.{FaultIsFinal, FaultStays, MissingStays};
 
 /// Texts that agree up to the line of the fault have the same fault. Only a class that a method or field names may stand
-/// behind it.
+/// after it.
 pub fn faults_stay()
     // 161, 162, and 163 at a class
     ensures told { FaultStays }

@@ -1,7 +1,7 @@
 //! A listing out of its text.
 //!
 //! A listing is a text of lines (docs/LISTINGS.md). [`read`] answers what it declares beside the built-in classes, or the
-//! first line that is wrong. What a listing is, and which text spells it, is said in the crate api_listing.
+//! first line that is wrong. What a listing is, and which text encodes it, is said in the crate api_listing.
 #![tactic(auto)]
 
 mod draft;

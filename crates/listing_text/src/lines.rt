@@ -38,7 +38,7 @@ pub enum Said {
     Says(Declaration),
 }
 
-/// What the lines of the text say. What stands behind the last newline is a line of no form, unless it is nothing.
+/// What the lines of the text say. What stands after the last newline is a line of no form, unless it is nothing.
 pub fn said_lines(alloc: Global, text: &[u8]) -> Result<List<Said>, NoMemory>
     ensures { IfOk result (λ said. said ≡ said_lines (pieces 10 text.now)) }
 {

@@ -5,7 +5,7 @@ ghost use Rattle.listing_text.specs.declared.fault.ListFault.TheVariants as faul
 ghost use Rattle.api_listing.specs.declared.types.Listing.{Listing};
 ghost use Rattle.mon_base.specs.Answer.{Answers};
 ghost use Rattle.api_listing.specs.Seen.{has_name};
-ghost use Rattle.api_listing.specs.Listing.{is_known, SpellsListing, IsFew};
+ghost use Rattle.api_listing.specs.Listing.{is_known, EncodesListing, IsFew};
 ghost use Rattle.listing_text.specs.Reading.{is_named, class_said, classes_in, reading};
 
 use crate::draft::listing_of;
@@ -17,14 +17,14 @@ use mon_base::{Bytes, NoMemory};
 use std::alloc::Global;
 use std::collections::BTreeSet;
 
-/// The listing that the text spells, or what is wrong with its first line that is wrong.
+/// The listing that the text encodes, or what is wrong with its first line that is wrong.
 pub fn read(alloc: Global, text: &[u8]) -> Result<Listing, ListFault>
     // What is read decides the answer, and of several faults which one.
     ensures exact { Answers ListFault.Memory result (reading text.now) }
-    // What is read is spelled so.
-    ensures found { IfOk result (λ l. SpellsListing text.now l) }
-    // What is spelled so is read, unless memory runs out.
-    ensures only { (l : Listing) → SpellsListing text.now l
+    // What is read is encoded so.
+    ensures found { IfOk result (λ l. EncodesListing text.now l) }
+    // What is encoded so is read, unless memory runs out.
+    ensures only { (l : Listing) → EncodesListing text.now l
         → MatchResult result (λ r. r ≡ l) (λ e. e ≡ faults.Memory) }
     // It is few, so that an index of a method fits 32 bits.
     ensures few { IfOk result (λ l. IsFew l) }

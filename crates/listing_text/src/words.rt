@@ -6,7 +6,7 @@ ghost use Rattle.api_listing.specs.Words.{pieces};
 use mon_base::{Bytes, List, NoMemory};
 use std::alloc::{AllocError, Global};
 
-/// The pieces of the text before, between and behind the places of the byte.
+/// The pieces of the text before, between and after the places of the byte.
 pub fn pieces(alloc: Global, text: &[u8], byte: u8) -> Result<List<Bytes>, NoMemory>
     ensures { IfOk result (λ ps. ps ≡ pieces byte text.now) }
 {

@@ -1,4 +1,4 @@
--- Readers and spellings: what is read is spelled so, and what is spelled so is read, whatever follows.
+-- Readers and encodings: what is read is encoded so, and what is encoded so is read, whatever follows.
 --
 -- A reader goes from a place to an answer and the place after it, or to a fault. The law of a reader is an IsReader,
 -- and the law of what is left of a reader after some fields is an IsTail, where `known` says which fields of the
@@ -13,7 +13,7 @@
 --
 --     entry_is : IsReader entry_at entry FitsEntry
 --     unfolding entry_at
---     entry_is = fitting (spelled (
+--     entry_is = fitting (encoded (
 --         then_same _ (number_is four (λ p. Short p.at)) 51966 (omega arith) (
 --         then _ (number_is two (λ p. Short p.at)) (λ e. e.flags) (λ e k. tt) λ flags k.
 --         then _ string_is (λ e. e.name) (λ e k. tt) λ name k.
@@ -93,16 +93,16 @@ Took-then a x b y c p q = record {
   fits = q.fits;
 }
 
--- Of the answers of which known holds, the reader reads exactly the texts that spell gives those of which Fits holds.
-pub record IsTail {A E : Type 0} (reader : Place → Result (A × Place) E) (spell : A → List ℕ) (Fits known : A → Type 0) : Type 0 where
+-- Of the answers of which known holds, the reader reads exactly the texts that encode gives those of which Fits holds.
+pub record IsTail {A E : Type 0} (reader : Place → Result (A × Place) E) (encode : A → List ℕ) (Fits known : A → Type 0) : Type 0 where
   pub takes : (place : Place) (a : A) (next : Place) → IsBytes place.rest → reader place ≡ Ok (a, next)
-      → Took place (spell a) next × Fits a × known a
-  pub again : (place : Place) (a : A) (rest : List ℕ) → Fits a → known a → place.rest ≡ spell a ++ rest
-      → reader place ≡ Ok (a, after place (spell a) rest)
+      → Took place (encode a) next × Fits a × known a
+  pub again : (place : Place) (a : A) (rest : List ℕ) → Fits a → known a → place.rest ≡ encode a ++ rest
+      → reader place ≡ Ok (a, after place (encode a) rest)
 
--- The reader reads exactly the texts that spell gives.
+-- The reader reads exactly the texts that encode gives.
 abbrev pub IsReader : {A E : Type 0} → (Place → Result (A × Place) E) → (A → List ℕ) → (A → Type 0) → Type 0
-IsReader reader spell Fits = IsTail reader spell Fits (λ _. Unit {0})
+IsReader reader encode Fits = IsTail reader encode Fits (λ _. Unit {0})
 
 -- the end of a record: its answer is the one of which known holds
 pub done : {A E : Type 0} {known : A → Type 0} (made : A) → known made → ((a : A) → known a → a ≡ made)
@@ -116,39 +116,39 @@ done {A = A} {E = E} {known = known} made holds only = record {
 }
 
 -- a field, and then the others, whose faults may tell the place of the field
-pub then_from : {A X E : Type 0} {reader : Place → Result (X × Place) E} {spell_x : X → List ℕ} {Fits_x known_x : X → Type 0}
-    {spell : A → List ℕ} {Fits known : A → Type 0} (others : Place → X × Place → Result (A × Place) E)
-    → IsTail reader spell_x Fits_x known_x → (field : A → X) → ((a : A) → known a → known_x (field a))
-    → ((place : Place) (x : X) → known_x x → IsTail (λ p. others place (x, p)) spell Fits (λ a. known a × (field a ≡ x)))
-    → IsTail (λ place. reader place >>= others place) (λ a. spell_x (field a) ++ spell a) (λ a. Fits_x (field a) × Fits a) known
-then_from {reader = reader} {spell_x = spell_x} {spell = spell} others first field told rest_is = record {
+pub then_from : {A X E : Type 0} {reader : Place → Result (X × Place) E} {encode_x : X → List ℕ} {Fits_x known_x : X → Type 0}
+    {encode : A → List ℕ} {Fits known : A → Type 0} (others : Place → X × Place → Result (A × Place) E)
+    → IsTail reader encode_x Fits_x known_x → (field : A → X) → ((a : A) → known a → known_x (field a))
+    → ((place : Place) (x : X) → known_x x → IsTail (λ p. others place (x, p)) encode Fits (λ a. known a × (field a ≡ x)))
+    → IsTail (λ place. reader place >>= others place) (λ a. encode_x (field a) ++ encode a) (λ a. Fits_x (field a) × Fits a) known
+then_from {reader = reader} {encode_x = encode_x} {encode = encode} others first field told rest_is = record {
   takes = λ place a next fits e.
       let b = bind_ok (reader place) (others place) (a, next) e in
       let one = first.takes place b.0.0 b.0.1 fits b.1 in
       let two = (rest_is place b.0.0 one.2).takes b.0.1 a next one.0.fits b.2 in
       let same : field a ≡ b.0.0 = two.2.1 in
-      (rw same (Took-then place (spell_x b.0.0) b.0.1 (spell a) next one.0 two.0), (rw same one.1, two.1), two.2.0);
+      (rw same (Took-then place (encode_x b.0.0) b.0.1 (encode a) next one.0 two.0), (rw same one.1, two.1), two.2.0);
   again = λ place a rest fits h e.
-      let mid = after place (spell_x (field a)) (spell a ++ rest) in
-      let one = first.again place (field a) (spell a ++ rest) fits.0 (told a h) (e ∙ append_assoc (spell_x (field a)) (spell a) rest) in
+      let mid = after place (encode_x (field a)) (encode a ++ rest) in
+      let one = first.again place (field a) (encode a ++ rest) fits.0 (told a h) (e ∙ append_assoc (encode_x (field a)) (encode a) rest) in
       let two = (rest_is place (field a) (told a h)).again mid a rest fits.1 (h, refl) refl in
-      let far : place.at + length (spell_x (field a)) + length (spell a) ≡ place.at + length (spell_x (field a) ++ spell a) = omega (arith, length-append (spell_x (field a)) (spell a)) in
+      let far : place.at + length (encode_x (field a)) + length (encode a) ≡ place.at + length (encode_x (field a) ++ encode a) = omega (arith, length-append (encode_x (field a)) (encode a)) in
       rw (one, two, far) refl;
 }
 
 -- a field, and then the others
-pub then : {A X E : Type 0} {reader : Place → Result (X × Place) E} {spell_x : X → List ℕ} {Fits_x known_x : X → Type 0}
-    {spell : A → List ℕ} {Fits known : A → Type 0} (others : X × Place → Result (A × Place) E)
-    → IsTail reader spell_x Fits_x known_x → (field : A → X) → ((a : A) → known a → known_x (field a))
-    → ((x : X) → known_x x → IsTail (λ place. others (x, place)) spell Fits (λ a. known a × (field a ≡ x)))
-    → IsTail (λ place. reader place >>= others) (λ a. spell_x (field a) ++ spell a) (λ a. Fits_x (field a) × Fits a) known
+pub then : {A X E : Type 0} {reader : Place → Result (X × Place) E} {encode_x : X → List ℕ} {Fits_x known_x : X → Type 0}
+    {encode : A → List ℕ} {Fits known : A → Type 0} (others : X × Place → Result (A × Place) E)
+    → IsTail reader encode_x Fits_x known_x → (field : A → X) → ((a : A) → known a → known_x (field a))
+    → ((x : X) → known_x x → IsTail (λ place. others (x, place)) encode Fits (λ a. known a × (field a ≡ x)))
+    → IsTail (λ place. reader place >>= others) (λ a. encode_x (field a) ++ encode a) (λ a. Fits_x (field a) × Fits a) known
 then others first field told rest_is = then_from (λ place. others) first field told (λ place. rest_is)
 
 -- the same reader, where what is known of its answers, and what fits, is said in other words
-pub said : {A E : Type 0} {reader : Place → Result (A × Place) E} {spell : A → List ℕ} {Fits Fits' known known' : A → Type 0}
-    → IsTail reader spell Fits known → ((a : A) → Fits a → known a → Fits' a × known' a) → ((a : A) → Fits' a → known' a → Fits a × known a)
-    → IsTail reader spell Fits' known'
-said {spell = spell} is to from = record {
+pub said : {A E : Type 0} {reader : Place → Result (A × Place) E} {encode : A → List ℕ} {Fits Fits' known known' : A → Type 0}
+    → IsTail reader encode Fits known → ((a : A) → Fits a → known a → Fits' a × known' a) → ((a : A) → Fits' a → known' a → Fits a × known a)
+    → IsTail reader encode Fits' known'
+said {encode = encode} is to from = record {
   takes = λ place a next fits e.
       let t = is.takes place a next fits e in
       let h = to a t.1 t.2 in
@@ -159,20 +159,20 @@ said {spell = spell} is to from = record {
 }
 
 -- the same reader, where what fits is said in other words
-pub fitting : {A E : Type 0} {reader : Place → Result (A × Place) E} {spell : A → List ℕ} {Fits Fits' known : A → Type 0}
-    → IsTail reader spell Fits known → ((a : A) → known a → Fits a → Fits' a) → ((a : A) → known a → Fits' a → Fits a)
-    → IsTail reader spell Fits' known
+pub fitting : {A E : Type 0} {reader : Place → Result (A × Place) E} {encode : A → List ℕ} {Fits Fits' known : A → Type 0}
+    → IsTail reader encode Fits known → ((a : A) → known a → Fits a → Fits' a) → ((a : A) → known a → Fits' a → Fits a)
+    → IsTail reader encode Fits' known
 fitting is to from = said is (λ a f k. (to a k f, k)) (λ a f k. (from a k f, k))
 
 -- the last field of a record, where nothing but a fact about it is known
-pub last : {A E : Type 0} {reader : Place → Result (A × Place) E} {spell : A → List ℕ} {Fits known : A → Type 0}
-    → IsTail reader spell Fits known → IsTail reader spell Fits (λ a. Unit {0} × known a)
+pub last : {A E : Type 0} {reader : Place → Result (A × Place) E} {encode : A → List ℕ} {Fits known : A → Type 0}
+    → IsTail reader encode Fits known → IsTail reader encode Fits (λ a. Unit {0} × known a)
 last is = said is (λ a f k. (f, (tt, k))) (λ a f k. (f, k.1))
 
--- the same reader and spelling, written otherwise where it fits
-pub spelled_where : {A E : Type 0} {reader : Place → Result (A × Place) E} {spell spell' : A → List ℕ} {Fits known : A → Type 0}
-    → IsTail reader spell Fits known → ((a : A) → Fits a → known a → spell a ≡ spell' a) → IsTail reader spell' Fits known
-spelled_where is same = record {
+-- the same reader and encoding, written otherwise where it fits
+pub encoded_where : {A E : Type 0} {reader : Place → Result (A × Place) E} {encode encode' : A → List ℕ} {Fits known : A → Type 0}
+    → IsTail reader encode Fits known → ((a : A) → Fits a → known a → encode a ≡ encode' a) → IsTail reader encode' Fits known
+encoded_where is same = record {
   takes = λ place a next fits e.
       let t = is.takes place a next fits e in
       (subst (λ (w : List ℕ). Took place w next) (same a t.1 t.2) t.0, t.1, t.2);
@@ -181,16 +181,16 @@ spelled_where is same = record {
       g ∙ ap (λ (w : List ℕ). Ok (a, after place w rest)) (same a fits h);
 }
 
--- the same reader and spelling, written otherwise
-pub spelled : {A E : Type 0} {reader : Place → Result (A × Place) E} {spell spell' : A → List ℕ} {Fits known : A → Type 0}
-    → IsTail reader spell Fits known → ((a : A) → known a → spell a ≡ spell' a) → IsTail reader spell' Fits known
-spelled is same = spelled_where is (λ a fits k. same a k)
+-- the same reader and encoding, written otherwise
+pub encoded : {A E : Type 0} {reader : Place → Result (A × Place) E} {encode encode' : A → List ℕ} {Fits known : A → Type 0}
+    → IsTail reader encode Fits known → ((a : A) → known a → encode a ≡ encode' a) → IsTail reader encode' Fits known
+encoded is same = encoded_where is (λ a fits k. same a k)
 
 -- a test of what is known, and then the others, whose law may use that it held
-pub guarded : {A E : Type 0} {others : Place → Result (A × Place) E} {spell : A → List ℕ} {Fits known : A → Type 0} (Holds : A → Type 0) (test : Bool) (fault : Place → E)
+pub guarded : {A E : Type 0} {others : Place → Result (A × Place) E} {encode : A → List ℕ} {Fits known : A → Type 0} (Holds : A → Type 0) (test : Bool) (fault : Place → E)
     → ((a : A) → known a → test ≡ true → Holds a) → ((a : A) → known a → Holds a → test ≡ true)
-    → (test ≡ true → IsTail others spell Fits known)
-    → IsTail (λ place. need test (fault place) >>= λ _. others place) spell (λ a. Holds a × Fits a) known
+    → (test ≡ true → IsTail others encode Fits known)
+    → IsTail (λ place. need test (fault place) >>= λ _. others place) encode (λ a. Holds a × Fits a) known
 guarded {others = others} Holds test fault to from is = record {
   takes = λ place a next fits e.
       let b = need_ok test (fault place) (λ _. others place) (a, next) e in
@@ -203,87 +203,87 @@ guarded {others = others} Holds test fault to from is = record {
 }
 
 -- a test of what is known, and then the others
-pub guard : {A E : Type 0} {others : Place → Result (A × Place) E} {spell : A → List ℕ} {Fits known : A → Type 0} (Holds : A → Type 0) (test : Bool) (fault : Place → E)
+pub guard : {A E : Type 0} {others : Place → Result (A × Place) E} {encode : A → List ℕ} {Fits known : A → Type 0} (Holds : A → Type 0) (test : Bool) (fault : Place → E)
     → ((a : A) → known a → test ≡ true → Holds a) → ((a : A) → known a → Holds a → test ≡ true)
-    → IsTail others spell Fits known
-    → IsTail (λ place. need test (fault place) >>= λ _. others place) spell (λ a. Holds a × Fits a) known
+    → IsTail others encode Fits known
+    → IsTail (λ place. need test (fault place) >>= λ _. others place) encode (λ a. Holds a × Fits a) known
 guard Holds test fault to from is = guarded Holds test fault to from (λ holds. is)
 
 -- one of two readers, by a test of what is known
-pub choose : {A E : Type 0} {yes no : Place → Result (A × Place) E} {spell : A → List ℕ} {Fits known : A → Type 0} (test : Bool)
-    → (test ≡ true → IsTail yes spell Fits known) → (test ≡ false → IsTail no spell Fits known)
-    → IsTail (λ place. cond test (yes place) (no place)) spell Fits known
+pub choose : {A E : Type 0} {yes no : Place → Result (A × Place) E} {encode : A → List ℕ} {Fits known : A → Type 0} (test : Bool)
+    → (test ≡ true → IsTail yes encode Fits known) → (test ≡ false → IsTail no encode Fits known)
+    → IsTail (λ place. cond test (yes place) (no place)) encode Fits known
 choose true first second = first refl
 choose false first second = second refl
 
--- a reader that refuses, where nothing that is spelled could be known
-pub refuse : {A E : Type 0} {spell : A → List ℕ} {Fits known : A → Type 0} (fault : Place → E)
-    → ((a : A) → Fits a → known a → ⊥) → IsTail (λ place. Err (fault place)) spell Fits known
+-- a reader that refuses, where nothing that is encoded could be known
+pub refuse : {A E : Type 0} {encode : A → List ℕ} {Fits known : A → Type 0} (fault : Place → E)
+    → ((a : A) → Fits a → known a → ⊥) → IsTail (λ place. Err (fault place)) encode Fits known
 refuse fault never = record {
   takes = λ place a next fits e. absurd cc;
   again = λ place a rest fits h e. absurd (never a fits h);
 }
 
 -- a number that is always the same, and then the others; the fault may tell its place, the number read and the place after it
-pub then_same : {A E : Type 0} {reader : Place → Result (ℕ × Place) E} {spell_x : ℕ → List ℕ} {Fits_x : ℕ → Type 0}
-    {others : Place → Result (A × Place) E} {spell : A → List ℕ} {Fits known : A → Type 0} (fault : Place → ℕ × Place → E)
-    → IsReader reader spell_x Fits_x → (same : ℕ) → Fits_x same
-    → IsTail others spell Fits known
-    → IsTail (λ place. reader place >>= λ x. need (x.0 == same) (fault place x) >>= λ _. others x.1) (λ a. spell_x same ++ spell a) Fits known
-then_same {reader = reader} {spell_x = spell_x} {others = others} {spell = spell} fault first same fits_same is = record {
+pub then_same : {A E : Type 0} {reader : Place → Result (ℕ × Place) E} {encode_x : ℕ → List ℕ} {Fits_x : ℕ → Type 0}
+    {others : Place → Result (A × Place) E} {encode : A → List ℕ} {Fits known : A → Type 0} (fault : Place → ℕ × Place → E)
+    → IsReader reader encode_x Fits_x → (same : ℕ) → Fits_x same
+    → IsTail others encode Fits known
+    → IsTail (λ place. reader place >>= λ x. need (x.0 == same) (fault place x) >>= λ _. others x.1) (λ a. encode_x same ++ encode a) Fits known
+then_same {reader = reader} {encode_x = encode_x} {others = others} {encode = encode} fault first same fits_same is = record {
   takes = λ place a next fits e.
       let b = bind_ok (reader place) (λ x. need (x.0 == same) (fault place x) >>= λ _. others x.1) (a, next) e in
       let g = need_ok (b.0.0 == same) (fault place b.0) (λ _. others b.0.1) (a, next) b.2 in
       let one = first.takes place b.0.0 b.0.1 fits b.1 in
       let two = is.takes b.0.1 a next one.0.fits g.1 in
       let is_same : b.0.0 ≡ same = eqb-true _ _ g.0 in
-      (rw (← is_same) (Took-then place (spell_x b.0.0) b.0.1 (spell a) next one.0 two.0), two.1, two.2);
+      (rw (← is_same) (Took-then place (encode_x b.0.0) b.0.1 (encode a) next one.0 two.0), two.1, two.2);
   again = λ place a rest fits h e.
-      let mid = after place (spell_x same) (spell a ++ rest) in
-      let one = first.again place same (spell a ++ rest) fits_same tt (e ∙ append_assoc (spell_x same) (spell a) rest) in
+      let mid = after place (encode_x same) (encode a ++ rest) in
+      let one = first.again place same (encode a ++ rest) fits_same tt (e ∙ append_assoc (encode_x same) (encode a) rest) in
       let two = is.again mid a rest fits h refl in
-      let far : place.at + length (spell_x same) + length (spell a) ≡ place.at + length (spell_x same ++ spell a) = omega (arith, length-append (spell_x same) (spell a)) in
+      let far : place.at + length (encode_x same) + length (encode a) ≡ place.at + length (encode_x same ++ encode a) = omega (arith, length-append (encode_x same) (encode a)) in
       rw (one, eq-eqb same same refl, two, far) refl;
 }
 
 -- ---- items one after another
 
-counted_takes : {X E : Type 0} (item : Place → Result (X × Place) E) (spell : X → List ℕ) (Fits : X → Type 0) (is : IsReader item spell Fits)
+counted_takes : {X E : Type 0} (item : Place → Result (X × Place) E) (encode : X → List ℕ) (Fits : X → Type 0) (is : IsReader item encode Fits)
     (n : ℕ) (place : Place) (xs : List X) (next : Place) → IsBytes place.rest → counted item n place ≡ Ok (xs, next)
-    → Took place (flat_map spell xs) next × AllByRecursion Fits xs × (length xs ≡ n)
+    → Took place (flat_map encode xs) next × AllByRecursion Fits xs × (length xs ≡ n)
 unfolding counted
-counted_takes {X = X} {E = E} item spell Fits is zero place xs next fits e =
-    subst (λ (y : List X × Place). Took place (flat_map spell y.0) y.1 × AllByRecursion Fits y.0 × (length y.0 ≡ 0)) (ok_is E ([], place) (xs, next) e) (record { parts = refl; moved = omega arith; fits = fits }, tt, refl)
-counted_takes {X = X} {E = E} item spell Fits is (suc n) place xs next fits e =
+counted_takes {X = X} {E = E} item encode Fits is zero place xs next fits e =
+    subst (λ (y : List X × Place). Took place (flat_map encode y.0) y.1 × AllByRecursion Fits y.0 × (length y.0 ≡ 0)) (ok_is E ([], place) (xs, next) e) (record { parts = refl; moved = omega arith; fits = fits }, tt, refl)
+counted_takes {X = X} {E = E} item encode Fits is (suc n) place xs next fits e =
     let a = bind_ok (item place) (λ first. counted item n first.1 >>= λ others. Ok (first.0 ∷ others.0, others.1)) (xs, next) e in
     let b = bind_ok (counted item n a.0.1) (λ others. Ok (a.0.0 ∷ others.0, others.1)) (xs, next) a.2 in
     let first = is.takes place a.0.0 a.0.1 fits a.1 in
-    let second = counted_takes item spell Fits is n a.0.1 b.0.0 b.0.1 first.0.fits b.1 in
-    let both = Took-then place (spell a.0.0) a.0.1 (flat_map spell b.0.0) b.0.1 first.0 second.0 in
+    let second = counted_takes item encode Fits is n a.0.1 b.0.0 b.0.1 first.0.fits b.1 in
+    let both = Took-then place (encode a.0.0) a.0.1 (flat_map encode b.0.0) b.0.1 first.0 second.0 in
     let made : List X × Place = (a.0.0 ∷ b.0.0, b.0.1) in
-    subst (λ (y : List X × Place). Took place (flat_map spell y.0) y.1 × AllByRecursion Fits y.0 × (length y.0 ≡ suc n)) (ok_is E made (xs, next) b.2) (both, (first.1, second.1), ap suc second.2)
+    subst (λ (y : List X × Place). Took place (flat_map encode y.0) y.1 × AllByRecursion Fits y.0 × (length y.0 ≡ suc n)) (ok_is E made (xs, next) b.2) (both, (first.1, second.1), ap suc second.2)
 
-counted_again : {X E : Type 0} (item : Place → Result (X × Place) E) (spell : X → List ℕ) (Fits : X → Type 0) (is : IsReader item spell Fits)
-    (xs : List X) (place : Place) (rest : List ℕ) → AllByRecursion Fits xs → place.rest ≡ flat_map spell xs ++ rest
-    → counted item (length xs) place ≡ Ok (xs, after place (flat_map spell xs) rest)
+counted_again : {X E : Type 0} (item : Place → Result (X × Place) E) (encode : X → List ℕ) (Fits : X → Type 0) (is : IsReader item encode Fits)
+    (xs : List X) (place : Place) (rest : List ℕ) → AllByRecursion Fits xs → place.rest ≡ flat_map encode xs ++ rest
+    → counted item (length xs) place ≡ Ok (xs, after place (flat_map encode xs) rest)
 unfolding counted
-counted_again item spell Fits is [] place rest fits e =
+counted_again item encode Fits is [] place rest fits e =
     let n : place.at + 0 ≡ place.at = omega arith in
     rw (n, ← e) refl
-counted_again item spell Fits is (x ∷ xs) place rest fits e =
-    let mid = after place (spell x) (flat_map spell xs ++ rest) in
-    let one = is.again place x (flat_map spell xs ++ rest) fits.0 tt (e ∙ append_assoc (spell x) (flat_map spell xs) rest) in
-    let two = counted_again item spell Fits is xs mid rest fits.1 refl in
-    let far : place.at + length (spell x) + length (flat_map spell xs) ≡ place.at + length (spell x ++ flat_map spell xs) = omega (arith, length-append (spell x) (flat_map spell xs)) in
+counted_again item encode Fits is (x ∷ xs) place rest fits e =
+    let mid = after place (encode x) (flat_map encode xs ++ rest) in
+    let one = is.again place x (flat_map encode xs ++ rest) fits.0 tt (e ∙ append_assoc (encode x) (flat_map encode xs) rest) in
+    let two = counted_again item encode Fits is xs mid rest fits.1 refl in
+    let far : place.at + length (encode x) + length (flat_map encode xs) ≡ place.at + length (encode x ++ flat_map encode xs) = omega (arith, length-append (encode x) (flat_map encode xs)) in
     rw (one, two, far) refl
 
-pub items : {X E : Type 0} {item : Place → Result (X × Place) E} {spell : X → List ℕ} {Fits : X → Type 0} → IsReader item spell Fits
+pub items : {X E : Type 0} {item : Place → Result (X × Place) E} {encode : X → List ℕ} {Fits : X → Type 0} → IsReader item encode Fits
     → (n : ℕ)
-    → IsTail (counted item n) (λ xs. flat_map spell xs) (λ xs. AllByRecursion Fits xs) (λ xs. length xs ≡ n)
-items {X = X} {E = E} {item = item} {spell = spell} {Fits = Fits} is n = record {
-  takes = λ place xs next fits e. counted_takes item spell Fits is n place xs next fits e;
+    → IsTail (counted item n) (λ xs. flat_map encode xs) (λ xs. AllByRecursion Fits xs) (λ xs. length xs ≡ n)
+items {X = X} {E = E} {item = item} {encode = encode} {Fits = Fits} is n = record {
+  takes = λ place xs next fits e. counted_takes item encode Fits is n place xs next fits e;
   again = λ place xs rest fits h e.
-      subst (λ (k : ℕ). counted item k place ≡ Ok (xs, after place (flat_map spell xs) rest)) h (counted_again item spell Fits is xs place rest fits e);
+      subst (λ (k : ℕ). counted item k place ≡ Ok (xs, after place (flat_map encode xs) rest)) h (counted_again item encode Fits is xs place rest fits e);
 }
 
 -- ---- bytes and numbers
@@ -330,7 +330,7 @@ back_1 (b ∷ []) len fits =
     ap (λ (x : ℕ). x ∷ []) is
 back_1 (b ∷ c ∷ bs) len fits = absurd (omega arith)
 
--- Numbers of n bytes are spelled by their bytes.
+-- Numbers of n bytes are encoded by their bytes.
 pub record IsSize (n : ℕ) : Type 0 where
   pub back : (bytes : List ℕ) → length bytes ≡ n → IsBytes bytes → big_bytes n (big_number n bytes) ≡ bytes
 
@@ -386,22 +386,22 @@ text_is size fault fault_in = fitting (
 
 -- ---- all the bytes
 
-pub whole_takes : {A E : Type 0} {reader : Place → Result (A × Place) E} {spell : A → List ℕ} {Fits : A → Type 0}
-    → IsReader reader spell Fits
-    → (fault : Place → E) (bytes : List ℕ) (a : A) → IsBytes bytes → whole reader fault bytes ≡ Ok a → (bytes ≡ spell a) × Fits a
-whole_takes {A = A} {E = E} {reader = reader} {spell = spell} {Fits = Fits} is fault bytes a fits e =
+pub whole_takes : {A E : Type 0} {reader : Place → Result (A × Place) E} {encode : A → List ℕ} {Fits : A → Type 0}
+    → IsReader reader encode Fits
+    → (fault : Place → E) (bytes : List ℕ) (a : A) → IsBytes bytes → whole reader fault bytes ≡ Ok a → (bytes ≡ encode a) × Fits a
+whole_takes {A = A} {E = E} {reader = reader} {encode = encode} {Fits = Fits} is fault bytes a fits e =
     let start : Place = record { at = 0; rest = bytes } in
     let b = bind_ok (reader start) (λ read. need (length read.1.rest == 0) (fault read.1) >>= λ _. Ok read.0) a e in
     let g = need_ok (length b.0.1.rest == 0) (fault b.0.1) (λ _. Ok b.0.0) a b.2 in
     let t = is.takes start b.0.0 b.0.1 fits b.1 in
     let nothing : b.0.1.rest ≡ [] = nil_from_length b.0.1.rest (eqb-true _ _ g.0) in
-    let all : bytes ≡ spell b.0.0 = t.0.parts ∙ ap (λ (r : List ℕ). spell b.0.0 ++ r) nothing ∙ append-nil (spell b.0.0) in
-    subst (λ (x : A). (bytes ≡ spell x) × Fits x) (ok_is E b.0.0 a g.1) (all, t.1)
+    let all : bytes ≡ encode b.0.0 = t.0.parts ∙ ap (λ (r : List ℕ). encode b.0.0 ++ r) nothing ∙ append-nil (encode b.0.0) in
+    subst (λ (x : A). (bytes ≡ encode x) × Fits x) (ok_is E b.0.0 a g.1) (all, t.1)
 
-pub whole_again : {A E : Type 0} {reader : Place → Result (A × Place) E} {spell : A → List ℕ} {Fits : A → Type 0}
-    → IsReader reader spell Fits
-    → (fault : Place → E) (a : A) → Fits a → whole reader fault (spell a) ≡ Ok a
-whole_again {reader = reader} {spell = spell} is fault a fits =
-    let start : Place = record { at = 0; rest = spell a } in
-    let t = is.again start a [] fits tt (sym (append-nil (spell a))) in
+pub whole_again : {A E : Type 0} {reader : Place → Result (A × Place) E} {encode : A → List ℕ} {Fits : A → Type 0}
+    → IsReader reader encode Fits
+    → (fault : Place → E) (a : A) → Fits a → whole reader fault (encode a) ≡ Ok a
+whole_again {reader = reader} {encode = encode} is fault a fits =
+    let start : Place = record { at = 0; rest = encode a } in
+    let t = is.again start a [] fits tt (sym (append-nil (encode a))) in
     rw t refl

@@ -3,5 +3,5 @@ pub mod Room
 pub mod Answer
 pub mod Widths
 pub mod Popping
-pub mod Lending
+pub mod Borrowing
 pub mod Persistent

@@ -1,4 +1,4 @@
--- Numbers that one, two, four and eight bytes hold, and how they are spelled: the highest byte first. (The Java Virtual
+-- Numbers that one, two, four and eight bytes hold, and how they are encoded: the highest byte first. (The Java Virtual
 -- Machine Specification, chapter 4: u1, u2, u4.)
 use Rattle.std.specs.Prelude.{ℕ, ◌<◌, ◌^◌, List}
 use Rattle.byteorder.specs.Endian.{big_bytes}

@@ -6,7 +6,7 @@ ghost use Rattle.std.specs.Cmp.Lexicographic.{pointwise};
 ghost use Rattle.std.proofs.Common.{rules};
 ghost use Rattle.std.specs.Cmp.Rules.{comparing};
 ghost use Rattle.std.specs.Borrow.{sem};
-ghost use Rattle.mon_base.specs.Lending.{LendsItem};
+ghost use Rattle.mon_base.specs.Borrowing.{BorrowsItem};
 ghost use Rattle.mon_base.specs.Popping.{IsPopped};
 
 use crate::memory::NoMemory;
@@ -72,7 +72,7 @@ impl<T> List<T> {
     /// The item in this place, which can be written.
     pub fn item_mut(&mut self, place: usize) -> &mut T
         requires { place < length self.old }
-        ensures* lends { sem 𝓛 (LendsItem T.row self.entry place result) }
+        ensures* borrows { sem 𝓛 (BorrowsItem T.row self.entry place result) }
         ensures item { slice_get self.old place ≡ Some result.now }
     {
         &mut self.items[place]
@@ -119,7 +119,7 @@ impl<T: Drop> List<T> {
         std::mem::replace(&mut self.items[place], item)
     }
 
-    /// Takes the item from this place; those behind it move up. It takes no memory.
+    /// Takes the item from this place; those after it move up. It takes no memory.
     pub fn remove(&mut self, place: usize) -> T
         requires { place < length self.old }
         ensures was { slice_get self.old place ≡ Some result }

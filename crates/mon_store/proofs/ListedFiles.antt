@@ -17,12 +17,12 @@ at_front file files next from at is =
     let none : at - from ≡ 0 = omega arith in
     record { above = omega arith; below = omega arith; set = rw none refl }
 
-behind : (file : List ℕ × List ℕ) (files wanted : Listed) (next : List ℕ × List ℕ) (from at : ℕ)
+following : (file : List ℕ × List ℕ) (files wanted : Listed) (next : List ℕ × List ℕ) (from at : ℕ)
     → IsAt files wanted next (from + 1) at → IsAt (file ∷ files) (file ∷ wanted) next from at
-behind file files wanted next from at there =
+following file files wanted next from at there =
     let more : at - from ≡ suc (at - (from + 1)) = omega (arith, there.above) in
-    let set_behind = ap (λ (l : Listed). file ∷ l) there.set in
-    record { above = omega (arith, there.above); below = omega (arith, there.below); set = rw more set_behind }
+    let set_after = ap (λ (l : Listed). file ∷ l) there.set in
+    record { above = omega (arith, there.above); below = omega (arith, there.below); set = rw more set_after }
 
 found : (files : Listed) (name bytes : List ℕ) (from at : ℕ)
     → position_from (λ file. bytes_eq file.0 name) from files ≡ Some at
@@ -32,7 +32,7 @@ found (file ∷ files) name bytes from at is =
     (elim (bytes_eq file.0 name) as (λ b. cond b (Some from) (position_from (λ f. bytes_eq f.0 name) (from + 1) files) ≡ Some at
     → IsAt (file ∷ files) (if b then (name, bytes) ∷ files else file ∷ with_file files name bytes) (name, bytes) from at) [
       | true ↦ λ e. at_front file files (name, bytes) from at (cc)
-      | false ↦ λ e. behind file files (with_file files name bytes) (name, bytes) from at (found files name bytes (from + 1) at e)
+      | false ↦ λ e. following file files (with_file files name bytes) (name, bytes) from at (found files name bytes (from + 1) at e)
     ]) is
 
 missing : (files : Listed) (name bytes : List ℕ) (from : ℕ)

@@ -28,7 +28,7 @@ abbrev pub names_differ : Listed → Bool
 names_differ [] = true
 names_differ (file ∷ files) = is_none (told files file.0) && names_differ files
 
--- the files with this one in the place of the first of its name, or else behind them
+-- the files with this one in the place of the first of its name, or else after them
 abbrev pub with_file : Listed → List ℕ → List ℕ → Listed
 with_file [] name bytes = (name, bytes) ∷ []
 with_file (file ∷ files) name bytes = if bytes_eq file.0 name then (name, bytes) ∷ files else file ∷ with_file files name bytes

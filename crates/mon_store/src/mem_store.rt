@@ -140,7 +140,7 @@ fn place_of(files: &[(Bytes, Bytes)], name: &Bytes) -> Option<usize>
     files.iter().position(|file| file.0 == *name)
 }
 
-/// Puts these bytes in the place of the first file of this name, or else behind the others.
+/// Puts these bytes in the place of the first file of this name, or else after the others.
 fn put_file(files: &mut Vec<(Bytes, Bytes)>, name: Bytes, bytes: Bytes) -> Result<(), NoMemory>
     ensures ok { OnOk result (files.new.items ≡ with_file files.old.items name bytes) }
     ensures err { OnErr result (files.new.items ≡ files.old.items) }

@@ -17,7 +17,7 @@ pub enum ReadFault {
     /// The store failed, and counted the fault.
     Failed,
     /// The file is longer than the limit. `len` is its size as the store gives it, or how much of it was read where
-    /// it went on behind its size, in bytes.
+    /// it went on after its size, in bytes.
     TooLong { len: u64 },
     /// Memory ran out.
     Memory,
@@ -102,7 +102,7 @@ fn read_to_end<S: Store>(
     })
 }
 
-/// Reads one piece behind the bytes that were read, up to one byte past the limit, and gives its length.
+/// Reads one piece after the bytes that were read, up to one byte past the limit, and gives its length.
 fn read_piece<S: Store>(
     store: &mut S,
     name: &Bytes,

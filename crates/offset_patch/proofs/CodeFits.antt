@@ -1,4 +1,4 @@
--- The code of a method with its blocks can be spelled.
+-- The code of a method with its blocks can be encoded.
 use Rattle.std.proofs.Common.{◌≡◌, ℕ, zero, suc, ◌+◌, ◌-◌, ◌*◌, ◌<◌, ◌≤◌, ◌^◌, Bool, true, false, List, [], ◌∷◌, ◌++◌, length, Option, Some, None, option_map, Result, Ok, Err, refl, sym, ap, subst, ◌∙◌, arith}
 use Rattle.std.specs.Prelude.{slice_index, nat_le, nat_lt, bytes_eq, codes, if◌then◌else◌, pos}
 use Rattle.std.specs.List.{AllByRecursion, flat_map, filter_map, cons_option}
@@ -13,7 +13,7 @@ use Rattle.class_codec.specs.declared.tree.Const.{Const}
 use Rattle.class_codec.specs.declared.tree.TableEntry.{TableEntry}
 use Rattle.class_codec.specs.declared.tree.Other.{Other}
 use Rattle.mon_base.specs.Widths.{u2, u4}
-use Rattle.class_codec.specs.Spelling as spell
+use Rattle.class_codec.specs.Encoding as encode
 use Rattle.class_codec.specs.declared.pool.ConstKind.TheVariants as kinds
 use Rattle.class_codec.specs.Fits.{IsIndex, FitsTableEntry, FitsOther, FitsCode}
 use Rattle.bytecode_model.specs.Heads.{text_at}
@@ -21,7 +21,7 @@ use Rattle.insn_codec.specs.declared.fault.CodeOverflow.{CodeOverflow}
 use Rattle.insn_codec.specs.declared.fault.CodeOverflow.TheVariants as codes
 use Rattle.insn_codec.specs.declared.insn.Insn.{Insn}
 use Rattle.insn_codec.specs.Fits.{IsInsn}
-use Rattle.insn_codec.specs.Spelling.{size, starts_of, starts_from, len_from, spelling}
+use Rattle.insn_codec.specs.Encoding.{size, starts_of, starts_from, len_from, encoding}
 use Rattle.insn_codec.specs.Writing.{written, reach_from}
 use Rattle.insn_codec.proofs.Standing.{len_first, size-some}
 use Rattle.insn_codec.proofs.WriteLaws.{len_is}
@@ -58,14 +58,14 @@ code_is class method (Err (codes.Length value)) bytes e = absurd cc
 code_is class method (Err (codes.Branch value)) bytes e = absurd cc
 code_is class method (Err codes.Memory) bytes e = absurd cc
 
--- what is written is short, and spells the instructions
-pub written_is : (insns : List Insn) (bytes : List ℕ) → written insns ≡ Ok bytes → (len_from 0 insns ≤ 65535) × (spelling insns ≡ bytes)
+-- what is written is short, and encodes the instructions
+pub written_is : (insns : List Insn) (bytes : List ℕ) → written insns ≡ Ok bytes → (len_from 0 insns ≤ 65535) × (encoding insns ≡ bytes)
 unfolding written
 written_is insns bytes e =
-    let one = need_ok (nat_le (len_from 0 insns) 65535) (codes.Length (len_from 0 insns)) (λ short. reach_from (starts_of insns) 0 insns >>= λ held. Ok (spelling insns)) bytes e in
+    let one = need_ok (nat_le (len_from 0 insns) 65535) (codes.Length (len_from 0 insns)) (λ short. reach_from (starts_of insns) 0 insns >>= λ held. Ok (encoding insns)) bytes e in
     let short = one.0 in
-    let two = bind_ok (reach_from (starts_of insns) 0 insns) (λ held. Ok (spelling insns)) bytes one.1 in
-    (grind (arith, nat_tests), ok_is CodeOverflow (spelling insns) bytes two.2)
+    let two = bind_ok (reach_from (starts_of insns) 0 insns) (λ held. Ok (encoding insns)) bytes one.1 in
+    (grind (arith, nat_tests), ok_is CodeOverflow (encoding insns) bytes two.2)
 
 len_some : (insns : List Insn) → 1 ≤ length insns → 1 ≤ len_from 0 insns
 len_some [] h = absurd (omega arith)
@@ -173,7 +173,7 @@ within_fit pool room (attr ∷ attrs) few w h =
     let first = within_first room attr attrs w in
     (record { name = h.0; bytes = omega (arith, first.0) }, within_fit pool (room - (6 + length attr.bytes)) attrs (omega arith) first.1 h.1)
 
-within_len : (room : ℕ) (attrs : List Other) → are_within room attrs ≡ true → length (flat_map spell.other attrs) ≤ room
+within_len : (room : ℕ) (attrs : List Other) → are_within room attrs ≡ true → length (flat_map encode.other attrs) ≤ room
 within_len room [] w = omega arith
 within_len room (attr ∷ attrs) w =
     let first = within_first room attr attrs w in
@@ -182,18 +182,18 @@ within_len room (attr ∷ attrs) w =
       arith,
       first.0,
       rest,
-      length-append (spell.other attr) (flat_map spell.other attrs),
-      length-append (u2 attr.name) (spell.block attr.bytes),
+      length-append (encode.other attr) (flat_map encode.other attrs),
+      length-append (u2 attr.name) (encode.block attr.bytes),
       length-append (u4 (length attr.bytes)) attr.bytes,
       length-bytes_high_first 2 attr.name,
       length-bytes_high_first 4 (length attr.bytes),
     )
 
--- what is kept of the attributes can be spelled
+-- what is kept of the attributes can be encoded
 record AreKept (pool : List Const) (olds attrs : List Other) : Type 0 where
   count : length attrs ≤ length olds
   each : AllByRecursion (FitsOther pool) attrs
-  len : length (flat_map spell.other attrs) ≤ 2 ^ 31
+  len : length (flat_map encode.other attrs) ≤ 2 ^ 31
 
 attrs_are : (pool : List Const) (moved : ℕ → Option ℕ) (attrs : List Other) → AllByRecursion (FitsOther pool) attrs → AreKept pool attrs (attrs_kept pool moved attrs)
 attrs_are pool moved attrs h = by (are_within (2 ^ 31) made) refl
@@ -208,7 +208,7 @@ attrs_are pool moved attrs h = by (are_within (2 ^ 31) made) refl
 
 -- ---- how long the attribute is
 
-entries_len : (entries : List TableEntry) → length (flat_map spell.table_entry entries) ≤ 8 * length entries
+entries_len : (entries : List TableEntry) → length (flat_map encode.table_entry entries) ≤ 8 * length entries
 entries_len [] = omega arith
 entries_len (e ∷ entries) =
     let a = big_bytes 2 e.from in
@@ -217,7 +217,7 @@ entries_len (e ∷ entries) =
     let d = big_bytes 2 e.class in
     omega (
       arith,
-      length-append (spell.table_entry e) (flat_map spell.table_entry entries),
+      length-append (encode.table_entry e) (flat_map encode.table_entry entries),
       length-append (a ++ b ++ c) d,
       length-append (a ++ b) c,
       length-append a b,
@@ -228,26 +228,26 @@ entries_len (e ∷ entries) =
       entries_len entries,
     )
 
-contents_len : (c : Code) → length c.code ≤ 65535 → length c.table < 2 ^ 16 → length (flat_map spell.other c.attrs) ≤ 2 ^ 31 → length (spell.contents c) < 2 ^ 32
+contents_len : (c : Code) → length c.code ≤ 65535 → length c.table < 2 ^ 16 → length (flat_map encode.other c.attrs) ≤ 2 ^ 31 → length (encode.contents c) < 2 ^ 32
 contents_len c short few lines =
     let head = u2 c.max_stack ++ u2 c.max_locals in
-    let code = spell.block c.code in
-    let table = spell.with_count spell.table_entry c.table in
-    let attrs = spell.with_count spell.other c.attrs in
+    let code = encode.block c.code in
+    let table = encode.with_count encode.table_entry c.table in
+    let attrs = encode.with_count encode.other c.attrs in
     omega (
       arith,
       lines,
       length-append head (code ++ (table ++ attrs)),
       length-append code (table ++ attrs),
       length-append table attrs,
-      length-append (u2 (length c.attrs)) (flat_map spell.other c.attrs),
+      length-append (u2 (length c.attrs)) (flat_map encode.other c.attrs),
       length-bytes_high_first 2 (length c.attrs),
       length-append (u2 c.max_stack) (u2 c.max_locals),
       length-bytes_high_first 2 c.max_stack,
       length-bytes_high_first 2 c.max_locals,
       length-append (u4 (length c.code)) c.code,
       length-bytes_high_first 4 (length c.code),
-      length-append (u2 (length c.table)) (flat_map spell.table_entry c.table),
+      length-append (u2 (length c.table)) (flat_map encode.table_entry c.table),
       length-bytes_high_first 2 (length c.table),
       entries_len c.table,
     )
@@ -256,7 +256,7 @@ contents_len c short few lines =
 
 with_fits : (pool : List Const) (method : Method) (code : Code) (locals : ℕ) (sites : List (Option Block)) (insns : List Insn) (bytes : List ℕ) → FitsCode pool code
     → code.max_stack + 3 ≤ 65535 → code.max_locals + locals ≤ 65535 → length code.table + catching sites ≤ 65535 → AllByRecursion IsInsn insns → 1 ≤ length insns → len_from 0 insns ≤ 65535
-    → spelling insns ≡ bytes → FitsCode pool (code_with pool method code locals sites insns bytes)
+    → encoding insns ≡ bytes → FitsCode pool (code_with pool method code locals sites insns bytes)
 with_fits pool method code locals sites insns bytes h stack slots rows each some short is =
     let starts = starts_of insns in
     let len : length bytes ≡ len_from 0 insns = sym (ap length is) ∙ len_is starts 0 insns each in

@@ -1,4 +1,4 @@
--- Entries that blocks name can be spelled in the pool to which they were added, if it is not too long.
+-- Entries that blocks name can be encoded in the pool to which they were added, if it is not too long.
 use Rattle.std.proofs.Common.{◌≡◌, cond, ℕ, zero, suc, ◌+◌, ◌<◌, ◌≤◌, ◌^◌, Bool, true, false, List, [], ◌∷◌, ◌++◌, length, map, Option, Some, None, refl, sym, ap, subst, ◌∙◌, append_assoc, append-nil, arith}
 use Rattle.std.specs.Prelude.{slice_get, slice_index, nat_lt, ◌&&◌, codes}
 use Rattle.std.specs.List.{AllByRecursion, list_all, position_from}
@@ -127,7 +127,7 @@ kept kind f steady pool i e =
     let more = steady.grows pool in
     subst (λ (p : List Const). names kind p i ≡ true) (sym more.1) (names_on kind pool more.0 i e)
 
--- Behind a step the pool can be spelled, if it is not too long.
+-- After a step the pool can be encoded, if it is not too long.
 abbrev KeepsFit : (List Const → Placed) → Type 0
 KeepsFit f = (pool : List Const) → FitsPool pool → length (f pool).0 ≤ 65535 → FitsPool (f pool).0
 
@@ -160,7 +160,7 @@ class_finds name t = record {
         let few = within kinds.Utf8 one.0 one.1 told in
         entry_fits one.0 (constants.Class one.1) first (record { fits = omega arith; one = refl; narrow = refl; named = told }) short
 
--- an entry that names what two steps find, one behind the other
+-- an entry that names what two steps find, one after the other
 module _ (first second : ConstKind) (make : ℕ → ℕ → Const) (steady : (i j : ℕ) → IsSteady (entry (make i j)))
     (good : (pool : List Const) (i j : ℕ) → i < 2 ^ 16 → j < 2 ^ 16 → names first pool i ≡ true → names second pool j ≡ true → IsGood pool (make i j)) where
   pair_fits : (f g : List Const → Placed) → Finds first f → Finds second g → KeepsFit (pair make f g)
@@ -217,7 +217,7 @@ decimal_text (suc n) few =
     let ascii : IsAscii (decimal (suc n)) = IsAscii-decimal (suc n) (omega arith) in
     subst Texts (sym is) (shown (digits_of 10 (suc n)) (subst IsAscii is ascii))
 
--- the name of a variable can be spelled
+-- the name of a variable can be encoded
 pub variable_text : (n : ℕ) → n < 2 ^ 32 → IsText (variable_name n)
 variable_text n few =
     let len = length-decimal-le 10 n (omega arith) (omega arith) (omega arith) in
@@ -240,7 +240,7 @@ wanted_fits wants.Exit w =
     (known (codes "(I)V") (omega arith) refl)
 wanted_fits (wants.Integer n) w = λ pool p short. entry_fits pool (constants.Integer n) p (record { fits = w; one = refl; narrow = refl; named = tt }) short
 
--- wants only add behind
+-- wants only add after
 pub wants_grow : (wants : List PoolWant) (pool : List Const) → (more : List Const) × (with_wants pool wants ≡ pool ++ more)
 wants_grow [] pool = ([], sym (append-nil pool))
 wants_grow (want ∷ others) pool =

@@ -111,13 +111,13 @@ grows_one pool old new wanted key at good below none key_is is at_is puts =
     let more : length new.added ≡ length old.added + 1 = ap length is ∙ length-append old.added (wanted ∷ []) in
     let before = length pool + length old.added in
     let after = length pool + length new.added in
-    let behind : at ≡ 0 + length all = omega (arith, at_is, added_count pool old.added) in
+    let following : at ≡ 0 + length all = omega (arith, at_is, added_count pool old.added) in
     let goes : before ≤ after = omega (arith, more) in
     record {
       placed = λ q.
           adds_first old.places new.places wanted at (ap is_some none) (λ r. puts r ∙ ap (λ (k : Added). cond (is_eq (added_cmp k r)) (Some at) (found_at old.places r)) key_is) q
           ∙ ap (λ (o : Option ℕ). option_or o (cond (same (const_of q) (const_of wanted)) (Some at) None)) (good.placed q)
-          ∙ sym (place_pushed (same (const_of q)) all 0 at (const_of wanted) behind)
+          ∙ sym (place_pushed (same (const_of q)) all 0 at (const_of wanted) following)
           ∙ ap (place_of (const_of q)) (sym (pushed pool old.added new.added wanted is));
       named =
           let Named : List Added → Type 0 = AllByRecursion (NamesBelow after) in

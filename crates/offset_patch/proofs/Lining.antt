@@ -9,7 +9,7 @@ use Rattle.std.proofs.lemmas.List.{take_all}
 use Rattle.std.proofs.lemmas.List.Sorted.{searched}
 use Rattle.byteorder.specs.Endian.{big_number}
 use Rattle.insn_codec.specs.declared.insn.Insn.{Insn}
-use Rattle.insn_codec.specs.Spelling.{size, starts_from}
+use Rattle.insn_codec.specs.Encoding.{size, starts_from}
 use Rattle.insn_codec.proofs.Standing.{size-some}
 use Rattle.offset_patch.specs.Lines.{Line, lines_in, line_moved, before, lines_moved, start_moved, RiseFrom}
 
@@ -86,7 +86,7 @@ rise_taken zero least xs rise = tt
 rise_taken (suc n) least [] rise = tt
 rise_taken (suc n) least (x ∷ xs) rise = (rise.0, rise_taken n (x + 1) xs rise.1)
 
--- each instruction begins behind the one before it
+-- each instruction begins after the one before it
 pub begins_rise : (n : ℕ) (xs : List Insn) → RiseFrom 0 (take n (starts_from 0 xs))
 begins_rise n xs = rise_taken n 0 (starts_from 0 xs) (starts_rise 0 xs)
 
@@ -144,6 +144,6 @@ move_none olds fronts news q i rise found =
     let at = searched olds q (Err i) found (λ a b before within. none_falls 0 olds a b rise before within) in
     ap (option_map (λ (index : ℕ). slice_index news (slice_index fronts index)))
     (found_none 0 olds q (λ k within is.
-    let behind : k < i → ⊥ = λ less. omega (arith, at.1 k less, is) in
-    let more : i ≤ k = omega (arith, behind) in
+    let following : k < i → ⊥ = λ less. omega (arith, at.1 k less, is) in
+    let more : i ≤ k = omega (arith, following) in
     omega (arith, at.2 k more within, is)))

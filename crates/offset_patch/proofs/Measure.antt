@@ -7,7 +7,7 @@ use Rattle.bytecode_model.specs.declared.program.Handler.{Handler}
 use Rattle.class_codec.specs.declared.tree.Const.{Const}
 use Rattle.insn_codec.specs.declared.insn.Insn.{Insn}
 use Rattle.insn_codec.specs.declared.insn.Insn.TheVariants as insns
-use Rattle.insn_codec.specs.Spelling.{padding, size, len_from}
+use Rattle.insn_codec.specs.Encoding.{padding, size, len_from}
 use Rattle.insn_codec.proofs.Standing.{len_first, len_none, size-some}
 use Rattle.offset_patch.specs.declared.block.Block.{Block}
 use Rattle.offset_patch.specs.declared.block.BlockInsn.{BlockInsn}

@@ -27,10 +27,10 @@ pub parts_step : (pool : List Const) (fronts : List ℕ) (begin after : ℕ) (ou
     (left rest : List (Option Block)) (site : Option Block) (part again : List BlockInsn) → own ≡ insn ∷ others → left ≡ site ∷ rest → part ≡ part_of site → again ≡ part_of site
     → after ≡ begin + length again → new ≡ out ++ map (put pool fronts begin insn) part → out ++ parts_from pool fronts begin own left ≡ total
     → new ++ parts_from pool fronts after others rest ≡ total
-parts_step pool fronts begin after out new total own others insn left rest site part again own_is left_is is is_again behind pushed so_far =
+parts_step pool fronts begin after out new total own others insn left rest site part again own_is left_is is is_again following pushed so_far =
     let here = map (put pool fronts begin insn) (part_of site) in
     let later = parts_from pool fronts (begin + length (part_of site)) others rest in
     let new_is : new ≡ out ++ here = pushed ∙ ap (λ (p : List BlockInsn). out ++ map (put pool fronts begin insn) p) is in
-    let after_is : after ≡ begin + length (part_of site) = behind ∙ ap (λ (p : List BlockInsn). begin + length p) is_again in
+    let after_is : after ≡ begin + length (part_of site) = following ∙ ap (λ (p : List BlockInsn). begin + length p) is_again in
     let whole : parts_from pool fronts begin own left ≡ here ++ later = ap (λ (xs : List Insn). parts_from pool fronts begin xs left) own_is ∙ ap (parts_from pool fronts begin (insn ∷ others)) left_is in
     ap (λ (n : ℕ). new ++ parts_from pool fronts n others rest) after_is ∙ ap (λ (xs : List Insn). xs ++ later) new_is ∙ append_assoc out here later ∙ ap (λ (xs : List Insn). out ++ xs) (sym whole) ∙ so_far

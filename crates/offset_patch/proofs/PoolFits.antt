@@ -1,4 +1,4 @@
--- A pool to which entries were added can be spelled, if it is not too long.
+-- A pool to which entries were added can be encoded, if it is not too long.
 use Rattle.std.proofs.Common.{◌≡◌, ℕ, zero, suc, Bool, true, false, List, [], ◌∷◌, ◌++◌, Option, Some, None, refl, sym, ap, ◌∙◌}
 use Rattle.std.specs.Prelude.{slice_get, ◌||◌, ◌==◌}
 use Rattle.std.specs.List.{AllByRecursion}

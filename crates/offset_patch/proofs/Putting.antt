@@ -12,7 +12,7 @@ use Rattle.insn_codec.specs.declared.fault.CodeOverflow.TheVariants as codes
 use Rattle.insn_codec.specs.declared.insn.Insn.{Insn}
 use Rattle.insn_codec.specs.declared.insn.Insn.TheVariants as insns
 use Rattle.mon_base.specs.Widths.{IsU2}
-use Rattle.insn_codec.specs.Spelling.{size, offset, starts_of, starts_from, len_from, spelling}
+use Rattle.insn_codec.specs.Encoding.{size, offset, starts_of, starts_from, len_from, encoding}
 use Rattle.insn_codec.specs.Writing.{held_by_2, held_by_4, near, far, all_far, reach, reach_from, written}
 use Rattle.insn_codec.proofs.Putting.{far_first, far_none, reach_first, reach_none}
 use Rattle.insn_codec.proofs.Standing.{len_first}
@@ -137,8 +137,8 @@ counted xs (codes.Length value) short told = by (nat_le (len_from 0 xs) 65535) r
     none (Err (codes.Branch other)) bytes h e = absurd cc
     none (Err codes.Memory) bytes h e = absurd cc
 
-    by : (b : Bool) → nat_le (len_from 0 xs) 65535 ≡ b → (need b (codes.Length (len_from 0 xs)) >>= λ short. reach_from (starts_of xs) 0 xs >>= λ held. Ok (spelling xs)) ≡ Err (codes.Length value) → value < 2 ^ 63
-    by true n e = none (reach_from (starts_of xs) 0 xs) (spelling xs) (insns_offset (starts_of xs) 0 xs) e
+    by : (b : Bool) → nat_le (len_from 0 xs) 65535 ≡ b → (need b (codes.Length (len_from 0 xs)) >>= λ short. reach_from (starts_of xs) 0 xs >>= λ held. Ok (encoding xs)) ≡ Err (codes.Length value) → value < 2 ^ 63
+    by true n e = none (reach_from (starts_of xs) 0 xs) (encoding xs) (insns_offset (starts_of xs) 0 xs) e
     by false n e = absurd (grind (arith, nat_tests))
 
 module _ (class : List ℕ) (number : ℕ) (pool : List Const) (method : Method) (code : Code) (locals : ℕ) (sites : List (Option Block)) where
@@ -150,7 +150,7 @@ module _ (class : List ℕ) (number : ℕ) (pool : List Const) (method : Method)
   long_code fault = by (nat_le (len_from 0 insns_of) 65535)
     where
       by : (b : Bool) → need b (faults.Overflow class number sizes.Length (pos (len_from 0 insns_of))) ≡ Err fault
-          → (code_fitted class number (need b (codes.Length (len_from 0 insns_of)) >>= λ short. reach_from (starts_of insns_of) 0 insns_of >>= λ held. Ok (spelling insns_of))
+          → (code_fitted class number (need b (codes.Length (len_from 0 insns_of)) >>= λ short. reach_from (starts_of insns_of) 0 insns_of >>= λ held. Ok (encoding insns_of))
           >>= λ bytes. Ok (code_with pool method code locals sites insns_of bytes)) ≡ Err fault
       by true e = absurd cc
       by false e = cc

@@ -14,7 +14,7 @@ use Rattle.insn_codec.specs.declared.fault.CodeOverflow.{CodeOverflow}
 use Rattle.insn_codec.specs.declared.fault.CodeOverflow.TheVariants as codes
 use Rattle.insn_codec.specs.declared.insn.Insn.{Insn}
 use Rattle.insn_codec.specs.declared.insn.Insn.TheVariants as insns
-use Rattle.insn_codec.specs.Spelling.{size, offset, starts_of, starts_from, len_from, spelling}
+use Rattle.insn_codec.specs.Encoding.{size, offset, starts_of, starts_from, len_from, encoding}
 use Rattle.insn_codec.specs.Writing.{held_by_2, held_by_4, near, far, all_far, reach, reach_from, written}
 use Rattle.insn_codec.proofs.Putting.{far_first, far_none, reach_first, reach_none}
 use Rattle.insn_codec.proofs.Standing.{len_first, len_none}
@@ -49,18 +49,18 @@ starts_next : (at : ℕ) (x : Insn) (xs : List Insn) (i : ℕ) → slice_index (
 unfolding starts_from
 starts_next at x xs i = refl
 
--- behind the first instructions
-starts_behind : (at : ℕ) (xs ys : List Insn) (i : ℕ) → slice_index (starts_from at (xs ++ ys)) (length xs + i) ≡ slice_index (starts_from (at + len_from at xs) ys) i
-starts_behind at [] ys i =
+-- after the first instructions
+starts_after : (at : ℕ) (xs ys : List Insn) (i : ℕ) → slice_index (starts_from at (xs ++ ys)) (length xs + i) ≡ slice_index (starts_from (at + len_from at xs) ys) i
+starts_after at [] ys i =
     let k : 0 + i ≡ i = omega arith in
     let n : at ≡ at + len_from at [] = omega (arith, len_none at) in
     ap (slice_index (starts_from at ys)) k ∙ ap (λ (p : ℕ). slice_index (starts_from p ys) i) n
-starts_behind at (x ∷ xs) ys i =
+starts_after at (x ∷ xs) ys i =
     let k : length (x ∷ xs) + i ≡ suc (length xs + i) = omega arith in
     let n : at + size at x + len_from (at + size at x) xs ≡ at + len_from at (x ∷ xs) = omega (arith, len_first at x xs) in
-    ap (slice_index (starts_from at (x ∷ (xs ++ ys)))) k ∙ starts_next at x (xs ++ ys) (length xs + i) ∙ starts_behind (at + size at x) xs ys i ∙ ap (λ (p : ℕ). slice_index (starts_from p ys) i) n
+    ap (slice_index (starts_from at (x ∷ (xs ++ ys)))) k ∙ starts_next at x (xs ++ ys) (length xs + i) ∙ starts_after (at + size at x) xs ys i ∙ ap (λ (p : ℕ). slice_index (starts_from p ys) i) n
 
--- no instruction begins behind the last
+-- no instruction begins after the last
 starts_within : (xs : List Insn) (at i : ℕ) → slice_index (starts_from at xs) i ≤ at + len_from at xs
 unfolding starts_from
 starts_within [] at zero = omega arith
@@ -199,7 +199,7 @@ module _ (class : List ℕ) (number : ℕ) where
         let one = items_off insn part begin at (λ i few_i. stands i ∙ part_starts pool fronts begin insn at part later i few_i) at part later h (site_jumps site s.0) in
         let rest : (i : ℕ) → slice_index starts (begin + length part + i) ≡ slice_index (starts_from (part_end insn at part) later) i = λ i.
         let k : begin + length part + i ≡ begin + (length here + i) = omega (arith, count) in
-        ap (slice_index starts) k ∙ stands (length here + i) ∙ starts_behind at here later i ∙ ap (λ (n : ℕ). slice_index (starts_from n later) i) (sym ends) in
+        ap (slice_index starts) k ∙ stands (length here + i) ∙ starts_after at here later i ∙ ap (λ (n : ℕ). slice_index (starts_from n later) i) (sym ends) in
         let short : part_end insn at part + len_from (part_end insn at part) later ≤ 65535 = omega (arith, h, len_append at here later, ends, ap (λ (n : ℕ). len_from n later) ends) in
         one ∙ ap (option_or (first_off (part_offsets bytes insn part at at part))) (parts_off (begin + length part) (part_end insn at part) own sites s.1 short rest)
         ∙ sym (first_then (part_offsets bytes insn part at at part) (offsets_from bytes (part_end insn at part) own sites))
@@ -226,7 +226,7 @@ fronts_bytes starts pool fronts begin at (insn ∷ own) (site ∷ sites) e z sta
     let ends : part_end insn at part ≡ at + len_from at here = part_len pool fronts begin insn at part in
     fronts_bytes starts pool fronts (begin + length part) (part_end insn at part) own sites (omega arith) z (λ j.
     let k : begin + length part + j ≡ begin + (length here + j) = omega (arith, count) in
-    ap (slice_index starts) k ∙ stands (length here + j) ∙ starts_behind at here later j ∙ ap (λ (n : ℕ). slice_index (starts_from n later) j) (sym ends)) i
+    ap (slice_index starts) k ∙ stands (length here + j) ∙ starts_after at here later j ∙ ap (λ (n : ℕ). slice_index (starts_from n later) j) (sym ends)) i
 
 -- ---- a method
 
@@ -277,10 +277,10 @@ module _ (class : List ℕ) (number : ℕ) where
       ∙ ap (λ (n : ℕ). cond (is_unfit (faults.Overflow class number sizes.Length (pos n))) (Some (faults.Overflow class number sizes.Length (pos n))) (first_off class number (offsets_of own sites))) (sym len)
     where
       by : (b : Bool) → nat_le (len_from 0 (spliced pool own sites)) 65535 ≡ b
-          → fault_of (code_fitted class number (need b (codes.Length (len_from 0 (spliced pool own sites))) >>= λ short. reach_from (starts_of (spliced pool own sites)) 0 (spliced pool own sites) >>= λ held. Ok (spelling (spliced pool own sites))))
+          → fault_of (code_fitted class number (need b (codes.Length (len_from 0 (spliced pool own sites))) >>= λ short. reach_from (starts_of (spliced pool own sites)) 0 (spliced pool own sites) >>= λ held. Ok (encoding (spliced pool own sites))))
           ≡ cond (not b) (Some (faults.Overflow class number sizes.Length (pos (len_from 0 (spliced pool own sites))))) (first_off class number (offsets_of own sites))
       by true n =
-          held_fault (reach_from (starts_of (spliced pool own sites)) 0 (spliced pool own sites)) (spelling (spliced pool own sites))
+          held_fault (reach_from (starts_of (spliced pool own sites)) 0 (spliced pool own sites)) (encoding (spliced pool own sites))
           ∙ code_off pool own sites s e (grind (arith, nat_tests))
       by false n = refl
 

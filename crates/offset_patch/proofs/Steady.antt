@@ -1,4 +1,4 @@
--- An entry that was added stays where it is: what is added later stands behind it.
+-- An entry that was added stays where it is: what is added later stands after it.
 use Rattle.std.proofs.Common.{◌≡◌, cond, ℕ, ◌+◌, Bool, true, false, List, [], ◌∷◌, ◌++◌, length, Option, Some, None, refl, sym, ap, subst, ◌∙◌, append_assoc, append-nil, zero-add, arith}
 use Rattle.std.specs.Prelude.{codes}
 use Rattle.std.specs.List.{position_from}
@@ -36,13 +36,13 @@ place_new p at (y ∷ ys) x passes e = by (p y) (place_new p (at + 1) ys x passe
         let n : at + 1 + length ys ≡ at + length (y ∷ ys) = omega arith in
         others f ∙ ap Some n
 
--- What a step adds is behind, and once it is there, the step finds it again.
+-- What a step adds is after, and once it is there, the step finds it again.
 pub record IsSteady (f : List Const → Placed) : Type 0 where
   pub grows : (p : List Const) → (xs : List Const) × ((f p).0 ≡ p ++ xs)
   pub settles : (p : List Const) → f (f p).0 ≡ f p
   pub stays : (p xs : List Const) (i : ℕ) → f p ≡ (p, i) → f (p ++ xs) ≡ (p ++ xs, i)
 
--- the entry that names what two steps leave, one behind the other
+-- the entry that names what two steps leave, one after the other
 abbrev pub pair : (ℕ → ℕ → Const) → (List Const → Placed) → (List Const → Placed) → List Const → Placed
 pair make f g p = entry (make (f p).1 (g (f p).0).1) (g (f p).0).0
 

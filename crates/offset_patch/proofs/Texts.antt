@@ -1,4 +1,4 @@
--- Texts of a pool with what is added behind it.
+-- Texts of a pool with what is added after it.
 use Rattle.std.proofs.Common.{◌≡◌, ℕ, zero, suc, ◌-◌, ◌<◌, ◌≤◌, List, [], ◌∷◌, ◌++◌, length, map, Option, Some, None, option_map, refl, sym, ap, ◌∙◌, append-nil, arith}
 use Rattle.std.specs.Prelude.{slice_get}
 use Rattle.std.specs.Option.{option_map_or}
@@ -16,21 +16,21 @@ pub growth_is : (pool : List Const) (growth : Option Growth) → with_growth poo
 growth_is pool None = sym (append-nil pool)
 growth_is pool (Some growth) = refl
 
--- ---- places before and behind the end
+-- ---- places before and after the end
 
 get_before : {X : Type 0} (xs ys : List X) (i : ℕ) → i < length xs → slice_get (xs ++ ys) i ≡ slice_get xs i
 get_before [] ys i few = absurd (omega arith)
 get_before (x ∷ xs) ys zero few = refl
 get_before (x ∷ xs) ys (suc i) few = get_before xs ys i (omega arith)
 
-get_behind : {X : Type 0} (xs ys : List X) (i : ℕ) → length xs ≤ i → slice_get (xs ++ ys) i ≡ slice_get ys (i - length xs)
-get_behind [] ys i more =
+get_after : {X : Type 0} (xs ys : List X) (i : ℕ) → length xs ≤ i → slice_get (xs ++ ys) i ≡ slice_get ys (i - length xs)
+get_after [] ys i more =
     let n : i ≡ i - 0 = omega arith in
     ap (slice_get ys) n
-get_behind (x ∷ xs) ys zero more = absurd (omega arith)
-get_behind (x ∷ xs) ys (suc i) more =
+get_after (x ∷ xs) ys zero more = absurd (omega arith)
+get_after (x ∷ xs) ys (suc i) more =
     let n : i - length xs ≡ suc i - suc (length xs) = omega arith in
-    get_behind xs ys i (omega arith) ∙ ap (slice_get ys) n
+    get_after xs ys i (omega arith) ∙ ap (slice_get ys) n
 
 get_map : {X Y : Type 0} (f : X → Y) (xs : List X) (i : ℕ) → slice_get (map f xs) i ≡ option_map f (slice_get xs i)
 get_map f [] i = refl
@@ -63,10 +63,10 @@ text_before all pool growth i text is few e =
     ∙ ap (λ (p : List Const). text_at p i) (sym whole)
 
 -- one that was added
-pub text_behind : (all pool : List Const) (growth : Option Growth) (i : ℕ) (text : List ℕ) → all ≡ with_growth pool growth → length pool ≤ i → text ≡ text_among (added_in growth) (i - length pool)
+pub text_after : (all pool : List Const) (growth : Option Growth) (i : ℕ) (text : List ℕ) → all ≡ with_growth pool growth → length pool ≤ i → text ≡ text_among (added_in growth) (i - length pool)
     → text ≡ text_at all i
-text_behind all pool growth i text is more e =
+text_after all pool growth i text is more e =
     let added = added_in growth in
     let whole : all ≡ with_added pool added = is ∙ growth_is pool growth in
-    e ∙ sym (told_is (slice_get added (i - length pool))) ∙ ap told (sym (get_map const_of added (i - length pool))) ∙ ap told (sym (get_behind pool (map const_of added) i more))
+    e ∙ sym (told_is (slice_get added (i - length pool))) ∙ ap told (sym (get_map const_of added (i - length pool))) ∙ ap told (sym (get_after pool (map const_of added) i more))
     ∙ sym (text_is (with_added pool added) i) ∙ ap (λ (p : List Const). text_at p i) (sym whole)

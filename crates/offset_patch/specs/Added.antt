@@ -29,7 +29,7 @@ added_of (constants.Str text) = None
 added_of (constants.IMethod class member) = None
 added_of constants.Second = None
 
--- the pool with what is added behind it
+-- the pool with what is added after it
 abbrev pub with_added : List Const → List Added → List Const
 with_added pool added = pool ++ map const_of added
 
@@ -42,6 +42,6 @@ NamesBelow n (Field class member) = (class < n) × (member < n)
 NamesBelow n (Method class member) = (class < n) × (member < n)
 NamesBelow n (Integer value) = ⊤
 
--- What is added names places of the pool with what is added behind it.
+-- What is added names places of the pool with what is added after it.
 abbrev pub AreNamed : List Const → List Added → Type 0
 AreNamed pool added = AllByRecursion (NamesBelow (length pool + length added)) added

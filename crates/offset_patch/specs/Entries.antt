@@ -1,5 +1,5 @@
 -- The entries of a constant pool that blocks name. An entry that is there is used, the first of several; a new one stands
--- at the end, behind the entries that it names itself, in the order in which it names them. (docs/BLOCKS.md)
+-- at the end, after the entries that it names itself, in the order in which it names them. (docs/BLOCKS.md)
 use Rattle.std.specs.Prelude.{◌≡◌, ℕ, ◌==◌, ◌&&◌, Bool, true, false, bytes_eq, codes, List, [], ◌∷◌, ◌++◌, length, Option, Some, None}
 use Rattle.std.specs.Fmt.{decimal}
 use Rattle.std.specs.Ordering.{int_eq}

@@ -37,7 +37,7 @@ IsBlockInsn (Want op want) = IsTrue (takes want op) × IsWant want
 IsBlockInsn (Jump op place) = IsU1 op × (operands_of op ≡ ops.Branch)
 IsBlockInsn Call = ⊤
 
--- A jump goes to one of so many instructions, or behind the last of them.
+-- A jump goes to one of so many instructions, or after the last of them.
 abbrev pub JumpsWithin : ℕ → BlockInsn → Type 0
 JumpsWithin count (Jump op place) = place ≤ count
 JumpsWithin count other = ⊤
@@ -48,7 +48,7 @@ calls_in [] = 0
 calls_in (Call ∷ insns) = suc (calls_in insns)
 calls_in (insn ∷ insns) = calls_in insns
 
--- A block has an instruction, and each is one. The client's stands there once; a jump stays in the block, or goes behind it;
+-- A block has an instruction, and each is one. The client's stands there once; a jump stays in the block, or goes after it;
 -- what is thrown is caught in the block.
 pub record IsBlock (block : Block) : Type 0 where
   pub some : 1 ≤ length block.insns

@@ -1,4 +1,4 @@
--- How entries are found: the first of each constant in an ordered map, and what is added behind the pool. (docs/BLOCKS.md)
+-- How entries are found: the first of each constant in an ordered map, and what is added after the pool. (docs/BLOCKS.md)
 use Rattle.std.specs.Prelude.{◌≡◌, ℕ, List, [], slice_get, Option, Some, None}
 use Rattle.std.specs.declared.cmp.Ordering.{Ordering}
 use Rattle.std.specs.BTreeMap.{BTreeMap, get}

@@ -16,7 +16,7 @@ Line = ℕ × ℕ
 abbrev pub line : Line → List ℕ
 line one = big_bytes 2 one.0 ++ big_bytes 2 one.1
 
--- the lines behind their count
+-- the lines after their count
 abbrev pub table : List Line → List ℕ
 table lines = big_bytes 2 (length lines) ++ flat_map line lines
 
@@ -28,7 +28,7 @@ lines_in (a ∷ b ∷ []) = []
 lines_in (a ∷ b ∷ c ∷ []) = []
 lines_in (a ∷ b ∷ c ∷ d ∷ bytes) = (big_number 2 (a ∷ b ∷ []), big_number 2 (c ∷ d ∷ [])) ∷ lines_in bytes
 
--- the lines of a table, where it has as many as its count tells and nothing is behind them
+-- the lines of a table, where it has as many as its count tells and nothing is after them
 abbrev pub lines_of : List ℕ → Option (List Line)
 lines_of [] = None
 lines_of (a ∷ []) = None

@@ -10,7 +10,7 @@ use Rattle.class_codec.specs.declared.tree.Other.{Other}
 use Rattle.class_codec.specs.declared.tree.TableEntry.{TableEntry}
 use Rattle.insn_codec.specs.declared.insn.Insn.{Insn}
 use Rattle.insn_codec.specs.declared.insn.Insn.TheVariants as insns
-use Rattle.insn_codec.specs.Spelling.{starts_of}
+use Rattle.insn_codec.specs.Encoding.{starts_of}
 use Rattle.insn_codec.specs.Writing.{written}
 use Rattle.bytecode_model.specs.declared.program.Handler.{Handler}
 use Rattle.bytecode_model.specs.declared.program.Method.{Method}

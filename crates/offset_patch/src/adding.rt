@@ -1,4 +1,4 @@
-//! The entries that blocks name, each behind those that it names itself.
+//! The entries that blocks name, each after those that it names itself.
 
 ghost use Rattle.std.specs.Prelude.{◌≡◌, ◌+◌, ◌<◌, ◌≤◌, IfOk, OnOk, length};
 ghost use Rattle.offset_patch.specs.Entries.{text, class, name_and_type, member, variable_name, variable_type, wanted};

@@ -28,7 +28,7 @@ pub enum BlockInsn {
     Local { op: u8, slot: u16, wide: bool },
     /// An opcode and the index of an entry of the constant pool.
     Want { op: u8, want: PoolWant },
-    /// A jump to an instruction of the block, by its place; the block's length is what stands behind it.
+    /// A jump to an instruction of the block, by its place; the block's length is what stands after it.
     Jump { op: u8, place: u32 },
     /// The client's instruction for which the block stands.
     Call,

@@ -1,4 +1,4 @@
-//! Constants that blocks name, as they are looked for in a pool and added behind it.
+//! Constants that blocks name, as they are looked for in a pool and added after it.
 
 ghost use Rattle.std.specs.Prelude.{◌≡◌, IfOk};
 ghost use Rattle.offset_patch.specs.Added.{added_of};

@@ -18,7 +18,7 @@ use mon_base::{List, NoMemory};
 use std::alloc::Global;
 use std::marker::Model;
 
-/// The constant pool of a class, with what is added behind it. A contract sees the list of all the constants.
+/// The constant pool of a class, with what is added after it. A contract sees the list of all the constants.
 ///
 /// Where the first of each constant stands is kept in an ordered map, which is made once an entry is asked for. So the
 /// pool is gone over once, and an entry is found in few steps whatever the number of blocks and of what they name. Where

@@ -1,4 +1,4 @@
-//! What is added behind a pool, each constant where no equal one stands.
+//! What is added after a pool, each constant where no equal one stands.
 
 ghost use Rattle.std.specs.Prelude.{◌≡◌, ◌∷◌, [], ◌+◌, ◌++◌, ◌<◌, ◌≤◌};
 ghost use Rattle.std.specs.Prelude.{Some, None, if◌then◌else◌, IfOk, IfSome, OnOk, length};
@@ -14,7 +14,7 @@ use mon_base::{List, NoMemory};
 use std::alloc::Global;
 use std::collections::BTreeMap;
 
-/// What is added behind a pool, and where the first of each constant stands, in the pool or behind it.
+/// What is added after a pool, and where the first of each constant stands, in the pool or after it.
 #[derive(Drop)]
 pub struct Growth {
     pub added: List<Added>,

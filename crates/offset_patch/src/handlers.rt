@@ -29,7 +29,7 @@ pub fn rewrite(
     handlers_with(alloc, fronts.as_slice(), sites, handlers)
 }
 
-/// The handlers of the blocks, and behind them those that the method had, each at its fronts.
+/// The handlers of the blocks, and after them those that the method had, each at its fronts.
 pub fn handlers_with(
     alloc: Global,
     fronts: &[u32],

@@ -3,7 +3,7 @@
 ghost use Rattle.std.specs.Prelude.{◌≡◌, ◌+◌, ◌*◌, ◌<◌, ◌≤◌, ◌^◌, length};
 ghost use Rattle.std.specs.List.{AllByRecursion};
 ghost use Rattle.insn_codec.specs.Fits.{IsInsn};
-ghost use Rattle.insn_codec.specs.Spelling.{size};
+ghost use Rattle.insn_codec.specs.Encoding.{size};
 ghost use Rattle.offset_patch.specs.Fits.{IsSite, calls_in};
 ghost use Rattle.offset_patch.specs.Length.{length_of, part_end, size_in};
 

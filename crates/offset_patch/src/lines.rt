@@ -4,7 +4,7 @@ ghost use Rattle.std.specs.Prelude.{◌≡◌, ◌∷◌, [], ◌<◌, ◌^◌, 
 ghost use Rattle.std.specs.List.{AllByRecursion};
 ghost use Rattle.byteorder.specs.Endian.{big_bytes};
 ghost use Rattle.mon_base.specs.Widths.{IsU2};
-ghost use Rattle.insn_codec.specs.Spelling.{len_from};
+ghost use Rattle.insn_codec.specs.Encoding.{len_from};
 ghost use Rattle.offset_patch.specs.Lines.{table, lines_in, lines_of, line_moved, lines_moved};
 ghost use Rattle.offset_patch.specs.Lines.{table_moved, attr_kept, each_kept, attrs_kept};
 ghost use Rattle.offset_patch.specs.Lines.{are_within, start_moved, moved_in};
@@ -164,7 +164,7 @@ fn lines_in(alloc: Global, bytes: &[u8]) -> Result<List<Line>, NoMemory>
     Ok(lines)
 }
 
-/// The first line, and the bytes behind it.
+/// The first line, and the bytes after it.
 fn first_line(bytes: &[u8]) -> Option<(Line, &[u8])>
     ensures some { IfSome result (λ first. lines_in bytes.now ≡ first.0 ∷ lines_in first.1.now) }
     ensures shorter { IfSome result (λ first. length first.1.now < length bytes.now) }

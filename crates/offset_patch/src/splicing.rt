@@ -3,7 +3,7 @@
 ghost use Rattle.std.specs.Prelude.{◌≡◌, ◌+◌, ◌++◌, ◌<◌, ◌≤◌, ◌^◌, IfOk, OnOk, Err, length, map};
 ghost use Rattle.std.specs.List.{AllByRecursion, filter_map};
 ghost use Rattle.insn_codec.specs.Fits.{IsInsn};
-ghost use Rattle.insn_codec.specs.Spelling.{len_from};
+ghost use Rattle.insn_codec.specs.Encoding.{len_from};
 ghost use Rattle.insn_codec.specs.Writing.{written};
 ghost use Rattle.offset_patch.specs.Entries.{with_wants, IsThere};
 ghost use Rattle.mon_base.specs.Answer.{Answers, AnswersAs, Fails};

@@ -15,7 +15,7 @@ use class_codec::TableEntry;
 use mon_base::{List, NoMemory};
 use std::alloc::Global;
 
-/// The entries of the blocks, and behind them those that the table had.
+/// The entries of the blocks, and after them those that the table had.
 pub fn table_spliced(
     alloc: Global,
     starts: &[u32],

@@ -10,8 +10,8 @@ use Rattle.cert_format.specs.declared.typing.FrameType.{FrameType}
 use Rattle.cert_format.specs.declared.typing.Typing.{Typing}
 use Rattle.cert_format.specs.declared.typing.VType.{VType}
 use Rattle.cert_format.specs.declared.typing.VType.TheVariants as types
-use Rattle.cert_format.specs.Spelling.{spell_certificate}
-use Rattle.class_codec.specs.Spelling.{spelling}
+use Rattle.cert_format.specs.Encoding.{encode_certificate}
+use Rattle.class_codec.specs.Encoding.{encoding}
 use Rattle.mon_store.specs.declared.outputs.Output.{Output}
 
 -- ---- names
@@ -26,14 +26,14 @@ certificate_name folder = folder ++ codes "/certificate"
 -- ---- what is written
 
 abbrev pub class_output : List ℕ → LinkedClass → Output
-class_output folder class = record { name = class_name folder class; bytes = spelling class.file }
+class_output folder class = record { name = class_name folder class; bytes = encoding class.file }
 
 abbrev pub certificate_output : List ℕ → List ℕ → Output
 certificate_output folder bytes = record { name = certificate_name folder; bytes = bytes }
 
 -- the classes in their order, and last the certificate
 abbrev pub outputs_of : List ℕ → Program → Told → List Output
-outputs_of folder program certificate = map (class_output folder) program.classes ++ certificate_output folder (spell_certificate certificate) ∷ []
+outputs_of folder program certificate = map (class_output folder) program.classes ++ certificate_output folder (encode_certificate certificate) ∷ []
 
 -- ---- whether it is written
 
@@ -55,9 +55,9 @@ are_short typing = list_all (λ class. list_all (λ method. list_all is_frame_sh
 
 -- A certificate can tell the names of its types, and has at most 64 MiB.
 abbrev pub is_written : Told → Bool
-is_written certificate = are_short certificate.typing && nat_le (length (spell_certificate certificate)) 67108864
+is_written certificate = are_short certificate.typing && nat_le (length (encode_certificate certificate)) 67108864
 
 -- what is written, or how many bytes the certificate would have
 abbrev pub outputs_told : List ℕ → Program → Told → Result (List Output) CertLong
 outputs_told folder program certificate =
-    if is_written certificate then Ok (outputs_of folder program certificate) else Err (Certificate (length (spell_certificate certificate)))
+    if is_written certificate then Ok (outputs_of folder program certificate) else Err (Certificate (length (encode_certificate certificate)))

@@ -14,7 +14,7 @@ use std::alloc::Global;
 /// How many bytes a name may have whose length a certificate can tell.
 const NAME_LIMIT: usize = 65_535;
 
-/// The class files in their order, and behind them the certificate; or how many bytes this would have, where it has too many, or
+/// The class files in their order, and after them the certificate; or how many bytes this would have, where it has too many, or
 /// where a name is longer than it can tell.
 pub fn outputs_of(
     alloc: Global,

@@ -2,7 +2,7 @@
 
 ghost use Rattle.std.specs.Prelude.{◌≡◌, ◌≢◌, IfErr, IfOk, IsOk, None, Some};
 ghost use Rattle.std.specs.List.{AllByRecursion};
-ghost use Rattle.class_codec.specs.Fits.{CanSpell};
+ghost use Rattle.class_codec.specs.Fits.{IsEncodable};
 ghost use Rattle.bytecode_model.specs.Sound.{IsSound};
 ghost use Rattle.conspec_automaton.specs.Sound.{IsPolicy};
 ghost use Rattle.mon_base.specs.Answer.{Answers};
@@ -20,7 +20,7 @@ use conspec_automaton::Policy;
 use offset_patch::SpliceFault;
 use std::alloc::Global;
 
-/// The class files of a program with a block for each call of a method that the policy has a clause for, and behind them
+/// The class files of a program with a block for each call of a method that the policy has a clause for, and after them
 /// `conspec/State`; or the first size that does not fit.
 pub fn inline(
     alloc: Global,
@@ -36,7 +36,7 @@ pub fn inline(
     ensures unfit { IfErr result (λ fault. fault ≢ Memory
         → first_unfit (program_sizes program.now (plan_of policy.now mode)) ≡ Some fault) }
     // The files can be written.
-    ensures spells { IfOk result (λ made. AllByRecursion CanSpell made.files) }
+    ensures encodes { IfOk result (λ made. AllByRecursion IsEncodable made.files) }
 {
     let plan = PolicyPlan::new(policy, mode);
     weave(alloc, program, &plan, policy.vars.as_slice())

@@ -24,23 +24,23 @@ value_text false value = signed_decimal value
 abbrev pub variable_text : Var → ℤ → List ℕ
 variable_text var value = var.name ++ 61 ∷ value_text var.is_bool value
 
-abbrev pub variable_behind : Var × ℤ → List ℕ
-variable_behind variable = 44 ∷ variable_text variable.0 variable.1
+abbrev pub variable_after : Var × ℤ → List ℕ
+variable_after variable = 44 ∷ variable_text variable.0 variable.1
 
 -- the variables with their values, between commas, or `-` where there are none
 abbrev pub state_text : List Var → Values → List ℕ
-state_text (var ∷ vars) (value ∷ values) = variable_text var value ++ flat_map variable_behind (zip vars values)
+state_text (var ∷ vars) (value ∷ values) = variable_text var value ++ flat_map variable_after (zip vars values)
 state_text (var ∷ vars) [] = codes "-"
 state_text [] values = codes "-"
 
-abbrev pub event_behind : List ListedMethod → Event → List ℕ
-event_behind methods event = codes " ; " ++ threadless_text methods event
+abbrev pub event_after : List ListedMethod → Event → List ℕ
+event_after methods event = codes " ; " ++ threadless_text methods event
 
-abbrev pub second_behind : List ListedMethod → Option Event → List ℕ
-second_behind methods None = []
-second_behind methods (Some event) = event_behind methods event
+abbrev pub second_after : List ListedMethod → Option Event → List ℕ
+second_after methods None = []
+second_after methods (Some event) = event_after methods event
 
--- the state of the policy, and behind it the event or two, in their order
+-- the state of the policy, and after it the event or two, in their order
 abbrev pub example_text : PolicyTree → Listing → Values → Event → Option Event → List ℕ
 example_text policy listing state first second =
-    state_text policy.vars state ++ event_behind listing.methods first ++ second_behind listing.methods second
+    state_text policy.vars state ++ event_after listing.methods first ++ second_after listing.methods second

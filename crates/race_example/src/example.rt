@@ -3,13 +3,13 @@
 ghost use Rattle.std.specs.Prelude.{◌≡◌, ◌++◌, IfOk, OnOk};
 ghost use Rattle.std.specs.List.{flat_map, zip};
 ghost use Rattle.race_example.specs.Example.{
-  event_behind,
+  event_after,
   example_text,
-  second_behind,
+  second_after,
   state_text,
   truth_name,
   value_text,
-  variable_behind,
+  variable_after,
   variable_text,
 };
 
@@ -20,7 +20,7 @@ use event_record::push_threadless;
 use mon_base::{Bytes, NoMemory, push_number};
 use std::alloc::Global;
 
-/// The state of the policy, and behind it the event or two, in their order.
+/// The state of the policy, and after it the event or two, in their order.
 pub fn example_text(
     alloc: Global,
     policy: &PolicyTree,
@@ -41,14 +41,14 @@ pub fn example_text(
 // ---- events
 
 fn push_event(text: &mut Bytes, listing: &Listing, event: &Event) -> Result<(), NoMemory>
-    ensures { OnOk result (text.new ≡ text.old ++ event_behind listing.now.methods event.now) }
+    ensures { OnOk result (text.new ≡ text.old ++ event_after listing.now.methods event.now) }
 {
     text.extend(b" ; ")?;
     push_threadless(text, listing, event)
 }
 
 fn push_second(text: &mut Bytes, listing: &Listing, event: &Option<Event>) -> Result<(), NoMemory>
-    ensures { OnOk result (text.new ≡ text.old ++ second_behind listing.now.methods event.now) }
+    ensures { OnOk result (text.new ≡ text.old ++ second_after listing.now.methods event.now) }
 {
     match event {
         Some(event) => push_event(text, listing, event),
@@ -75,9 +75,9 @@ fn push_state(text: &mut Bytes, vars: &[Var], values: &[i32]) -> Result<(), NoMe
     }
 }
 
-/// Appends the variables with their values, each behind a comma.
+/// Appends the variables with their values, each after a comma.
 fn push_variables(text: &mut Bytes, vars: &[Var], values: &[i32]) -> Result<(), NoMemory>
-    ensures { OnOk result (text.new ≡ text.old ++ flat_map variable_behind (zip vars.now values.now)) }
+    ensures { OnOk result (text.new ≡ text.old ++ flat_map variable_after (zip vars.now values.now)) }
 {
     let mut vars_left = vars;
     let mut values_left = values;
@@ -85,15 +85,15 @@ fn push_variables(text: &mut Bytes, vars: &[Var], values: &[i32]) -> Result<(), 
         let [value, later_values @ ..] = values_left else {
             return Ok(());
         };
-        push_behind(text, var, *value)?;
+        push_after(text, var, *value)?;
         vars_left = later_vars;
         values_left = later_values;
     }
     Ok(())
 }
 
-fn push_behind(text: &mut Bytes, var: &Var, value: i32) -> Result<(), NoMemory>
-    ensures { OnOk result (text.new ≡ text.old ++ variable_behind (var.now, value)) }
+fn push_after(text: &mut Bytes, var: &Var, value: i32) -> Result<(), NoMemory>
+    ensures { OnOk result (text.new ≡ text.old ++ variable_after (var.now, value)) }
 {
     text.push(b',')?;
     push_variable(text, var, value)

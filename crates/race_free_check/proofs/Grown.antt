@@ -1,4 +1,4 @@
--- One step of a loop: what is found of one item more, and what is left behind the first item.
+-- One step of a loop: what is found of one item more, and what is left after the first item.
 use Rattle.std.proofs.Common.{◌≡◌, ℕ, ◌+◌, ◌-◌, ◌*◌, ◌<◌, ◌≤◌, min, ℤ, pos, ◌+ℤ◌, List, [], ◌∷◌, ◌++◌, length, drop, take, get_or, map, Option, refl, sym, ap, subst, ◌∙◌, arith}
 use Rattle.std.specs.Prelude.{◌-ℤ◌, filter, flat_map}
 use Rattle.std.specs.List.{cons_option, enumerate_from, filter_map}
@@ -86,7 +86,7 @@ module _ (low high : ℤ) where
       ∙ ap (λ (k : ℤ). kept (flat_map around (take i ns) ++ (m -ℤ pos 1) ∷ m ∷ k ∷ [])) over
       ∙ ap kept (sym (joined_more around ns i (pos 0) below))
 
--- ---- what is left behind the first item
+-- ---- what is left after the first item
 
 pub front_is : {X : Type 0} (left : List X) (x d : X) → 1 ≤ length left → x ≡ get_or left 0 d → left ≡ x ∷ take (length left - 1) (drop 1 left)
 front_is left x d some is = front_at left d some ∙ ap (λ (y : _). y ∷ take (length left - 1) (drop 1 left)) (sym is)

@@ -101,13 +101,13 @@ got_number [] i = refl
 got_number (n ∷ ns) zero = refl
 got_number (n ∷ ns) (suc i) = got_number ns i
 
--- ---- the first number of a choice, and those behind it
+-- ---- the first number of a choice, and those after it
 
 module _ (lists rest : List (List ℤ)) (list : List ℤ) (number count size : ℕ) (front : lists ≡ list ∷ rest) (counted : count ≡ size_of lists) (there : number < count) (sized : size ≡ length list) where
   parts : IsSplit number (length list) (size_of rest)
   parts = split number (length list) (size_of rest) (subst (λ (n : ℕ). number < n) (counted ∙ ap size_of front) there)
 
-  -- the count of the choices of the lists behind
+  -- the count of the choices of the lists after
   pub count_left : count / size ≡ size_of rest
   count_left =
       let product = counted ∙ ap size_of front in

@@ -113,7 +113,7 @@ run_still d c state first second over = by (chosen d state first) refl where
       let there = (found_passes (is_taken (moment state first)) d.branches b found).there in
       ap (option_map (λ (e : Branch). b.updates ++ e.updates)) (chosen_still c b.updates (branch_unseen c d b over there) state second)
 
-module _ (d c : Clause) (state : Values) (first second : Event) (ahead : Overlooks c d) (behind : Overlooks d c) where
+module _ (d c : Clause) (state : Values) (first second : Event) (ahead : Overlooks c d) (following : Overlooks d c) where
   branches_differ : (b e : Branch) → Has d.branches b → Has c.branches e → (u v : Update) → Has b.updates u → Has e.updates v → target u ≢ target v
   branches_differ b e hb he u v hu hv same =
       false≢true (sym (branch_unseen c d b ahead hb u hu) ∙ names_update (c ∷ []) (target u) v (update_in (c ∷ []) c e v (inl refl) he hv) (sym same))
@@ -129,7 +129,7 @@ module _ (d c : Clause) (state : Values) (first second : Event) (ahead : Overloo
   runs_alike : ends_alike state (run_of d c state first second) (run_of c d state second first) ≡ true
   runs_alike =
       ap (λ (run : Option (List Update)). ends_alike state run (run_of c d state second first)) (run_still d c state first second ahead)
-      ∙ ap (ends_alike state (run_at_once (chosen d state first) (chosen c state second))) (run_still c d state second first behind)
+      ∙ ap (ends_alike state (run_at_once (chosen d state first) (chosen c state second))) (run_still c d state second first following)
       ∙ at_once_alike (chosen d state first) (chosen c state second) refl refl
 
 -- ---- the test
@@ -171,13 +171,13 @@ module _ (policy : Policy) (sound : IsPolicy policy) where
     overlooks_ahead : Overlooks c d
     overlooks_ahead u h = undisturbed d c u (or_parts (disturbs (target u) d c) (disturbs (target u) c d) (meet_not (target u) (target_below d hd u h))).0 h
 
-    overlooks_behind : Overlooks d c
-    overlooks_behind u h = undisturbed c d u (or_parts (disturbs (target u) d c) (disturbs (target u) c d) (meet_not (target u) (target_below c hc u h))).1 h
+    overlooks_after : Overlooks d c
+    overlooks_after u h = undisturbed c d u (or_parts (disturbs (target u) d c) (disturbs (target u) c d) (meet_not (target u) (target_below c hc u h))).1 h
 
     turned_apart : (state : Values) (first second : Event) → Has (events_of d) first → Has (events_of c) second → is_turned policy state first second ≡ true
     turned_apart state first second hf hn =
         turned_is policy d c state first second (clause_found policy sound d first hd (tried d first hf).speaks) (clause_found policy sound c second hc (tried c second hn).speaks)
-        ∙ runs_alike d c state first second overlooks_ahead overlooks_behind
+        ∙ runs_alike d c state first second overlooks_ahead overlooks_after
 
   -- no point of clauses that are apart breaks a condition
   passes_apart : (trial : Trial) → AreClausesOf policy trial → is_apart policy trial ≡ true → (point : Point) → Has (points policy trial) point → breaks policy point ≡ false

@@ -14,7 +14,7 @@ use Rattle.std.specs.Cmp.{int_cmp_total}
 use Rattle.conspec_automaton.specs.Points.{ascending, placed}
 use Rattle.race_free_check.specs.Small.{HasSame, has}
 
--- Each number is less than all behind it.
+-- Each number is less than all after it.
 abbrev Rises : List ℤ → Type 0
 Rises [] = Unit {0}
 Rises (n ∷ ns) = AllByRecursion (λ m. n <ℤ m) ns × Rises ns

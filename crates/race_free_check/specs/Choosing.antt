@@ -16,7 +16,7 @@ use Rattle.conspec_automaton.specs.Points.{constants_of, points_between, size_of
 
 -- ---- choices, by their numbers
 
--- the number at the place, or 0 behind the last
+-- the number at the place, or 0 after the last
 abbrev pub number_at : List ℤ → ℕ → ℤ
 number_at numbers i = option_map_or (λ n. n) (slice_get numbers i) (pos 0)
 

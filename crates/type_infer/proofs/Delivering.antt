@@ -130,18 +130,18 @@ module _ (scope : Scope) (laws : Laws scope.program) (place : InsnPlace) where
   pub sends_over : (xs ys : List ℕ) (old middle new : State) → SendsTo scope place xs old middle → SendsTo scope place ys middle new → SendsTo scope place (xs ++ ys) old new
   sends_over xs ys old middle new first second = record {
     grows = grows_over scope.program laws.itself laws.over old middle new first.grows second.grows;
-    found = λ may. stays_over scope laws place.at old middle new (first.found (front may)) (second.found (behind may));
+    found = λ may. stays_over scope laws place.at old middle new (first.found (front may)) (second.found (following may));
     sent = λ may to among.
         elim (Contains-append_cases xs ys to among) [
           | inl earlier ↦ sent_before scope laws place.at old middle new to left_by (first.sent (front may) to earlier) second.grows
-          | inr later ↦ sent_after scope laws place.at old middle new to left_by (first.found (front may)) (second.sent (behind may) to later)
+          | inr later ↦ sent_after scope laws place.at old middle new to left_by (first.found (front may)) (second.sent (following may) to later)
         ];
   } where
     front : AreSuccessors place (xs ++ ys) → AreSuccessors place xs
     front may to among = may to (Contains-append_left xs ys to among)
 
-    behind : AreSuccessors place (xs ++ ys) → AreSuccessors place ys
-    behind may to among = may to (Contains-append_right xs ys to among)
+    following : AreSuccessors place (xs ++ ys) → AreSuccessors place ys
+    following may to among = may to (Contains-append_right xs ys to among)
 
   module _ (old : State) (here : place_of scope place.at ≡ Some place) (low : FrameType) (is : frame_of old.frames place.at ≡ Some low)
       (frames : length old.frames ≡ length scope.method.insns) (marks : length old.marks ≡ length scope.method.insns) (there : InsnPlace) (told : Option FrameType) where

@@ -119,7 +119,7 @@ pub fn infer(alloc: Global, program: &Indexed) -> Result<Typing, InferFault>
     // There is a frame, or none, for each instruction.
     ensures shaped { IfOk result (λ typing. IsLaidOut program.now typing.frames) }
     // A certificate can tell each frame.
-    ensures spelled { IfOk result (λ typing. FitsTyping typing) }
+    ensures encoded { IfOk result (λ typing. FitsTyping typing) }
     // It is the least typing that meets the rules.
     ensures least { IfOk result (λ typing. IsLeast program.now typing) }
     // Else no typing meets them, unless memory ran out.

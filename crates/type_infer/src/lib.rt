@@ -14,7 +14,7 @@ mod laws;
 mod sending;
 mod solving;
 mod told;
-mod work;
+mod worklist;
 
 pub use fault::InferFault;
 pub use inferring::infer;

@@ -19,7 +19,7 @@ use crate::body::Body;
 use crate::joining::joined;
 use crate::laws::laws_hold;
 use crate::told::Told;
-use crate::work::Work;
+use crate::worklist::Worklist;
 use bytecode_model::Handler;
 use cert_format::FrameType;
 use code_typing::{
@@ -128,23 +128,23 @@ fn thrown(
 fn send(
     alloc: Global,
     body: &Body,
-    work: &mut Work,
+    worklist: &mut Worklist,
     place: &PlaceRef,
     to: u32,
 ) -> Result<(), NoMemory>
-    requires { StandsIn body.now place.now work.old }
-    ensures each { HasEach body.now work.new }
-    ensures sends { OnOk result (IsReady body.now → SendsTo body.now place.now (to ∷ []) work.old work.new) }
+    requires { StandsIn body.now place.now worklist.old }
+    ensures each { HasEach body.now worklist.new }
+    ensures sends { OnOk result (IsReady body.now → SendsTo body.now place.now (to ∷ []) worklist.old worklist.new) }
 {
     laws_hold();
     let Some(there) = body.place(to) else {
         return Ok(());
     };
-    let Some(frame) = work.frame(place.at) else {
+    let Some(frame) = worklist.frame(place.at) else {
         return Ok(());
     };
-    let new = sent(alloc, place, frame, &there, work.frame(to))?;
-    work.put(to, new);
+    let new = sent(alloc, place, frame, &there, worklist.frame(to))?;
+    worklist.put(to, new);
     Ok(())
 }
 
@@ -152,17 +152,17 @@ fn send(
 fn send_all(
     alloc: Global,
     body: &Body,
-    work: &mut Work,
+    worklist: &mut Worklist,
     place: &PlaceRef,
     targets: &[u32],
 ) -> Result<(), NoMemory>
-    requires { StandsIn body.now place.now work.old }
-    ensures each { HasEach body.now work.new }
-    ensures sends { OnOk result (IsReady body.now → SendsTo body.now place.now targets.now work.old work.new) }
+    requires { StandsIn body.now place.now worklist.old }
+    ensures each { HasEach body.now worklist.new }
+    ensures sends { OnOk result (IsReady body.now → SendsTo body.now place.now targets.now worklist.old worklist.new) }
 {
     laws_hold();
     for to in targets {
-        send(alloc, body, work, place, *to)?;
+        send(alloc, body, worklist, place, *to)?;
     }
     Ok(())
 }
@@ -171,50 +171,55 @@ fn send_all(
 fn send_each(
     alloc: Global,
     body: &Body,
-    work: &mut Work,
+    worklist: &mut Worklist,
     place: &PlaceRef,
     first: u32,
     others: &[u32],
 ) -> Result<(), NoMemory>
-    requires { StandsIn body.now place.now work.old }
-    ensures each { HasEach body.now work.new }
-    ensures sends { OnOk result (IsReady body.now → SendsTo body.now place.now (first ∷ others.now) work.old work.new) }
+    requires { StandsIn body.now place.now worklist.old }
+    ensures each { HasEach body.now worklist.new }
+    ensures sends { OnOk result (IsReady body.now → SendsTo body.now place.now (first ∷ others.now) worklist.old worklist.new) }
 {
     laws_hold();
-    send(alloc, body, work, place, first)?;
-    send_all(alloc, body, work, place, others)
+    send(alloc, body, worklist, place, first)?;
+    send_all(alloc, body, worklist, place, others)
 }
 
 /// Sends what the instruction leaves to the targets of its jumps.
 fn send_to_targets(
     alloc: Global,
     body: &Body,
-    work: &mut Work,
+    worklist: &mut Worklist,
     place: &PlaceRef,
 ) -> Result<(), NoMemory>
-    requires { StandsIn body.now place.now work.old }
-    ensures each { HasEach body.now work.new }
-    ensures sends { OnOk result (IsReady body.now → SendsTo body.now place.now (jump_targets place.now.insn) work.old work.new) }
+    requires { StandsIn body.now place.now worklist.old }
+    ensures each { HasEach body.now worklist.new }
+    ensures sends { OnOk result (IsReady body.now → SendsTo body.now place.now (jump_targets place.now.insn) worklist.old worklist.new) }
 {
     laws_hold();
     match place.insn {
-        Insn::Branch { to, .. } => send(alloc, body, work, place, *to),
-        Insn::GotoW { to } => send(alloc, body, work, place, *to),
+        Insn::Branch { to, .. } => send(alloc, body, worklist, place, *to),
+        Insn::GotoW { to } => send(alloc, body, worklist, place, *to),
         Insn::Table { other, targets, .. } => {
-            send_each(alloc, body, work, place, *other, targets.as_slice())
+            send_each(alloc, body, worklist, place, *other, targets.as_slice())
         }
         Insn::Lookup { other, targets, .. } => {
-            send_each(alloc, body, work, place, *other, targets.as_slice())
+            send_each(alloc, body, worklist, place, *other, targets.as_slice())
         }
         _ => Ok(()),
     }
 }
 
 /// Sends what the instruction leaves to the next, where control can go on to it.
-fn send_on(alloc: Global, body: &Body, work: &mut Work, place: &PlaceRef) -> Result<(), NoMemory>
-    requires { StandsIn body.now place.now work.old }
-    ensures each { HasEach body.now work.new }
-    ensures sends { OnOk result (IsReady body.now → SendsTo body.now place.now (next_of place.now.at place.now.insn) work.old work.new) }
+fn send_on(
+    alloc: Global,
+    body: &Body,
+    worklist: &mut Worklist,
+    place: &PlaceRef,
+) -> Result<(), NoMemory>
+    requires { StandsIn body.now place.now worklist.old }
+    ensures each { HasEach body.now worklist.new }
+    ensures sends { OnOk result (IsReady body.now → SendsTo body.now place.now (next_of place.now.at place.now.insn) worklist.old worklist.new) }
 {
     laws_hold();
     if !goes_on(place.insn.opcode()) {
@@ -222,7 +227,7 @@ fn send_on(alloc: Global, body: &Body, work: &mut Work, place: &PlaceRef) -> Res
     }
     match place.at.checked_add(1) {
         None => Ok(()),
-        Some(next) => send(alloc, body, work, place, next),
+        Some(next) => send(alloc, body, worklist, place, next),
     }
 }
 
@@ -230,13 +235,13 @@ fn send_on(alloc: Global, body: &Body, work: &mut Work, place: &PlaceRef) -> Res
 fn throw(
     alloc: Global,
     body: &Body,
-    work: &mut Work,
+    worklist: &mut Worklist,
     place: &PlaceRef,
     handler: &Handler,
 ) -> Result<(), NoMemory>
-    requires { StandsIn body.now place.now work.old }
-    ensures each { HasEach body.now work.new }
-    ensures sends { OnOk result (IsReady body.now → ThrowsTo body.now place.now handler.now work.old work.new) }
+    requires { StandsIn body.now place.now worklist.old }
+    ensures each { HasEach body.now worklist.new }
+    ensures sends { OnOk result (IsReady body.now → ThrowsTo body.now place.now handler.now worklist.old worklist.new) }
 {
     laws_hold();
     if !handler.covers(place.at) {
@@ -245,11 +250,18 @@ fn throw(
     let Some(there) = body.place(handler.at) else {
         return Ok(());
     };
-    let Some(frame) = work.frame(place.at) else {
+    let Some(frame) = worklist.frame(place.at) else {
         return Ok(());
     };
-    let new = thrown(alloc, place, frame, handler, &there, work.frame(handler.at))?;
-    work.put(handler.at, new);
+    let new = thrown(
+        alloc,
+        place,
+        frame,
+        handler,
+        &there,
+        worklist.frame(handler.at),
+    )?;
+    worklist.put(handler.at, new);
     Ok(())
 }
 
@@ -257,42 +269,42 @@ fn throw(
 fn throw_to_handlers(
     alloc: Global,
     body: &Body,
-    work: &mut Work,
+    worklist: &mut Worklist,
     place: &PlaceRef,
 ) -> Result<(), NoMemory>
-    requires { StandsIn body.now place.now work.old }
-    ensures each { HasEach body.now work.new }
-    ensures sends { OnOk result (IsReady body.now → ThrowsToAll body.now place.now work.old work.new) }
+    requires { StandsIn body.now place.now worklist.old }
+    ensures each { HasEach body.now worklist.new }
+    ensures sends { OnOk result (IsReady body.now → ThrowsToAll body.now place.now worklist.old worklist.new) }
 {
     laws_hold();
     let mut near = body.method.handlers.near(place.at);
     while let Some(handler) = near.next() {
-        throw(alloc, body, work, place, handler)?;
+        throw(alloc, body, worklist, place, handler)?;
     }
     Ok(())
 }
 
 /// Looks at an instruction: where its frame meets the rules that ask nothing of other instructions, what it leaves and
 /// what it throws flow on.
-pub fn look_at(alloc: Global, body: &Body, work: &mut Work, at: u32) -> Result<(), NoMemory>
-    requires { HasEach body.now work.old }
-    ensures each { HasEach body.now work.new }
-    ensures grows { OnOk result (IsReady body.now → Grows body.now.program work.old work.new) }
-    ensures found { OnOk result (IsReady body.now → StaysFound body.now at work.old work.new) }
-    ensures done { OnOk result (IsReady body.now → (above : Frames) → RowIsMet body.now above at → AreFound body.now above work.old
-        → IsDone body.now work.new at) }
+pub fn look_at(alloc: Global, body: &Body, worklist: &mut Worklist, at: u32) -> Result<(), NoMemory>
+    requires { HasEach body.now worklist.old }
+    ensures each { HasEach body.now worklist.new }
+    ensures grows { OnOk result (IsReady body.now → Grows body.now.program worklist.old worklist.new) }
+    ensures found { OnOk result (IsReady body.now → StaysFound body.now at worklist.old worklist.new) }
+    ensures done { OnOk result (IsReady body.now → (above : Frames) → RowIsMet body.now above at → AreFound body.now above worklist.old
+        → IsDone body.now worklist.new at) }
 {
     laws_hold();
     let Some(place) = body.place(at) else {
         return Ok(());
     };
-    let Some(frame) = work.frame(at) else {
+    let Some(frame) = worklist.frame(at) else {
         return Ok(());
     };
     if !is_alone_met(&place, frame) {
         return Ok(());
     }
-    send_on(alloc, body, work, &place)?;
-    send_to_targets(alloc, body, work, &place)?;
-    throw_to_handlers(alloc, body, work, &place)
+    send_on(alloc, body, worklist, &place)?;
+    send_to_targets(alloc, body, worklist, &place)?;
+    throw_to_handlers(alloc, body, worklist, &place)
 }

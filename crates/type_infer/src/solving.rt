@@ -10,27 +10,27 @@ use crate::joining::joined;
 use crate::laws::laws_hold;
 use crate::sending::look_at;
 use crate::told::Told;
-use crate::work::Work;
+use crate::worklist::Worklist;
 use cert_format::FrameType;
 use code_typing::entry_locals;
 use mon_base::{List, NoMemory};
 use std::alloc::Global;
 
 /// A method of which no frame but that of the arguments, before the first instruction, is found.
-fn begun(alloc: Global, body: &Body) -> Result<Work, NoMemory>
-    ensures frames { IfOk result (λ work. length work.frames ≡ length body.now.method.insns) }
-    ensures marks { IfOk result (λ work. length work.marks ≡ length body.now.method.insns) }
-    ensures holds { IfOk result (λ work. (limit : ℕ) (above : Frames) → IsMetBy body.now limit above → Holds body.now limit above work) }
+fn begun(alloc: Global, body: &Body) -> Result<Worklist, NoMemory>
+    ensures frames { IfOk result (λ worklist. length worklist.frames ≡ length body.now.method.insns) }
+    ensures marks { IfOk result (λ worklist. length worklist.marks ≡ length body.now.method.insns) }
+    ensures holds { IfOk result (λ worklist. (limit : ℕ) (above : Frames) → IsMetBy body.now limit above → Holds body.now limit above worklist) }
 {
     laws_hold();
-    let mut work = Work::new(alloc, body.method.insns.len())?;
+    let mut worklist = Worklist::new(alloc, body.method.insns.len())?;
     let Some(place) = body.place(0) else {
-        return Ok(work);
+        return Ok(worklist);
     };
     let locals = entry_locals(alloc, &place)?;
     let first = joined(alloc, &place, None, locals, List::new(alloc))?;
-    work.put(0, first);
-    Ok(work)
+    worklist.put(0, first);
+    Ok(worklist)
 }
 
 /// The frames as a list.
@@ -64,13 +64,13 @@ pub fn solve(alloc: Global, body: &Body, limit: u32) -> Result<List<Option<Frame
     ensures solved { IfOk result (λ frames. IsSolved body.now limit frames) }
 {
     laws_hold();
-    let mut work = begun(alloc, body)?;
+    let mut worklist = begun(alloc, body)?;
     // Each turn raises a frame, and a frame is raised a few times: 2^64 turns are never made.
     for _ in 0..u64::MAX {
-        let Some(at) = work.next(limit) else {
-            return into_list(alloc, work.into_frames());
+        let Some(at) = worklist.next(limit) else {
+            return into_list(alloc, worklist.into_frames());
         };
-        look_at(alloc, body, &mut work, at)?;
+        look_at(alloc, body, &mut worklist, at)?;
     }
     Err(NoMemory)
 }

@@ -46,7 +46,7 @@ fn read_types(types: &[VType])
 fn count_told(types: &[VType]) -> usize
     ensures within { result ≤ length types.now }
     ensures last { ends_with_top (take result types.now) ≡ false }
-    ensures behind { (j : ℕ) → result ≤ j → type_at types.now j ≡ Top }
+    ensures following { (j : ℕ) → result ≤ j → type_at types.now j ≡ Top }
 {
     let mut count: usize = 0;
     for (i, t) in types.iter().enumerate() {

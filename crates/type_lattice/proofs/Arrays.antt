@@ -54,13 +54,13 @@ class_itself program name = or_true (bytes_eq name name) _ (equal_itself name)
 leaf_itself : (program : Program) (name : List ℕ) → leaf_fits program name name ≡ true
 leaf_itself program name = or_true (bytes_eq name name) _ (equal_itself name)
 
-either_way : (b : Bool) (x y : Bool) → x ≡ true → y ≡ true → cond b x y ≡ true
-either_way true x y e f = e
-either_way false x y e f = f
+either_skip : (b : Bool) (x y : Bool) → x ≡ true → y ≡ true → cond b x y ≡ true
+either_skip true x y e f = e
+either_skip false x y e f = f
 
 pub component_itself : (program : Program) (c : List ℕ) → component_fits program c c ≡ true
 component_itself program [] = leaf_itself program []
-component_itself program (b ∷ c) = either_way ((b == 91) && (b == 91)) _ _ (component_itself program c) (leaf_itself program (b ∷ c))
+component_itself program (b ∷ c) = either_skip ((b == 91) && (b == 91)) _ _ (component_itself program c) (leaf_itself program (b ∷ c))
 
 array_itself : (program : Program) (item to : List ℕ) → bytes_eq (array_of item) to ≡ true → array_fits program (array_of item) to ≡ true
 array_itself program item to e =

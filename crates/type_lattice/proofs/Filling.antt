@@ -2,26 +2,26 @@
 use Rattle.std.proofs.Common.{◌≡◌, ℕ, zero, suc, ◌+◌, ◌<◌, List, [], ◌∷◌, ◌++◌, length, length-append, map, take, set, Option, Some, refl, sym, ap, subst, ◌∙◌, inl, inr, arith}
 use Rattle.std.specs.Prelude.{slice_get, nat_eq}
 use Rattle.std.proofs.lemmas.Bool.{cases_Bool, false≢true, eq-eqb, eqb-true}
-use Rattle.type_lattice.specs.declared.ways.Way.{Way}
-use Rattle.type_lattice.specs.Ways.{parent_of, parents_of, unknown, way, AreParents, IsWay, IsKnown, IsOpen, AreBegun, AreWays}
+use Rattle.type_lattice.specs.declared.skip_pointers.SkipPointer.{SkipPointer}
+use Rattle.type_lattice.specs.SkipPointers.{parent_of, parents_of, unknown, skip_pointer, AreParents, IsSkipPointer, IsKnown, IsOpen, AreBegun, AreSkipPointers}
 use Rattle.type_lattice.proofs.Ascending.{some_is, there_within, parents-length, unknown_parents, unknown_height, not_empty, goes_on, stays_in, last_of}
 
-set_parents : (ways : List Way) (at : ℕ) (kept : Way) → at < length ways → kept.parent ≡ parent_of (parents_of ways) at → parents_of (set ways at kept) ≡ parents_of ways
+set_parents : (skip_pointers : List SkipPointer) (at : ℕ) (kept : SkipPointer) → at < length skip_pointers → kept.parent ≡ parent_of (parents_of skip_pointers) at → parents_of (set skip_pointers at kept) ≡ parents_of skip_pointers
 set_parents [] at kept less e = refl
-set_parents (w ∷ ways) zero kept less e = ap (λ (p : Option ℕ). p ∷ parents_of ways) e
-set_parents (w ∷ ways) (suc at) kept less e = ap (λ (l : List (Option ℕ)). w.parent ∷ l) (set_parents ways at kept (omega arith) e)
+set_parents (w ∷ skip_pointers) zero kept less e = ap (λ (p : Option ℕ). p ∷ parents_of skip_pointers) e
+set_parents (w ∷ skip_pointers) (suc at) kept less e = ap (λ (l : List (Option ℕ)). w.parent ∷ l) (set_parents skip_pointers at kept (omega arith) e)
 
-set_there : (ways : List Way) (at : ℕ) (kept : Way) → at < length ways → slice_get (set ways at kept) at ≡ Some kept
+set_there : (skip_pointers : List SkipPointer) (at : ℕ) (kept : SkipPointer) → at < length skip_pointers → slice_get (set skip_pointers at kept) at ≡ Some kept
 set_there [] at kept less = absurd (omega arith)
-set_there (w ∷ ways) zero kept less = refl
-set_there (w ∷ ways) (suc at) kept less = set_there ways at kept (omega arith)
+set_there (w ∷ skip_pointers) zero kept less = refl
+set_there (w ∷ skip_pointers) (suc at) kept less = set_there skip_pointers at kept (omega arith)
 
-set_other : (ways : List Way) (at x : ℕ) (kept : Way) → (at ≡ x → ⊥) → slice_get (set ways at kept) x ≡ slice_get ways x
+set_other : (skip_pointers : List SkipPointer) (at x : ℕ) (kept : SkipPointer) → (at ≡ x → ⊥) → slice_get (set skip_pointers at kept) x ≡ slice_get skip_pointers x
 set_other [] at x kept other = refl
-set_other (w ∷ ways) zero zero kept other = absurd (other refl)
-set_other (w ∷ ways) zero (suc x) kept other = refl
-set_other (w ∷ ways) (suc at) zero kept other = refl
-set_other (w ∷ ways) (suc at) (suc x) kept other = set_other ways at x kept (λ e. other (ap suc e))
+set_other (w ∷ skip_pointers) zero zero kept other = absurd (other refl)
+set_other (w ∷ skip_pointers) zero (suc x) kept other = refl
+set_other (w ∷ skip_pointers) (suc at) zero kept other = refl
+set_other (w ∷ skip_pointers) (suc at) (suc x) kept other = set_other skip_pointers at x kept (λ e. other (ap suc e))
 
 same_or_other : (at x : ℕ) (P : Type 0) → (at ≡ x → P) → ((at ≡ x → ⊥) → P) → P
 same_or_other at x P f g =
@@ -32,7 +32,7 @@ same_or_other at x P f g =
 
 -- ---- before any way is gone
 
-pub begun_unknown : (items : List Way) (parents : List (Option ℕ)) → items ≡ map unknown parents → AreParents parents → AreBegun items
+pub begun_unknown : (items : List SkipPointer) (parents : List (Option ℕ)) → items ≡ map unknown parents → AreParents parents → AreBegun items
 begun_unknown items parents e are =
     subst AreBegun (sym e) record {
       parents = subst AreParents (sym (unknown_parents parents)) are;
@@ -40,69 +40,69 @@ begun_unknown items parents e are =
     }
 
 -- all is known
-pub all_known : (ways : List Way) (n : ℕ) → AreBegun ways → ((at : ℕ) → at < n → IsKnown ways at) → n ≡ length ways → AreWays ways
-all_known ways n begun known e = record {
+pub all_known : (skip_pointers : List SkipPointer) (n : ℕ) → AreBegun skip_pointers → ((at : ℕ) → at < n → IsKnown skip_pointers at) → n ≡ length skip_pointers → AreSkipPointers skip_pointers
+all_known skip_pointers n begun known e = record {
   parents = begun.parents;
   right = λ at kept there.
-      let less = there_within ways at kept there in
+      let less = there_within skip_pointers at kept there in
       let k = known at (omega arith) in
       let same : k.kept ≡ kept = some_is k.kept kept (sym k.there ∙ there) in
-      begun.right at kept there (subst (λ (w : Way). 0 < w.height) same k.known);
+      begun.right at kept there (subst (λ (w : SkipPointer). 0 < w.height) same k.known);
 }
 
 -- ---- one way more
 
-module _ (ways : List Way) (begun : AreBegun ways) (at : ℕ) (kept : Way) (less : at < length ways) (parent : kept.parent ≡ parent_of (parents_of ways) at) (is : IsWay (parents_of ways) at kept) where
-  pub same_parents : parents_of (set ways at kept) ≡ parents_of ways
-  same_parents = set_parents ways at kept less parent
+module _ (skip_pointers : List SkipPointer) (begun : AreBegun skip_pointers) (at : ℕ) (kept : SkipPointer) (less : at < length skip_pointers) (parent : kept.parent ≡ parent_of (parents_of skip_pointers) at) (is : IsSkipPointer (parents_of skip_pointers) at kept) where
+  pub same_parents : parents_of (set skip_pointers at kept) ≡ parents_of skip_pointers
+  same_parents = set_parents skip_pointers at kept less parent
 
   some_height : 0 < kept.height
-  some_height = let h = is.height in let some = not_empty (parents_of ways) begun.parents at in omega arith
+  some_height = let h = is.height in let some = not_empty (parents_of skip_pointers) begun.parents at in omega arith
 
-  pub one_more : AreBegun (set ways at kept)
+  pub one_more : AreBegun (set skip_pointers at kept)
   one_more = record {
     parents = subst AreParents (sym same_parents) begun.parents;
     right = λ x k there some.
-        subst (λ (l : List (Option ℕ)). IsWay l x k) (sym same_parents)
-        (same_or_other at x (IsWay (parents_of ways) x k)
+        subst (λ (l : List (Option ℕ)). IsSkipPointer l x k) (sym same_parents)
+        (same_or_other at x (IsSkipPointer (parents_of skip_pointers) x k)
         (λ e.
-        let k_is : kept ≡ k = some_is kept k (sym (set_there ways at kept less) ∙ ap (slice_get (set ways at kept)) e ∙ there) in
-        subst (λ (w : Way). IsWay (parents_of ways) x w) k_is (subst (λ (n : ℕ). IsWay (parents_of ways) n kept) e is))
-        (λ other. begun.right x k (sym (set_other ways at x kept other) ∙ there) some));
+        let k_is : kept ≡ k = some_is kept k (sym (set_there skip_pointers at kept less) ∙ ap (slice_get (set skip_pointers at kept)) e ∙ there) in
+        subst (λ (w : SkipPointer). IsSkipPointer (parents_of skip_pointers) x w) k_is (subst (λ (n : ℕ). IsSkipPointer (parents_of skip_pointers) n kept) e is))
+        (λ other. begun.right x k (sym (set_other skip_pointers at x kept other) ∙ there) some));
   }
 
-  pub is_added : IsKnown (set ways at kept) at
-  is_added = record { kept = kept; there = set_there ways at kept less; known = some_height }
+  pub is_added : IsKnown (set skip_pointers at kept) at
+  is_added = record { kept = kept; there = set_there skip_pointers at kept less; known = some_height }
 
-  pub stay_known : (x : ℕ) → IsKnown ways x → IsKnown (set ways at kept) x
+  pub stay_known : (x : ℕ) → IsKnown skip_pointers x → IsKnown (set skip_pointers at kept) x
   stay_known x k =
-      same_or_other at x (IsKnown (set ways at kept) x)
-      (λ e. subst (IsKnown (set ways at kept)) e is_added)
-      (λ other. record { kept = k.kept; there = set_other ways at x kept other ∙ k.there; known = k.known })
+      same_or_other at x (IsKnown (set skip_pointers at kept) x)
+      (λ e. subst (IsKnown (set skip_pointers at kept)) e is_added)
+      (λ other. record { kept = k.kept; there = set_other skip_pointers at x kept other ∙ k.there; known = k.known })
 
 -- ---- the last of a path
 
-module _ (ways : List Way) (begun : AreBegun ways) (start at : ℕ) (path rest : List ℕ) (is : path ≡ rest ++ at ∷ []) (is_open : IsOpen ways start path) where
+module _ (skip_pointers : List SkipPointer) (begun : AreBegun skip_pointers) (start at : ℕ) (path rest : List ℕ) (is : path ≡ rest ++ at ∷ []) (is_open : IsOpen skip_pointers start path) where
   longer : length path ≡ length rest + 1
   longer = ap length is ∙ length-append rest (at ∷ [])
 
-  cut : (slice_get (way (parents_of ways) start) (length rest) ≡ Some at) × (rest ≡ take (length rest) (way (parents_of ways) start))
-  cut = last_of (way (parents_of ways) start) rest at (sym is ∙ is_open.front ∙ ap (λ (n : ℕ). take n (way (parents_of ways) start)) longer)
+  cut : (slice_get (skip_pointer (parents_of skip_pointers) start) (length rest) ≡ Some at) × (rest ≡ take (length rest) (skip_pointer (parents_of skip_pointers) start))
+  cut = last_of (skip_pointer (parents_of skip_pointers) start) rest at (sym is ∙ is_open.front ∙ ap (λ (n : ℕ). take n (skip_pointer (parents_of skip_pointers) start)) longer)
 
-  pub last_within : start < length ways → at < length ways
+  pub last_within : start < length skip_pointers → at < length skip_pointers
   last_within less =
-      let n = parents-length ways in
-      let all = stays_in (parents_of ways) begun.parents (length rest) start at (omega arith) cut.0 in
+      let n = parents-length skip_pointers in
+      let all = stays_in (parents_of skip_pointers) begun.parents (length rest) start at (omega arith) cut.0 in
       omega arith
 
-  pub above_known : (above : ℕ) → slice_get (way (parents_of ways) at) 1 ≡ Some above → IsKnown ways above
+  pub above_known : (above : ℕ) → slice_get (skip_pointer (parents_of skip_pointers) at) 1 ≡ Some above → IsKnown skip_pointers above
   above_known above e =
-      is_open.next above (ap (slice_get (way (parents_of ways) start)) longer ∙ goes_on (parents_of ways) begun.parents (length rest) 1 start at cut.0 ∙ e)
+      is_open.next above (ap (slice_get (skip_pointer (parents_of skip_pointers) start)) longer ∙ goes_on (parents_of skip_pointers) begun.parents (length rest) 1 start at cut.0 ∙ e)
 
-  pub still_open : (new : List Way) → parents_of new ≡ parents_of ways → IsKnown new at → IsOpen new start rest
+  pub still_open : (new : List SkipPointer) → parents_of new ≡ parents_of skip_pointers → IsKnown new at → IsOpen new start rest
   still_open new same known = record {
-    front = cut.1 ∙ ap (λ (l : List (Option ℕ)). take (length rest) (way l start)) (sym same);
+    front = cut.1 ∙ ap (λ (l : List (Option ℕ)). take (length rest) (skip_pointer l start)) (sym same);
     next = λ x e.
-        let there : slice_get (way (parents_of ways) start) (length rest) ≡ Some x = ap (λ (l : List (Option ℕ)). slice_get (way l start) (length rest)) (sym same) ∙ e in
+        let there : slice_get (skip_pointer (parents_of skip_pointers) start) (length rest) ≡ Some x = ap (λ (l : List (Option ℕ)). slice_get (skip_pointer l start) (length rest)) (sym same) ∙ e in
         subst (IsKnown new) (some_is at x (sym cut.0 ∙ there)) known;
   }

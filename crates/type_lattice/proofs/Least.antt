@@ -89,9 +89,9 @@ module _ (program : Program) (order : IsInOrder program) where
   interface_widest a v is (equal e) = inr (subst (λ (x : List ℕ). is_interface program x ≡ true) e is)
   interface_widest a v is (under e f) = under_interface a v is f
 
-  either_way : (a b v : List ℕ) → Widest v ⊎ (class_fits program (class_above program a b) v ≡ true) → class_fits program (class_above program a b) v ≡ true
-  either_way a b v (inl e) = to_any program order _ v e
-  either_way a b v (inr e) = e
+  either_skip : (a b v : List ℕ) → Widest v ⊎ (class_fits program (class_above program a b) v ≡ true) → class_fits program (class_above program a b) v ≡ true
+  either_skip a b v (inl e) = to_any program order _ v e
+  either_skip a b v (inr e) = e
 
   turned : (a b : List ℕ) → bytes_eq a b ≡ false → bytes_eq b a ≡ false
   turned a b d = is_apart program order (bytes_eq b a) (λ is. differ a b a d refl (same_of b a is))
@@ -111,7 +111,7 @@ module _ (program : Program) (order : IsInOrder program) where
         | inl one ↦ interface_widest a v one first
         | inr two ↦ interface_widest b v two second
       ]))
-      (λ neither. either_way a b v (two_classes a b v d first second))))
+      (λ neither. either_skip a b v (two_classes a b v d first second))))
 
   -- ---- items of arrays
 

@@ -12,7 +12,7 @@ use Rattle.bytecode_model.specs.Order.{EachWayEnds}
 use Rattle.type_lattice.specs.Hierarchy.{is_up, nearest_common, parents_in}
 use Rattle.bytecode_model.specs.Places.{class_place}
 use Rattle.bytecode_model.specs.SearchOrder.{superclasses}
-use Rattle.type_lattice.specs.Ways.{parent_of, way_up, way, AreParents, has_place, meeting}
+use Rattle.type_lattice.specs.SkipPointers.{parent_of, skips_up, skip_pointer, AreParents, has_place, meeting}
 use Rattle.type_lattice.proofs.Ascending.{some_is, there_within}
 use Rattle.bytecode_model.proofs.Placing.{find_at}
 
@@ -67,12 +67,12 @@ module _ (classes : List ListedClass) where
   pub unplaced : (name : List ℕ) → class_place classes name ≡ None → class_named classes name ≡ None
   unplaced name e = find_at (λ (c : ListedClass). bytes_eq c.name name) classes ∙ ap (option_and_then (slice_get classes)) e
 
-  abbrev pub ways : List (Option ℕ)
-  ways = parents_in classes
+  abbrev pub skip_pointers : List (Option ℕ)
+  skip_pointers = parents_in classes
 
   -- the way from the place, if there is one
   abbrev pub from_place : ℕ → Option ℕ → List ℕ
-  from_place n o = option_map_or (way_up n ways) o []
+  from_place n o = option_map_or (skips_up n skip_pointers) o []
 
   -- ---- classes upwards, and the places of a way
 
@@ -87,8 +87,8 @@ module _ (classes : List ListedClass) where
         subst (λ (f : Option ListedClass). P (option_map_or (λ (c : ListedClass). c ∷ upwards zero classes c.parent) f []) (place ∷ [])) (sym p.found) (one name place p e [] [] none)
     step (suc m) name (Some place) e more =
         let p = placed name place e in
-        subst (λ (f : Option ListedClass). P (option_map_or (λ (c : ListedClass). c ∷ upwards (suc m) classes c.parent) f []) (place ∷ from_place m (parent_of ways place))) (sym p.found)
-        (one name place p e (upwards (suc m) classes p.class.parent) (from_place m (parent_of ways place))
+        subst (λ (f : Option ListedClass). P (option_map_or (λ (c : ListedClass). c ∷ upwards (suc m) classes c.parent) f []) (place ∷ from_place m (parent_of skip_pointers place))) (sym p.found)
+        (one name place p e (upwards (suc m) classes p.class.parent) (from_place m (parent_of skip_pointers place))
         (subst (λ (o : Option ℕ). P (upwards (suc m) classes p.class.parent) (from_place m o)) (sym p.parent) (more m refl p.class.parent)))
 
     pub each_up : (n : ℕ) (name : List ℕ) → P (upwards (suc n) classes name) (from_place n (class_place classes name))
@@ -163,19 +163,19 @@ module _ (classes : List ListedClass) where
 
   -- ---- where each way up ends
 
-  settled : (n : ℕ) (p : ℕ) → length (way_up (suc n) ways p) ≡ length (way_up n ways p) → way_up (suc n) ways p ≡ way_up n ways p
-  settled zero p e = by (parent_of ways p) e where
+  settled : (n : ℕ) (p : ℕ) → length (skips_up (suc n) skip_pointers p) ≡ length (skips_up n skip_pointers p) → skips_up (suc n) skip_pointers p ≡ skips_up n skip_pointers p
+  settled zero p e = by (parent_of skip_pointers p) e where
     by : (o : Option ℕ) → length (p ∷ from_place zero o) ≡ length (p ∷ []) → p ∷ from_place zero o ≡ p ∷ []
     by None e = refl
     by (Some q) e = absurd (omega arith)
-  settled (suc n) p e = ap (λ (l : List ℕ). p ∷ l) (by (parent_of ways p) (settled n) e) where
-    by : (o : Option ℕ) → ((q : ℕ) → length (way_up (suc n) ways q) ≡ length (way_up n ways q) → way_up (suc n) ways q ≡ way_up n ways q) → length (p ∷ from_place (suc n) o) ≡ length (p ∷ from_place n o)
+  settled (suc n) p e = ap (λ (l : List ℕ). p ∷ l) (by (parent_of skip_pointers p) (settled n) e) where
+    by : (o : Option ℕ) → ((q : ℕ) → length (skips_up (suc n) skip_pointers q) ≡ length (skips_up n skip_pointers q) → skips_up (suc n) skip_pointers q ≡ skips_up n skip_pointers q) → length (p ∷ from_place (suc n) o) ≡ length (p ∷ from_place n o)
         → from_place (suc n) o ≡ from_place n o
     by None more e = refl
     by (Some q) more e = more q (omega arith)
 
   module _ (ends : EachWayEnds classes) where
-    size : length ways ≡ length classes
+    size : length skip_pointers ≡ length classes
     size = length-map classes (λ (c : ListedClass). class_place classes c.parent)
 
     one_longer : (n : ℕ) → suc n ≡ length classes → (name : List ℕ) (o : Option ℕ) → class_place classes name ≡ o → from_place (suc n) o ≡ from_place n o
@@ -185,12 +185,12 @@ module _ (classes : List ListedClass) where
         let more : length (from_place (suc n) (Some p)) ≡ length (from_place n (Some p)) = ap (λ (o : Option ℕ). length (from_place (suc n) o)) (sym e) ∙ sym (as_long (suc n) name) ∙ long ∙ as_long n name ∙ ap (λ (o : Option ℕ). length (from_place n o)) e in
         settled n p more
 
-    above_is : (at : ℕ) (o : Option ListedClass) → slice_get classes at ≡ o → parent_of ways at ≡ option_and_then (λ (c : ListedClass). class_place classes c.parent) o
+    above_is : (at : ℕ) (o : Option ListedClass) → slice_get classes at ≡ o → parent_of skip_pointers at ≡ option_and_then (λ (c : ListedClass). class_place classes c.parent) o
     above_is at o e = mapped_at (λ (c : ListedClass). class_place classes c.parent) classes at ∙ ap (option_and_then (λ (c : ListedClass). class_place classes c.parent)) e
 
-    way_ends : (n at : ℕ) → n ≡ length classes → way_up (suc n) ways at ≡ way_up n ways at
-    way_ends n at count = by n (slice_get classes at) refl count where
-      by : (k : ℕ) (o : Option ListedClass) → slice_get classes at ≡ o → k ≡ length classes → way_up (suc k) ways at ≡ way_up k ways at
+    skips_end : (n at : ℕ) → n ≡ length classes → skips_up (suc n) skip_pointers at ≡ skips_up n skip_pointers at
+    skips_end n at count = by n (slice_get classes at) refl count where
+      by : (k : ℕ) (o : Option ListedClass) → slice_get classes at ≡ o → k ≡ length classes → skips_up (suc k) skip_pointers at ≡ skips_up k skip_pointers at
       by zero None e f = ap (λ (o : Option ℕ). at ∷ from_place zero o) (above_is at None e)
       by zero (Some c) e f = absurd (let less = there_within classes at c e in omega arith)
       by (suc k) None e f = ap (λ (o : Option ℕ). at ∷ from_place (suc k) o) (above_is at None e) ∙ sym (ap (λ (o : Option ℕ). at ∷ from_place k o) (above_is at None e))
@@ -198,43 +198,43 @@ module _ (classes : List ListedClass) where
           ap (λ (o : Option ℕ). at ∷ from_place (suc k) o) (above_is at (Some c) e) ∙ ap (λ (l : List ℕ). at ∷ l) (one_longer k f c.parent (class_place classes c.parent) refl)
           ∙ sym (ap (λ (o : Option ℕ). at ∷ from_place k o) (above_is at (Some c) e))
 
-    pub place_within : (name : List ℕ) (place : ℕ) → class_place classes name ≡ Some place → place < length ways
+    pub place_within : (name : List ℕ) (place : ℕ) → class_place classes name ≡ Some place → place < length skip_pointers
     place_within name place e = let p = placed name place e in let less = there_within classes place p.class p.there in let n = size in omega arith
 
-    parent_within : (at above : ℕ) (o : Option ListedClass) → slice_get classes at ≡ o → parent_of ways at ≡ Some above → above < length ways
+    parent_within : (at above : ℕ) (o : Option ListedClass) → slice_get classes at ≡ o → parent_of skip_pointers at ≡ Some above → above < length skip_pointers
     parent_within at above None e f = absurd (let h : ◌≡◌ {A = Option ℕ} None (Some above) = sym (above_is at None e) ∙ f in cc)
     parent_within at above (Some c) e f = place_within c.parent above (sym (above_is at (Some c) e) ∙ f)
 
-    pub are_parents : AreParents ways
+    pub are_parents : AreParents skip_pointers
     are_parents = record {
-      ends = λ at. way_ends (length ways) at size;
+      ends = λ at. skips_end (length skip_pointers) at size;
       within = λ at above f. parent_within at above (slice_get classes at) refl f;
     }
 
-    all_up : (name : List ℕ) → superclasses classes name ≡ upwards (suc (length ways)) classes name
+    all_up : (name : List ℕ) → superclasses classes name ≡ upwards (suc (length skip_pointers)) classes name
     all_up name = sym (ends name) ∙ ap (λ (n : ℕ). upwards (suc n) classes name) (sym size)
 
-    pub up_is : (class above : List ℕ) (p q : ℕ) → class_place classes class ≡ Some p → class_place classes above ≡ Some q → is_up classes class above ≡ has_place (way ways p) q
+    pub up_is : (class above : List ℕ) (p q : ℕ) → class_place classes class ≡ Some p → class_place classes above ≡ Some q → is_up classes class above ≡ has_place (skip_pointer skip_pointers p) q
     up_is class above p q e f =
-        ap (has_named above) (all_up class) ∙ named_is above q f (length ways) class ∙ ap (λ (o : Option ℕ). has_place (from_place (length ways) o) q) e
+        ap (has_named above) (all_up class) ∙ named_is above q f (length skip_pointers) class ∙ ap (λ (o : Option ℕ). has_place (from_place (length skip_pointers) o) q) e
 
     pub nothing_below : (class above : List ℕ) → class_place classes class ≡ None → is_up classes class above ≡ false
-    nothing_below class above e = ap (has_named above) (all_up class) ∙ ap (λ (o : Option ListedClass). has_named above (option_map_or (λ (c : ListedClass). c ∷ upwards (length ways) classes c.parent) o [])) (unplaced class e)
+    nothing_below class above e = ap (has_named above) (all_up class) ∙ ap (λ (o : Option ListedClass). has_named above (option_map_or (λ (c : ListedClass). c ∷ upwards (length skip_pointers) classes c.parent) o [])) (unplaced class e)
 
     pub nothing_above : (class above : List ℕ) → class_place classes above ≡ None → is_up classes class above ≡ false
-    nothing_above class above e = ap (has_named above) (all_up class) ∙ none_named above e (length ways) class
+    nothing_above class above e = ap (has_named above) (all_up class) ∙ none_named above e (length skip_pointers) class
 
     -- the first that is above the other, too
-    pub common_is : (a b : List ℕ) (p q : ℕ) → class_place classes a ≡ Some p → class_place classes b ≡ Some q → nearest_common classes a b ≡ name_at (meeting ways p q)
+    pub common_is : (a b : List ℕ) (p q : ℕ) → class_place classes a ≡ Some p → class_place classes b ≡ Some q → nearest_common classes a b ≡ name_at (meeting skip_pointers p q)
     common_is a b p q e f =
         ap (λ (cs : List ListedClass). option_map (λ (c : ListedClass). c.name) (find (λ (c : ListedClass). is_up classes b c.name) cs)) (all_up a)
-        ∙ first_is_at (is_up classes b) (has_place (way ways q)) (λ name place h. up_is b name q place f h) (length ways) a
-        ∙ ap (λ (o : Option ℕ). name_at (find (has_place (way ways q)) (from_place (length ways) o))) e
+        ∙ first_is_at (is_up classes b) (has_place (skip_pointer skip_pointers q)) (λ name place h. up_is b name q place f h) (length skip_pointers) a
+        ∙ ap (λ (o : Option ℕ). name_at (find (has_place (skip_pointer skip_pointers q)) (from_place (length skip_pointers) o))) e
 
     pub none_common_first : (a b : List ℕ) → class_place classes a ≡ None → nearest_common classes a b ≡ None
     none_common_first a b e =
         ap (λ (cs : List ListedClass). option_map (λ (c : ListedClass). c.name) (find (λ (c : ListedClass). is_up classes b c.name) cs))
-        (all_up a ∙ ap (λ (o : Option ListedClass). option_map_or (λ (c : ListedClass). c ∷ upwards (length ways) classes c.parent) o []) (unplaced a e))
+        (all_up a ∙ ap (λ (o : Option ListedClass). option_map_or (λ (c : ListedClass). c ∷ upwards (length skip_pointers) classes c.parent) o []) (unplaced a e))
 
     pub none_common_second : (a b : List ℕ) → class_place classes b ≡ None → nearest_common classes a b ≡ None
     none_common_second a b e =

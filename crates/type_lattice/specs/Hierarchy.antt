@@ -23,7 +23,7 @@ abbrev pub parents_in : List ListedClass → List (Option ℕ)
 parents_in classes = map (λ (c : ListedClass). class_place classes c.parent) classes
 
 -- The classes are found by their names, and the ways are those to their superclasses.
-pub record IsHierarchy (classes : List ListedClass) (places : BTreeMap (Vec ℕ Global) ℕ) (ways : List (Option ℕ)) : Type 0 where
+pub record IsHierarchy (classes : List ListedClass) (places : BTreeMap (Vec ℕ Global) ℕ) (skip_pointers : List (Option ℕ)) : Type 0 where
   pub placed : ClassesPlaced places classes
-  pub parents : ways ≡ parents_in classes
+  pub parents : skip_pointers ≡ parents_in classes
   pub ends : EachWayEnds classes

@@ -1,4 +1,4 @@
-pub mod Ways
+pub mod SkipPointers
 pub mod Hierarchy
 pub mod Merging
 pub mod Laws

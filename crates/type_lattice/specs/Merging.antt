@@ -34,7 +34,7 @@ items_merged program otherwise a b =
     if bytes_eq a b then 91 ∷ a
     else option_map_or (λ (x : List ℕ). option_map_or (λ (y : List ℕ). array_of (leaf_merged program x y)) (reference_of b) otherwise) (reference_of a) otherwise
 
--- of two arrays of these items; behind a `[` a class is told by its descriptor
+-- of two arrays of these items; after a `[` a class is told by its descriptor
 abbrev pub arrays_merged : Program → List ℕ → List ℕ → List ℕ → List ℕ
 arrays_merged program otherwise [] b = items_merged program otherwise [] b
 arrays_merged program otherwise (c ∷ a) [] = items_merged program otherwise (c ∷ a) []

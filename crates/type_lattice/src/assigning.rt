@@ -3,14 +3,14 @@
 ghost use Rattle.std.specs.Prelude.{◌≡◌};
 ghost use Rattle.bytecode_model.specs.Arrays.{array_of, described};
 ghost use Rattle.bytecode_model.specs.Assigning.{array_fits, assignable, class_fits, component_fits, name_fits};
-ghost use Rattle.bytecode_model.specs.Lending.{type_lent};
-ghost use Rattle.bytecode_model.specs.declared.lending.TypeRef.{TypeRef};
+ghost use Rattle.bytecode_model.specs.Borrowing.{type_borrowed};
+ghost use Rattle.bytecode_model.specs.declared.borrowing.TypeRef.{TypeRef};
 ghost use Rattle.cert_format.specs.declared.typing.VType.TheVariants.{Ref};
 ghost use Rattle.type_lattice.specs.Components.{answered};
 
 use crate::comparing::{Compared, arrays_compared, components_compared, named};
 use crate::indexed::{Indexed, is_below, is_interface};
-use bytecode_model::{TypeRef, is_array, lend};
+use bytecode_model::{TypeRef, borrow, is_array};
 use cert_format::VType;
 
 /// The class that each other is below, and each array.
@@ -20,12 +20,12 @@ pub const OBJECT: &[u8] = b"java/lang/Object";
 pub fn assignable(program: &Indexed, from: &VType, to: &VType) -> bool
     ensures { result ≡ assignable program.now from.now to.now }
 {
-    lent_fits(program, lend(from), to)
+    borrowed_fits(program, borrow(from), to)
 }
 
-/// The same of a type that is lent.
-pub fn lent_fits(program: &Indexed, from: TypeRef, to: &VType) -> bool
-    ensures { result ≡ assignable program.now (type_lent from.entry) to.now }
+/// The same of a type that is borrowed.
+pub fn borrowed_fits(program: &Indexed, from: TypeRef, to: &VType) -> bool
+    ensures { result ≡ assignable program.now (type_borrowed from.entry) to.now }
 {
     match to {
         VType::Top => true,
@@ -44,7 +44,7 @@ pub fn lent_fits(program: &Indexed, from: TypeRef, to: &VType) -> bool
 
 /// Whether a value of the type may stand where a reference to this class or array is wanted.
 pub fn fits_class(program: &Indexed, from: TypeRef, to: &[u8]) -> bool
-    ensures { result ≡ assignable program.now (type_lent from.entry) (Ref to.now) }
+    ensures { result ≡ assignable program.now (type_borrowed from.entry) (Ref to.now) }
 {
     match from {
         TypeRef::Null => true,

@@ -8,7 +8,7 @@ ghost use Rattle.type_lattice.specs.Hierarchy.{is_up, nearest_common, parents_in
 ghost use Rattle.bytecode_model.specs.Order.{EachWayEnds};
 ghost use Rattle.bytecode_model.specs.Places.{ClassesPlaced, class_place};
 
-use crate::ways::Ways;
+use crate::skip_pointers::SkipPointers;
 use api_listing::ListedClass;
 use bytecode_model::{ByName, class_places, noted, placed_class};
 use mon_base::{List, NoMemory};
@@ -20,7 +20,7 @@ use std::marker::Model;
 pub struct Hierarchy {
     classes: List<ListedClass>,
     places: ByName<usize>,
-    ways: Ways,
+    skip_pointers: SkipPointers,
 }
 
 impl Model for Hierarchy {
@@ -32,7 +32,7 @@ impl Model for Hierarchy {
 
     ghost view = { λ h. h.classes };
 
-    ghost invariant = { λ h. IsHierarchy h.classes h.places h.ways };
+    ghost invariant = { λ h. IsHierarchy h.classes h.places h.skip_pointers };
 }
 
 impl Hierarchy {
@@ -43,11 +43,11 @@ impl Hierarchy {
     {
         let places = class_places(alloc, classes.as_slice())?;
         let parents = parent_places(alloc, classes.as_slice(), &places)?;
-        let ways = Ways::new(alloc, parents.as_slice())?;
+        let skip_pointers = SkipPointers::new(alloc, parents.as_slice())?;
         Ok(Hierarchy {
             classes,
             places,
-            ways,
+            skip_pointers,
         })
     }
 
@@ -90,7 +90,7 @@ impl Hierarchy {
             return false;
         };
         match noted(&self.places, above) {
-            Some(above) => self.ways.leads_to(class, above),
+            Some(above) => self.skip_pointers.leads_to(class, above),
             None => false,
         }
     }
@@ -101,7 +101,7 @@ impl Hierarchy {
     {
         let class = noted(&self.places, class)?;
         let other = noted(&self.places, other)?;
-        let place = self.ways.meeting(class, other)?;
+        let place = self.skip_pointers.meeting(class, other)?;
         name_at(self.classes.as_slice(), place)
     }
 }

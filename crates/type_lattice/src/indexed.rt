@@ -67,7 +67,7 @@ impl Indexed {
     }
 }
 
-/// The place of the class among those of the listing and the given ones behind them.
+/// The place of the class among those of the listing and the given ones after them.
 pub fn class_place(program: &Indexed, name: &[u8]) -> Option<usize>
     ensures { result ≡ class_place (classes_of program.now) name.now }
 {

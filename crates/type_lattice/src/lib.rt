@@ -13,9 +13,9 @@ mod hierarchy;
 mod indexed;
 mod laws;
 mod merging;
-mod ways;
+mod skip_pointers;
 
-pub use assigning::{assignable, fits_class, lent_fits};
+pub use assigning::{assignable, borrowed_fits, fits_class};
 pub use classes::classes_of;
 pub use comparing::{Compared, arrays_compared, reference_of};
 pub use hierarchy::Hierarchy;

@@ -13,7 +13,7 @@ use cert_format::{Name, VType};
 use mon_base::{Bytes, NoMemory};
 use std::alloc::Global;
 
-/// What an array of items without a merge is, behind a `[`.
+/// What an array of items without a merge is, after a `[`.
 const OBJECT_DESCRIBED: &[u8] = b"Ljava/lang/Object;";
 
 /// Of two classes.

@@ -21,18 +21,18 @@ use Rattle.guest_model.specs.declared.machine.Machine.{Machine}
 use Rattle.guest_model.specs.Places.{insn_at}
 use Rattle.guest_model.proofs.Options.{some_and}
 use Rattle.guest_model.specs.Changes.{world_of}
-use Rattle.guest_model.specs.Moving.{CanDo, CanDoNext, CanRun, CanWork, HasOne, IsObject, IsReference}
+use Rattle.guest_model.specs.Moving.{CanDo, CanDoNext, CanRun, CanOperate, HasOne, IsObject, IsReference}
 use Rattle.guest_model.specs.Stepping.{Acting, heap_in}
 use Rattle.typed_runs.specs.Frames.{AreWaiting, IsReady, stands_at}
 use Rattle.typed_runs.specs.Machines.{CanBegin, MachineFits}
 use Rattle.typed_runs.specs.Programs.{IsTypedProgram}
-use Rattle.typed_runs.proofs.Acting.{CallsWork, alone_shape, heap_shape}
+use Rattle.typed_runs.proofs.Acting.{CallsOperate, alone_shape, heap_shape}
 use Rattle.typed_runs.proofs.Going.{steps_alone}
 use Rattle.typed_runs.proofs.Returning.{gives}
 use Rattle.typed_runs.proofs.Rows.{insn_is}
 use Rattle.typed_runs.proofs.Topmost.{one_taken}
 use Rattle.typed_runs.proofs.Types.{reference_is, type_fits_over, wanted_made, wanted_object}
-use Rattle.typed_runs.proofs.Worked.{heap_works, works_here}
+use Rattle.typed_runs.proofs.HeapResult.{heap_operates, operates_here}
 
 -- ---- a running thread
 
@@ -60,32 +60,32 @@ module _ (program : Program) (typing : Typing) (ok : IsTypedProgram program typi
       let object = wanted_object program machine.heap r.stands.class r.stands.method one.value (types.Ref throwable) fits refl in
       subst (HasOne (IsObject machine.heap)) (sym one.items_are) object
 
-  module _ (shaped : UsesAreShaped) (calls_work : CallsWork program typing) where
-    can_work : (what : Heap) → shape_of r.stands.insn ≡ shapes.Heap what → works_here what ≡ true → CanWork program machine doer what ref
-    can_work what shape does =
-        let w = heap_works program typing ok shaped (world_of machine) m.heap m.first m.statics frame r what shape does in
+  module _ (shaped : UsesAreShaped) (calls_operate : CallsOperate program typing) where
+    can_operate : (what : Heap) → shape_of r.stands.insn ≡ shapes.Heap what → operates_here what ≡ true → CanOperate program machine doer what ref
+    can_operate what shape does =
+        let w = heap_operates program typing ok shaped (world_of machine) m.heap m.first m.statics frame r what shape does in
         (w.ready, w.room)
 
     can_do : (what : Heap) → shape_of r.stands.insn ≡ shapes.Heap what → CanDo program machine doer what ref
-    can_do (heap_shapes.Call how) shape = (r.room, (calls_work machine m number thread later frame under r waiting how shape).0)
+    can_do (heap_shapes.Call how) shape = (r.room, (calls_operate machine m number thread later frame under r waiting how shape).0)
     can_do heap_shapes.Throw shape = top_object shape
     can_do heap_shapes.Enter shape = (r.room, top_reference heap_shapes.Enter shape refl)
     can_do heap_shapes.Exit shape = (r.room, top_reference heap_shapes.Exit shape refl)
     can_do (heap_shapes.Return kind) shape = (gives program typing ok machine.heap frame r kind shape).can under waiting
-    can_do heap_shapes.Constant shape = can_work heap_shapes.Constant shape refl
-    can_do (heap_shapes.ReadItem item) shape = can_work (heap_shapes.ReadItem item) shape refl
-    can_do (heap_shapes.WriteItem item) shape = can_work (heap_shapes.WriteItem item) shape refl
-    can_do (heap_shapes.Divide remainder) shape = can_work (heap_shapes.Divide remainder) shape refl
-    can_do heap_shapes.ReadStatic shape = can_work heap_shapes.ReadStatic shape refl
-    can_do heap_shapes.WriteStatic shape = can_work heap_shapes.WriteStatic shape refl
-    can_do heap_shapes.ReadField shape = can_work heap_shapes.ReadField shape refl
-    can_do heap_shapes.WriteField shape = can_work heap_shapes.WriteField shape refl
-    can_do heap_shapes.New shape = can_work heap_shapes.New shape refl
-    can_do (heap_shapes.NewArray kind) shape = can_work (heap_shapes.NewArray kind) shape refl
-    can_do heap_shapes.NewArrayOf shape = can_work heap_shapes.NewArrayOf shape refl
-    can_do heap_shapes.Length shape = can_work heap_shapes.Length shape refl
-    can_do heap_shapes.Cast shape = can_work heap_shapes.Cast shape refl
-    can_do heap_shapes.IsInstance shape = can_work heap_shapes.IsInstance shape refl
+    can_do heap_shapes.Constant shape = can_operate heap_shapes.Constant shape refl
+    can_do (heap_shapes.ReadItem item) shape = can_operate (heap_shapes.ReadItem item) shape refl
+    can_do (heap_shapes.WriteItem item) shape = can_operate (heap_shapes.WriteItem item) shape refl
+    can_do (heap_shapes.Divide remainder) shape = can_operate (heap_shapes.Divide remainder) shape refl
+    can_do heap_shapes.ReadStatic shape = can_operate heap_shapes.ReadStatic shape refl
+    can_do heap_shapes.WriteStatic shape = can_operate heap_shapes.WriteStatic shape refl
+    can_do heap_shapes.ReadField shape = can_operate heap_shapes.ReadField shape refl
+    can_do heap_shapes.WriteField shape = can_operate heap_shapes.WriteField shape refl
+    can_do heap_shapes.New shape = can_operate heap_shapes.New shape refl
+    can_do (heap_shapes.NewArray kind) shape = can_operate (heap_shapes.NewArray kind) shape refl
+    can_do heap_shapes.NewArrayOf shape = can_operate heap_shapes.NewArrayOf shape refl
+    can_do heap_shapes.Length shape = can_operate heap_shapes.Length shape refl
+    can_do heap_shapes.Cast shape = can_operate heap_shapes.Cast shape refl
+    can_do heap_shapes.IsInstance shape = can_operate heap_shapes.IsInstance shape refl
 
     can_by_shape : (o : Option Heap) → heap_in (shape_of r.stands.insn) ≡ o → CanDoNext program machine doer (r.stands.insn, ref) o
     can_by_shape None e =

@@ -22,7 +22,7 @@ use Rattle.bytecode_model.specs.Heads.{head_of, heads_of}
 use Rattle.bytecode_model.specs.SearchOrder.{Name, above_first, each_with_interfaces, field_order, interfaces_above, interfaces_from, is_one_of, most, reached}
 use Rattle.bytecode_model.specs.SearchOrder.{reached_in_turn, search_order, superclasses, with_above, with_interfaces, with_name}
 use Rattle.bytecode_model.proofs.Ending.{unnamed_up}
-use Rattle.bytecode_model.proofs.Upwards.{named_behind, named_passes, same_of}
+use Rattle.bytecode_model.proofs.Upwards.{named_after, named_passes, same_of}
 use Rattle.type_lattice.proofs.Orders.{Fit, equal, top, interface, under, array_second, fits, seen}
 use Rattle.guest_model.specs.Layout.{class_given}
 use Rattle.typed_runs.specs.Programs.{IsTypedProgram}
@@ -139,7 +139,7 @@ module _ (program : Program) (typing : Typing) (ok : IsTypedProgram program typi
         | inl known ↦ known_stands name known
         | inr unknown ↦
             let heads : class_named given_heads name ≡ class_named (classes_of program) name =
-            ap (λ (classes : List ListedClass). class_named classes name) heads_are ∙ sym (named_behind (map (λ (c : LinkedClass). head_of c.file) program.classes) name program.listing.classes
+            ap (λ (classes : List ListedClass). class_named classes name) heads_are ∙ sym (named_after (map (λ (c : LinkedClass). head_of c.file) program.classes) name program.listing.classes
             (find_none (λ (c : ListedClass). bytes_eq c.name name) program.listing.classes unknown)) in
             or_right (not (is_some (class_given program name))) _
             (subst (λ (o : Option ListedClass). option_map_or (λ (c : ListedClass). c.is_interface) o false ≡ true) heads e)

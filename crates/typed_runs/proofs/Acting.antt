@@ -47,14 +47,14 @@ use Rattle.guest_model.specs.Changes.{Change, World, goes, returned, with_monito
 use Rattle.guest_model.specs.Enabled.{passed_by}
 use Rattle.guest_model.specs.Kinds.{class_of_value}
 use Rattle.guest_model.specs.Moving.{IsReadyToCall}
-use Rattle.guest_model.specs.Stepping.{Acting, acts_on, acts_throwing, comes_to, enters, heap_in, heap_stepped, insn_stepped, leaves, left_with, returns, throws_top, works as works_on}
-use Rattle.guest_model.specs.Working.{Worked, worked}
+use Rattle.guest_model.specs.Stepping.{Acting, acts_on, acts_throwing, comes_to, enters, heap_in, heap_stepped, insn_stepped, leaves, left_with, returns, throws_top, operates as operates_on}
+use Rattle.guest_model.specs.HeapOperations.{HeapResult, heap_result}
 use Rattle.typed_runs.specs.Fitting.{fits_type, is_of}
 use Rattle.typed_runs.specs.Frames.{AreWaiting, IsReady, stands_at}
 use Rattle.typed_runs.specs.Machines.{CanBegin, MachineFits}
 use Rattle.typed_runs.specs.Programs.{IsTypedProgram}
-use Rattle.typed_runs.proofs.Changed.{ChangeFits, WorkFits, WorldFits, goes_fits}
-use Rattle.typed_runs.proofs.Going.{Behind, heap_holds, locals_stay, runs_behind, stack_behind, steps_alone, went}
+use Rattle.typed_runs.proofs.Changed.{ChangeFits, OperationFits, WorldFits, goes_fits}
+use Rattle.typed_runs.proofs.Going.{AfterInsn, heap_holds, locals_stay, runs_after, stack_following, steps_alone, went}
 use Rattle.typed_runs.proofs.Growing.{all_waiting_grown, grows_itself, type_grown}
 use Rattle.typed_runs.proofs.Pairs.{paired_also}
 use Rattle.typed_runs.proofs.Returning.{gives, returned_fits}
@@ -64,13 +64,13 @@ use Rattle.typed_runs.proofs.Throwing.{AreLeft, throws_fits, throws_new_fits}
 use Rattle.typed_runs.proofs.Thrown.{IsThrown, built_in_thrown}
 use Rattle.typed_runs.proofs.Topmost.{one_taken}
 use Rattle.typed_runs.proofs.Types.{type_fits_over}
-use Rattle.typed_runs.proofs.Worked.{heap_works, works_here}
+use Rattle.typed_runs.proofs.HeapResult.{heap_operates, operates_here}
 
 -- ---- what is proved of calls
 
 -- A call is ready, and what it leaves fits.
-abbrev pub CallsWork : Program → Typing → Type 0
-CallsWork program typing =
+abbrev pub CallsOperate : Program → Typing → Type 0
+CallsOperate program typing =
     (machine : Machine) → MachineFits program typing machine → (number : ℕ) (thread : Thread) → AllByRecursion (CanBegin program) thread.to_begin
     → (frame : Frame) (below : List Frame) (r : IsReady program typing machine.heap frame)
     → AreWaiting program typing machine.heap (result_type r.stands.method.desc) below
@@ -81,10 +81,10 @@ CallsWork program typing =
 
 -- ---- shapes
 
-pub stays_behind : (what : Heap) → works_here what ≡ true → ends (shapes.Heap what) ≡ false
-stays_behind heap_shapes.Throw e = absurd cc
-stays_behind (heap_shapes.Return kind) e = absurd cc
-stays_behind what e = refl
+pub stays_after : (what : Heap) → operates_here what ≡ true → ends (shapes.Heap what) ≡ false
+stays_after heap_shapes.Throw e = absurd cc
+stays_after (heap_shapes.Return kind) e = absurd cc
+stays_after what e = refl
 
 pub heap_shape : (shape : Shape) (what : Heap) → heap_in shape ≡ Some what → shape ≡ shapes.Heap what
 heap_shape (shapes.Heap other) what e = let same : other ≡ what = cc in ap shapes.Heap same
@@ -139,10 +139,10 @@ module _ (program : Program) (typing : Typing) (ok : IsTypedProgram program typi
   -- ---- going on
 
   pub goes_on : (new : World) (items : List Value) → WorldFits program machine.heap new → ends (shape_of r.stands.insn) ≡ false
-      → Behind program typing ok new.heap frame r.stands frame.locals items → IfThere Fits (acts_on new acting (after frame items))
+      → AfterInsn program typing ok new.heap frame r.stands frame.locals items → IfThere Fits (acts_on new acting (after frame items))
   goes_on new items fits stays h =
       let f = moved_to frame (frame.at + 1) frame.locals items in
-      let runs = runs_behind program typing ok new.heap frame r.stands items under stays h
+      let runs = runs_after program typing ok new.heap frame r.stands items under stays h
       (all_waiting_grown machine.heap new.heap fits.grows program typing (result_type r.stands.method.desc) under waiting) in
       subst (λ (o : Option Frame). IfThere Fits (acts_on new acting o)) (sym (went program typing ok new.heap frame r.stands (frame.at + 1) frame.locals items h))
       (if_some Fits (goes new thread (f ∷ under)) (goes_fits program typing machine.heap new thread (f ∷ under) fits later runs))
@@ -161,49 +161,49 @@ module _ (program : Program) (typing : Typing) (ok : IsTypedProgram program typi
     locals_after_growing new fits =
         paired_also (of_frame machine.heap) (of_frame new.heap) frame.locals _ (type_grown machine.heap new.heap fits.grows program r.stands.class r.stands.method) r.locals
 
-    comes_by : (o : Worked) → works_here what ≡ true
-        → WorkFits program r.stands.class r.stands.method machine.heap (stack_behind (stands_at r.stands) r.stands.type) o
+    comes_by : (o : HeapResult) → operates_here what ≡ true
+        → OperationFits program r.stands.class r.stands.method machine.heap (stack_following (stands_at r.stands) r.stands.type) o
         → IfThere Fits (option_and_then (comes_to program world acting) o)
     comes_by None does w = if_none Fits
     comes_by (Some (Ok made)) does w =
-        goes_on made.0 made.1 w.0 (ap ends shape ∙ stays_behind what does) (record {
+        goes_on made.0 made.1 w.0 (ap ends shape ∙ stays_after what does) (record {
           locals_hold = locals_stay program made.0.heap (stands_at r.stands) r.stands.type what shape frame.locals (locals_after_growing made.0 w.0);
           items_hold = w.1;
         })
     comes_by (Some (Err class)) does w = if_some Fits (acts_throwing program world acting class) (throws_here class w)
 
-    works_fit : UsesAreShaped → works_here what ≡ true → IfThere Fits (works_on program world acting what (stands_at r.stands).ref)
-    works_fit shaped does =
-        comes_by (worked program world what (stands_at r.stands).ref frame.stack.items) does (heap_works program typing ok shaped world m.heap m.first m.statics frame r what shape does).fits
+    operates_fit : UsesAreShaped → operates_here what ≡ true → IfThere Fits (operates_on program world acting what (stands_at r.stands).ref)
+    operates_fit shaped does =
+        comes_by (heap_result program world what (stands_at r.stands).ref frame.stack.items) does (heap_operates program typing ok shaped world m.heap m.first m.statics frame r what shape does).fits
 
     -- ---- monitors
 
-    -- behind an instruction that takes the topmost operand and pushes none
-    less_behind : (want : Want) → takes (stands_at r.stands) ≡ want ∷ []
+    -- after an instruction that takes the topmost operand and pushes none
+    less_after : (want : Want) → takes (stands_at r.stands) ≡ want ∷ []
         → yields_of (stands_at r.stands) r.stands.type.locals (taken (stands_at r.stands) r.stands.type) (shapes.Heap what) ≡ []
-        → Behind program typing ok machine.heap frame r.stands frame.locals (drop 1 frame.stack.items)
-    less_behind want takes_one none =
+        → AfterInsn program typing ok machine.heap frame r.stands frame.locals (drop 1 frame.stack.items)
+    less_after want takes_one none =
         let place = stands_at r.stands in
         let one = one_taken program typing ok machine.heap frame r want takes_one in
         let pushes_none : yields place r.stands.type.locals (taken place r.stands.type) ≡ [] =
         ap (yields_of place r.stands.type.locals (taken place r.stands.type)) shape ∙ none in
         let h = heap_holds program machine.heap place r.stands.type what shape frame.locals one.below [] r.locals one.left
         (subst (λ (ts : List VType). Paired (of_frame machine.heap) [] (reverse ts)) (sym pushes_none) tt) in
-        subst (λ (items : List Value). Behind program typing ok machine.heap frame r.stands frame.locals items) (sym (ap (drop 1) one.items_are)) h
+        subst (λ (items : List Value). AfterInsn program typing ok machine.heap frame r.stands frame.locals items) (sym (ap (drop 1) one.items_are)) h
 
   enters_fits : shape_of r.stands.insn ≡ shapes.Heap heap_shapes.Enter → (on : Value) → IfThere Fits (enters program world acting on)
   enters_fits shape on =
       if_either Fits (is_null on) _ _ (if_some Fits (acts_throwing program world acting null_pointer) throws_null)
       (if_then Fits _ (entered machine.monitors number on)
       (λ held e. goes_on (with_monitors world held) (drop 1 frame.stack.items) (held_fits held) (ap ends shape)
-      (less_behind heap_shapes.Enter shape is_made (ap (takes_of (stands_at r.stands)) shape) refl)))
+      (less_after heap_shapes.Enter shape is_made (ap (takes_of (stands_at r.stands)) shape) refl)))
 
   left_fits : shape_of r.stands.insn ≡ shapes.Heap heap_shapes.Exit → (held : Option (List Monitor)) → IfThere Fits (left_with program world acting held)
   left_fits shape None =
       if_some Fits (acts_throwing program world acting bad_monitor) (throws_here bad_monitor (built_in_thrown program typing ok bad_monitor (1, omega arith, refl)))
   left_fits shape (Some held) =
       goes_on (with_monitors world held) (drop 1 frame.stack.items) (held_fits held) (ap ends shape)
-      (less_behind heap_shapes.Exit shape is_made (ap (takes_of (stands_at r.stands)) shape) refl)
+      (less_after heap_shapes.Exit shape is_made (ap (takes_of (stands_at r.stands)) shape) refl)
 
   leaves_fits : shape_of r.stands.insn ≡ shapes.Heap heap_shapes.Exit → (on : Value) → IfThere Fits (leaves program world acting on)
   leaves_fits shape on =
@@ -255,31 +255,31 @@ module _ (program : Program) (typing : Typing) (ok : IsTypedProgram program typi
 
   -- ---- instructions
 
-  module _ (shaped : UsesAreShaped) (calls_work : CallsWork program typing) where
+  module _ (shaped : UsesAreShaped) (calls_operate : CallsOperate program typing) where
     abbrev ref : Target
     ref = (stands_at r.stands).ref
 
     heap_fits : (what : Heap) → shape_of r.stands.insn ≡ shapes.Heap what → IfThere Fits (heap_stepped program machine acting what ref)
     unfolding IfThere
-    heap_fits (heap_shapes.Call how) shape = (calls_work machine m number thread later frame under r waiting how shape).1
+    heap_fits (heap_shapes.Call how) shape = (calls_operate machine m number thread later frame under r waiting how shape).1
     heap_fits heap_shapes.Throw shape = throw_fits shape
     heap_fits heap_shapes.Enter shape = if_then Fits (enters program world acting) (slice_get frame.stack.items 0) (λ on e. enters_fits shape on)
     heap_fits heap_shapes.Exit shape = if_then Fits (leaves program world acting) (slice_get frame.stack.items 0) (λ on e. leaves_fits shape on)
     heap_fits (heap_shapes.Return kind) shape = returns_fit kind shape
-    heap_fits heap_shapes.Constant shape = works_fit heap_shapes.Constant shape shaped refl
-    heap_fits (heap_shapes.ReadItem item) shape = works_fit (heap_shapes.ReadItem item) shape shaped refl
-    heap_fits (heap_shapes.WriteItem item) shape = works_fit (heap_shapes.WriteItem item) shape shaped refl
-    heap_fits (heap_shapes.Divide remainder) shape = works_fit (heap_shapes.Divide remainder) shape shaped refl
-    heap_fits heap_shapes.ReadStatic shape = works_fit heap_shapes.ReadStatic shape shaped refl
-    heap_fits heap_shapes.WriteStatic shape = works_fit heap_shapes.WriteStatic shape shaped refl
-    heap_fits heap_shapes.ReadField shape = works_fit heap_shapes.ReadField shape shaped refl
-    heap_fits heap_shapes.WriteField shape = works_fit heap_shapes.WriteField shape shaped refl
-    heap_fits heap_shapes.New shape = works_fit heap_shapes.New shape shaped refl
-    heap_fits (heap_shapes.NewArray kind) shape = works_fit (heap_shapes.NewArray kind) shape shaped refl
-    heap_fits heap_shapes.NewArrayOf shape = works_fit heap_shapes.NewArrayOf shape shaped refl
-    heap_fits heap_shapes.Length shape = works_fit heap_shapes.Length shape shaped refl
-    heap_fits heap_shapes.Cast shape = works_fit heap_shapes.Cast shape shaped refl
-    heap_fits heap_shapes.IsInstance shape = works_fit heap_shapes.IsInstance shape shaped refl
+    heap_fits heap_shapes.Constant shape = operates_fit heap_shapes.Constant shape shaped refl
+    heap_fits (heap_shapes.ReadItem item) shape = operates_fit (heap_shapes.ReadItem item) shape shaped refl
+    heap_fits (heap_shapes.WriteItem item) shape = operates_fit (heap_shapes.WriteItem item) shape shaped refl
+    heap_fits (heap_shapes.Divide remainder) shape = operates_fit (heap_shapes.Divide remainder) shape shaped refl
+    heap_fits heap_shapes.ReadStatic shape = operates_fit heap_shapes.ReadStatic shape shaped refl
+    heap_fits heap_shapes.WriteStatic shape = operates_fit heap_shapes.WriteStatic shape shaped refl
+    heap_fits heap_shapes.ReadField shape = operates_fit heap_shapes.ReadField shape shaped refl
+    heap_fits heap_shapes.WriteField shape = operates_fit heap_shapes.WriteField shape shaped refl
+    heap_fits heap_shapes.New shape = operates_fit heap_shapes.New shape shaped refl
+    heap_fits (heap_shapes.NewArray kind) shape = operates_fit (heap_shapes.NewArray kind) shape shaped refl
+    heap_fits heap_shapes.NewArrayOf shape = operates_fit heap_shapes.NewArrayOf shape shaped refl
+    heap_fits heap_shapes.Length shape = operates_fit heap_shapes.Length shape shaped refl
+    heap_fits heap_shapes.Cast shape = operates_fit heap_shapes.Cast shape shaped refl
+    heap_fits heap_shapes.IsInstance shape = operates_fit heap_shapes.IsInstance shape shaped refl
 
     by_shape : (o : Option Heap) → heap_in (shape_of r.stands.insn) ≡ o
         → IfThere Fits (option_map_or (λ what. heap_stepped program machine acting what ref) o (acts_on world acting (frame_stepped r.stands.insn frame)))

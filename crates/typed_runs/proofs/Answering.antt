@@ -12,7 +12,7 @@ use Rattle.api_listing.specs.declared.events.ApiAnswer.{ApiAnswer}
 use Rattle.api_listing.specs.declared.events.ApiAnswer.TheVariants as answers
 use Rattle.api_listing.specs.declared.types.ListedClass.{ListedClass}
 use Rattle.api_listing.specs.BuiltIn.{built_in_classes, object}
-use Rattle.api_listing.specs.Descriptor.{element_spelled, result_spelled, type_spelled}
+use Rattle.api_listing.specs.Descriptor.{element_encoded, result_encoded, type_encoded}
 use Rattle.api_listing.specs.Listing.{is_known}
 use Rattle.api_listing.specs.Nearest.{class_named}
 use Rattle.cert_format.specs.declared.typing.Typing.{Typing}
@@ -39,7 +39,7 @@ use Rattle.typed_runs.specs.Programs.{IsTypedProgram}
 use Rattle.typed_runs.proofs.Above.{below_fits, interface_fits}
 use Rattle.typed_runs.proofs.Arrays.{instance_fits, reference_described}
 use Rattle.typed_runs.proofs.Changed.{WorldFits}
-use Rattle.typed_runs.proofs.Growing.{get_behind, grows_behind, grows_on, heap_behind, statics_grown}
+use Rattle.typed_runs.proofs.Growing.{get_after, grows_after, grows_on, heap_after, statics_grown}
 use Rattle.typed_runs.proofs.Returning.{ResultFits}
 use Rattle.typed_runs.proofs.Thrown.{bare_fits}
 use Rattle.typed_runs.proofs.Types.{holds_at, of_class}
@@ -49,14 +49,14 @@ use Rattle.typed_runs.proofs.Types.{holds_at, of_class}
 -- as the verifier has it
 abbrev pub type_given : Option FieldType → Option VType
 type_given None = None
-type_given (Some t) = Some (type_described (type_spelled t))
+type_given (Some t) = Some (type_described (type_encoded t))
 
 -- read off the text
 abbrev pub type_of_text : List ℕ → Option VType
 type_of_text text = cond (bytes_eq text (codes "V")) None (Some (type_described text))
 
 one_given : (dimensions : ℕ) (element : Element)
-    → type_of_text (replicate dimensions 91 ++ element_spelled element) ≡ Some (type_described (replicate dimensions 91 ++ element_spelled element))
+    → type_of_text (replicate dimensions 91 ++ element_encoded element) ≡ Some (type_described (replicate dimensions 91 ++ element_encoded element))
 one_given zero elements.Boolean = refl
 one_given zero elements.Byte = refl
 one_given zero elements.Char = refl
@@ -65,12 +65,12 @@ one_given zero elements.Int = refl
 one_given zero (elements.Class name) = refl
 one_given (suc n) element = refl
 
-pub text_given : (result : Option FieldType) → type_of_text (result_spelled result) ≡ type_given result
+pub text_given : (result : Option FieldType) → type_of_text (result_encoded result) ≡ type_given result
 text_given None = refl
 text_given (Some t) = one_given t.dimensions t.element
 
 number_told : (dimensions : ℕ) (element : Element) (n : ℤ) → dimensions ≡ 0 → is_number_of element n ≡ true
-    → type_described (replicate dimensions 91 ++ element_spelled element) ≡ types.Int
+    → type_described (replicate dimensions 91 ++ element_encoded element) ≡ types.Int
 number_told zero elements.Boolean n e h = refl
 number_told zero elements.Byte n e h = refl
 number_told zero elements.Char n e h = refl
@@ -88,14 +88,14 @@ pub record OfClass (result : Option FieldType) (test : Name → Bool) : Type 0 w
 of_class_by : (result : Option FieldType) (test : Name → Bool) → of_result result test ≡ true → OfClass result test
 of_class_by None test e = absurd cc
 of_class_by (Some t) test e =
-    let h = holds_at test (reference_of (type_spelled t)) e in
-    record { name = h.item; type = ap (λ (u : VType). Some u) (reference_described (type_spelled t) h.item h.is); passes = h.passes }
+    let h = holds_at test (reference_of (type_encoded t)) e in
+    record { name = h.item; type = ap (λ (u : VType). Some u) (reference_described (type_encoded t) h.item h.is); passes = h.passes }
 
 -- ---- values that are passed
 
-all_behind : {A : Type 0} (P : A → Type 0) (o : Option A) (xs : List A) → AllByRecursion P (option_to_list o ++ xs) → AllByRecursion P xs
-all_behind P None xs all = all
-all_behind P (Some x) xs all = all.1
+all_after : {A : Type 0} (P : A → Type 0) (o : Option A) (xs : List A) → AllByRecursion P (option_to_list o ++ xs) → AllByRecursion P xs
+all_after P None xs all = all
+all_after P (Some x) xs all = all.1
 
 -- what the test of an answer's class tells
 some_or_none : {A : Type 0} (o : Option A) → is_some o ≡ true → option_map_or (λ (x : A). true) o false ≡ true
@@ -182,10 +182,10 @@ module _ (program : Program) (typing : Typing) (ok : IsTypedProgram program typi
     -- with one object more
     more_fits : (object : Object) → ObjectFits program (world.heap ++ object ∷ []) object → WorldFits program heap (with_object world object)
     more_fits object one =
-        let grows = grows_behind world.heap (object ∷ []) in
+        let grows = grows_after world.heap (object ∷ []) in
         record {
           grows = grows_on heap world.heap (world.heap ++ object ∷ []) fits.grows grows;
-          objects = heap_behind program world.heap object fits.objects one;
+          objects = heap_after program world.heap object fits.objects one;
           statics = statics_grown world.heap (world.heap ++ object ∷ []) grows program world.statics fits.statics;
         }
 
@@ -195,7 +195,7 @@ module _ (program : Program) (typing : Typing) (ok : IsTypedProgram program typi
         → ResultFits program (world.heap ++ object ∷ []) (type_given result) (Some (values.Ref (length world.heap)))
     new_result object result name e h =
         let is : class_of_value (world.heap ++ object ∷ []) (values.Ref (length world.heap)) ≡ Some (class_of_object object) =
-        ap (option_map class_of_object) (get_behind world.heap object []) in
+        ap (option_map class_of_object) (get_after world.heap object []) in
         object_result (world.heap ++ object ∷ []) result name (values.Ref (length world.heap)) e
         (of_class program (world.heap ++ object ∷ []) (class_of_object object) name (values.Ref (length world.heap)) is h)
 
@@ -227,7 +227,7 @@ module _ (program : Program) (typing : Typing) (ok : IsTypedProgram program typi
       argument_well i e =
           let h = holds_at (λ (v : Value). of_result result (λ name. is_no_object v || is_of_result program world.heap v name)) (slice_get arguments i) e in
           let o = of_class_by result (λ name. is_no_object h.item || is_of_result program world.heap h.item name) h.passes in
-          let is = all_get (λ (v : Value). IsTrue (is_there world.heap v)) arguments i h.item (all_behind _ receiver arguments there) h.is in
+          let is = all_get (λ (v : Value). IsTrue (is_there world.heap v)) arguments i h.item (all_after _ receiver arguments there) h.is in
           let one : fits_made program world.heap h.item (types.Ref o.name) ≡ true =
           elim (or_cases (is_no_object h.item) _ o.passes) [
             | inl none ↦ no_object_fits world.heap o.name h.item none

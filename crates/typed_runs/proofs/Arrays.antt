@@ -23,7 +23,7 @@ use Rattle.guest_heap.specs.declared.object.Object.{Object}
 use Rattle.guest_heap.specs.declared.value.Value.{Value}
 use Rattle.guest_model.specs.Kinds.{class_of_value, implements, class_is, leaf_is, component_is, array_is, is_kind_of, is_instance}
 use Rattle.guest_model.specs.Layout.{is_of_references}
-use Rattle.guest_model.specs.Working.{has_items}
+use Rattle.guest_model.specs.HeapOperations.{has_items}
 use Rattle.typed_runs.specs.Fitting.{is_of}
 use Rattle.typed_runs.proofs.Types.{held, holds_at}
 
@@ -44,7 +44,7 @@ array_described : (desc : List ℕ) → is_array desc ≡ true → type_describe
 array_described [] e = absurd cc
 array_described (b ∷ text) e = rw e refl
 
--- a letter `L`, and what the name behind it is
+-- a letter `L`, and what the name after it is
 named_parts : (desc : List ℕ) (name : Name) → named desc ≡ Some name
     → (b : ℕ) × (text : List ℕ) × (desc ≡ b ∷ text) × ((b == 76) ≡ true) × (take (length text - 1) text ≡ name)
 named_parts [] name e = absurd cc

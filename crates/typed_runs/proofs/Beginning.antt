@@ -39,10 +39,10 @@ use Rattle.guest_model.specs.Layout.{constant_bytes, first_value, is_of_referenc
 use Rattle.typed_runs.specs.Fitting.{ObjectFits, StaticsFit, fits_made, static_types}
 use Rattle.typed_runs.specs.Machines.{BeginsRight, CanBegin, MachineFits}
 use Rattle.typed_runs.specs.Programs.{IsTypedProgram}
-use Rattle.typed_runs.proofs.Declared.{inner_spelled, listed_field}
+use Rattle.typed_runs.proofs.Declared.{inner_encoded, listed_field}
 use Rattle.typed_runs.proofs.Entering.{rests_fits}
 use Rattle.typed_runs.proofs.Found.{position_found}
-use Rattle.typed_runs.proofs.Growing.{get_behind, get_front}
+use Rattle.typed_runs.proofs.Growing.{get_after, get_front}
 use Rattle.typed_runs.proofs.Places.{first_value_fits}
 use Rattle.typed_runs.proofs.Rows.{method_stands}
 use Rattle.typed_runs.proofs.Thrown.{bare_fits}
@@ -84,7 +84,7 @@ module _ (program : Program) (typing : Typing) (ok : IsTypedProgram program typi
   field_known : (index : ℕ) (field : MethodId) → slice_get program.listing.fields index ≡ Some field → is_known program.listing.classes (inner field.desc) ≡ true
   field_known index field there =
       let f = listed_field ok.links.text program.listing ok.links.listed index field there in
-      let same : inner field.desc ≡ f.class = ap inner f.desc ∙ inner_spelled f.class in
+      let same : inner field.desc ≡ f.class = ap inner f.desc ∙ inner_encoded f.class in
       subst (λ (n : Name). is_known program.listing.classes n ≡ true) (sym same) f.known
 
   abbrev first_object : MethodId → Object
@@ -109,7 +109,7 @@ module _ (program : Program) (typing : Typing) (ok : IsTypedProgram program typi
       main_there : class_of_value (first_heap program) (main_argument program) ≡ Some (codes "[Ljava/lang/String;")
       main_there =
           let long : length (map first_object program.listing.fields) ≡ length program.listing.fields = length-map program.listing.fields first_object in
-          let is = get_behind (map first_object program.listing.fields) (objects.Array (codes "[Ljava/lang/String;") []) [] in
+          let is = get_after (map first_object program.listing.fields) (objects.Array (codes "[Ljava/lang/String;") []) [] in
           ap (option_map class_of_object) (subst (λ (n : ℕ). slice_get (first_heap program) n ≡ Some (objects.Array (codes "[Ljava/lang/String;") [])) long is)
 
   -- ---- static fields

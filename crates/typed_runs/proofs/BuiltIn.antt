@@ -349,9 +349,9 @@ module _ (program : Program) (typing : Typing) (ok : IsTypedProgram program typi
   built_in_ready builtins.Length e = reference_received (has_one builtins.Length refl (told builtins.Length e))
 
   -- The call of one is ready, and what it leaves fits.
-  pub built_in_works : IsSomeAnd (builtin_at index) (λ (what : Builtin). IsReadyToRun machine.heap how what p.passed)
+  pub built_in_operates : IsSomeAnd (builtin_at index) (λ (what : Builtin). IsReadyToRun machine.heap how what p.passed)
       × FitsSo (option_and_then (built_in program machine call how) (builtin_at index))
-  built_in_works =
+  built_in_operates =
       let row : MethodRow = (u.declaring, u.told.name, u.told.desc, u.static) in
       let is : builtin_at index ≡ Some (builtin_of_row row) = ap (option_map builtin_of_row) u.declared in (
         some_and (λ (what : Builtin). IsReadyToRun machine.heap how what p.passed) (builtin_at index) (builtin_of_row row) is (built_in_ready (builtin_of_row row) is),

@@ -23,7 +23,7 @@ use Rattle.guest_model.specs.Answers.{may_throw}
 use Rattle.guest_model.specs.Calls.{types_of}
 use Rattle.guest_model.specs.Changes.{Change, World, ended_thread, goes, with_event}
 use Rattle.guest_model.specs.Numbers.{is_of_numbers}
-use Rattle.guest_model.specs.Working.{Worked}
+use Rattle.guest_model.specs.HeapOperations.{HeapResult}
 use Rattle.typed_runs.specs.Fitting.{fits_type, HeapFits, StaticsFit}
 use Rattle.typed_runs.specs.Frames.{AreRunning}
 use Rattle.typed_runs.specs.Growing.{Grows}
@@ -63,11 +63,11 @@ pub record ChangeFits (program : Program) (typing : Typing) (heap : List Object)
 
 -- What an instruction of the method comes to that works on the heap: operands of these types, which stand from the bottom, or an
 -- exception that may be thrown.
-abbrev pub WorkFits : Program → LinkedClass → Method → List Object → List VType → Worked → Type 0
-WorkFits program class method heap left None = Unit {0}
-WorkFits program class method heap left (Some (Ok made)) =
+abbrev pub OperationFits : Program → LinkedClass → Method → List Object → List VType → HeapResult → Type 0
+OperationFits program class method heap left None = Unit {0}
+OperationFits program class method heap left (Some (Ok made)) =
     WorldFits program heap made.0 × Paired (fits_type program made.0.heap class method) made.1 (reverse left)
-WorkFits program class method heap left (Some (Err name)) = IsTrue (may_throw program name)
+OperationFits program class method heap left (Some (Err name)) = IsTrue (may_throw program name)
 
 module _ (program : Program) (typing : Typing) where
   pub ended_fits : (heap : List Object) → ThreadFits program typing heap ended_thread

@@ -12,9 +12,9 @@ use Rattle.api_listing.specs.declared.descriptor.MethodType.{MethodType}
 use Rattle.api_listing.specs.declared.types.ListedClass.{ListedClass}
 use Rattle.api_listing.specs.declared.types.ListedMethod.{ListedMethod}
 use Rattle.api_listing.specs.declared.types.Listing.{Listing}
-use Rattle.api_listing.specs.Descriptor.{SpellsClass, class_spelled, method_type}
-use Rattle.api_listing.specs.Lines.{SpellsLine}
-use Rattle.api_listing.specs.Listing.{AreSaid, SpellsListing, field_declared, is_known, listing_of, method_declared, names_known}
+use Rattle.api_listing.specs.Descriptor.{EncodesClass, class_encoded, method_type}
+use Rattle.api_listing.specs.Lines.{EncodesLine}
+use Rattle.api_listing.specs.Listing.{AreSaid, EncodesListing, field_declared, is_known, listing_of, method_declared, names_known}
 use Rattle.api_listing.specs.Words.{pieces}
 use Rattle.api_listing.proofs.DescriptorLaws.{method_again}
 use Rattle.cert_format.specs.declared.typing.VType.TheVariants as types
@@ -25,15 +25,15 @@ use Rattle.guest_model.proofs.Options.{all_get}
 
 -- ---- each declaration
 
--- A line spells it.
-abbrev pub IsSpelled : Declaration → Type 0
-IsSpelled d = (words : List (List ℕ)) × SpellsLine words d
+-- A line encodes it.
+abbrev pub IsEncoded : Declaration → Type 0
+IsEncoded d = (words : List (List ℕ)) × EncodesLine words d
 
-all_spelled : (lines : List (List ℕ)) (said : List Declaration) → AreSaid lines said → AllByRecursion IsSpelled said
-all_spelled [] [] s = tt
-all_spelled [] (d ∷ said) s = absurd s
-all_spelled (line ∷ lines) [] s = absurd s
-all_spelled (line ∷ lines) (d ∷ said) s = ((pieces 32 line, s.0), all_spelled lines said s.1)
+all_encoded : (lines : List (List ℕ)) (said : List Declaration) → AreSaid lines said → AllByRecursion IsEncoded said
+all_encoded [] [] s = tt
+all_encoded [] (d ∷ said) s = absurd s
+all_encoded (line ∷ lines) [] s = absurd s
+all_encoded (line ∷ lines) (d ∷ said) s = ((pieces 32 line, s.0), all_encoded lines said s.1)
 
 module _ (classes : List ListedClass) where
   -- What it names is known.
@@ -49,9 +49,9 @@ module _ (classes : List ListedClass) where
 
   -- the class of a field, which is known
   abbrev IsFieldOf : MethodId → Type 0
-  IsFieldOf id = (class : Name) × SpellsClass id.desc class × (is_known classes class ≡ true)
+  IsFieldOf id = (class : Name) × EncodesClass id.desc class × (is_known classes class ≡ true)
 
-  fields_known : (said : List Declaration) → AllByRecursion IsSpelled said → AllByRecursion IsNamedIn said
+  fields_known : (said : List Declaration) → AllByRecursion IsEncoded said → AllByRecursion IsNamedIn said
       → AllByRecursion IsFieldOf (filter_map field_declared said)
   fields_known [] s n = tt
   fields_known (Class c ∷ said) s n = fields_known said s.1 n.1
@@ -63,7 +63,7 @@ module _ (classes : List ListedClass) where
 abbrev IsMethodOf : ListedMethod → Type 0
 IsMethodOf listed = (m : MethodType) × (method_type listed.id.desc ≡ Ok m)
 
-methods_described : (said : List Declaration) → AllByRecursion IsSpelled said → AllByRecursion IsMethodOf (filter_map method_declared said)
+methods_described : (said : List Declaration) → AllByRecursion IsEncoded said → AllByRecursion IsMethodOf (filter_map method_declared said)
 methods_described [] s = tt
 methods_described (Class c ∷ said) s = methods_described said s.1
 methods_described (Method m types ∷ said) s = ((types, method_again m.id.desc types s.0.1.1), methods_described said s.1)
@@ -76,33 +76,33 @@ without_end name =
     let long : length (name ++ 59 ∷ []) - 1 ≡ length name = omega (arith, length-append name (59 ∷ [])) in
     ap (λ (n : ℕ). take n (name ++ 59 ∷ [])) long ∙ take-append_seam name (59 ∷ [])
 
-pub inner_spelled : (name : Name) → inner (class_spelled name) ≡ name
-inner_spelled name = without_end name
+pub inner_encoded : (name : Name) → inner (class_encoded name) ≡ name
+inner_encoded name = without_end name
 
-pub described_spelled : (name : Name) → type_described (class_spelled name) ≡ types.Ref name
-described_spelled name = ap types.Ref (without_end name)
+pub described_encoded : (name : Name) → type_described (class_encoded name) ≡ types.Ref name
+described_encoded name = ap types.Ref (without_end name)
 
 -- ---- what stands in a listing
 
-module _ (text : List ℕ) (listing : Listing) (spelled : SpellsListing text listing) where
-  each_spelled : AllByRecursion IsSpelled spelled.said
-  each_spelled = all_spelled _ spelled.said spelled.spelled
+module _ (text : List ℕ) (listing : Listing) (encoded : EncodesListing text listing) where
+  each_encoded : AllByRecursion IsEncoded encoded.said
+  each_encoded = all_encoded _ encoded.said encoded.encoded
 
   pub listed_method : (index : ℕ) (listed : ListedMethod) → slice_get listing.methods index ≡ Some listed → (m : MethodType) × (method_type listed.id.desc ≡ Ok m)
   listed_method index listed there =
-      all_get IsMethodOf (filter_map method_declared spelled.said) index listed (methods_described spelled.said each_spelled)
-      (subst (λ (l : Listing). slice_get l.methods index ≡ Some listed) spelled.listed there)
+      all_get IsMethodOf (filter_map method_declared encoded.said) index listed (methods_described encoded.said each_encoded)
+      (subst (λ (l : Listing). slice_get l.methods index ≡ Some listed) encoded.listed there)
 
   -- A field of the listing is an object of a class that the listing knows.
   pub record ListedField (field : MethodId) : Type 0 where
     pub class : Name
-    pub desc : field.desc ≡ class_spelled class
+    pub desc : field.desc ≡ class_encoded class
     pub known : is_known listing.classes class ≡ true
 
   pub listed_field : (index : ℕ) (field : MethodId) → slice_get listing.fields index ≡ Some field → ListedField field
   listed_field index field there =
-      let all = fields_known listing.classes spelled.said each_spelled
-      (all_named listing.classes spelled.said [] spelled.said refl (λ front after d e. spelled.named front after d e)) in
-      let f = all_get (IsFieldOf listing.classes) (filter_map field_declared spelled.said) index field all
-      (subst (λ (l : Listing). slice_get l.fields index ≡ Some field) spelled.listed there) in
-      record { class = f.0; desc = f.1.spelled; known = f.2 }
+      let all = fields_known listing.classes encoded.said each_encoded
+      (all_named listing.classes encoded.said [] encoded.said refl (λ front after d e. encoded.named front after d e)) in
+      let f = all_get (IsFieldOf listing.classes) (filter_map field_declared encoded.said) index field all
+      (subst (λ (l : Listing). slice_get l.fields index ≡ Some field) encoded.listed there) in
+      record { class = f.0; desc = f.1.encoded; known = f.2 }

@@ -66,7 +66,7 @@ module _ (of : Value → VType → Bool) (any : of values.Null types.Top ≡ tru
         padded_from f vs ts (k + 1) c n (omega (arith, long)) (λ j. let on : k + 1 + j ≡ k + suc j = omega arith in ap f on ∙ each (suc j)) p.1,
       )
 
-  -- values of these types, and null behind them
+  -- values of these types, and null after them
   pub padded_fits : (vs : List Value) (ts : List VType) (n : ℕ) → length ts ≤ n → Paired of vs ts
       → Paired of (vs ++ replicate (n - length vs) values.Null) (padded n (type_at ts))
   padded_fits vs ts n room p =

@@ -46,14 +46,14 @@ use Rattle.guest_frames.specs.Values.{is_null}
 use Rattle.guest_model.specs.Changes.{World, with_heap, with_statics}
 use Rattle.guest_model.specs.Layout.{place_of_field}
 use Rattle.guest_model.specs.Moving.{HasOne, HasPlaceAt, HasTwo, IsAny, IsNullOr, NamesField, NamesOwnStatic}
-use Rattle.guest_model.specs.Working.{Worked, on_object, place_named, reads_static, worked}
+use Rattle.guest_model.specs.HeapOperations.{HeapResult, on_object, place_named, reads_static, heap_result}
 use Rattle.typed_runs.specs.Fitting.{HeapFits, ObjectFits, StaticsFit, field_types, fits_made, is_just, is_of, static_types}
 use Rattle.typed_runs.specs.Frames.{IsReady}
 use Rattle.typed_runs.specs.Machines.{BeginsRight}
 use Rattle.typed_runs.specs.Programs.{IsTypedProgram}
 use Rattle.typed_runs.proofs.Above.{field_fits}
 use Rattle.typed_runs.proofs.Changed.{WorldFits}
-use Rattle.typed_runs.proofs.Declared.{described_spelled, inner_spelled, listed_field}
+use Rattle.typed_runs.proofs.Declared.{described_encoded, inner_encoded, listed_field}
 use Rattle.typed_runs.proofs.Growing.{grows_itself, grows_set, heap_set, made_grown, statics_grown}
 use Rattle.typed_runs.proofs.Objects.{ObjectOf, an_object, no_object, not_interface, object_of_value}
 use Rattle.typed_runs.proofs.Pairs.{paired_also, paired_get, paired_length}
@@ -61,7 +61,7 @@ use Rattle.typed_runs.proofs.Places.{paired_set, place_begins}
 use Rattle.typed_runs.proofs.Rows.{names}
 use Rattle.typed_runs.proofs.Taken.{one_taken, two_taken}
 use Rattle.typed_runs.proofs.Types.{described_fits, described_over, just_is_of, made_over, type_fits_over}
-use Rattle.typed_runs.proofs.Works.{WellDone, WorksOn, fails, here, holds, leaves, met_here, same_world, split_here, stays_here, taken_here, under_here, use_here}
+use Rattle.typed_runs.proofs.Operates.{WellDone, OperatesOn, fails, here, holds, leaves, met_here, same_world, split_here, stays_here, taken_here, under_here, use_here}
 
 -- ---- what may be there
 
@@ -113,11 +113,11 @@ module _ (program : Program) (typing : Typing) (ok : IsTypedProgram program typi
   abbrev spot : InsnPlace
   spot = here program typing ok shaped world fit statics frame r
 
-  abbrev Done : Worked → Type 0
+  abbrev Done : HeapResult → Type 0
   Done o = WellDone program typing ok shaped world fit statics frame r o
 
-  abbrev WorksFor : Heap → Target → List Value → Type 0
-  WorksFor what ref list = WorksOn program typing ok shaped world fit statics frame r what ref list
+  abbrev OperatesFor : Heap → Target → List Value → Type 0
+  OperatesFor what ref list = OperatesOn program typing ok shaped world fit statics frame r what ref list
 
   abbrev taken_types : List VType
   taken_types = taken_here program typing ok shaped world fit statics frame r
@@ -174,14 +174,14 @@ module _ (program : Program) (typing : Typing) (ok : IsTypedProgram program typi
         (stays_here program typing ok shaped world fit statics frame r heaps.ReadStatic shape
         (met_here program typing ok shaped world fit statics frame r heaps.ReadStatic shape))
 
-    own_read : (of index : ℕ) → Static of index (desc_referred spot) → WorksFor heaps.ReadStatic (target.Field of index) frame.stack.items
+    own_read : (of index : ℕ) → Static of index (desc_referred spot) → OperatesFor heaps.ReadStatic (target.Field of index) frame.stack.items
     own_read of index s =
         let v = paired_get (fits_made program world.heap) s.fields (static_types s.class.file) index (type_described (desc_referred spot)) s.paired s.typed in
         let there : reads_static program world (target.Field of index) frame.stack.items ≡ Some (Ok (world, v.0 ∷ frame.stack.items)) = rw (s.own, v.1) refl in
         (inl (own_static of index (desc_referred spot) s), subst Done (sym there) (read_done v.0 v.2))
 
     listed_read : (first : BeginsRight program world.heap) (index : ℕ) (u : UsesField program r.stands.class r.stands.insn (target.ApiField index))
-        → WorksFor heaps.ReadStatic (target.ApiField index) frame.stack.items
+        → OperatesFor heaps.ReadStatic (target.ApiField index) frame.stack.items
     listed_read first index u =
         let id : MethodId = in_class u.told u.declaring in
         let f = listed_field ok.links.text program.listing ok.links.listed index id u.declared.0 in
@@ -191,21 +191,21 @@ module _ (program : Program) (typing : Typing) (ok : IsTypedProgram program typi
         let is : is_of program world.heap f.class (values.Ref index) ≡ true =
         just_is_of program world.heap f.class (values.Ref index)
         (subst (λ (name : Name). is_just world.heap name (values.Ref index) ≡ true)
-        (ap inner f.desc ∙ inner_spelled f.class) (first.fields index id u.declared.0)) in
-        let typed : type_described (desc_referred spot) ≡ types.Ref f.class = ap type_described (desc_told (target.ApiField index) u ∙ f.desc) ∙ described_spelled f.class in (
+        (ap inner f.desc ∙ inner_encoded f.class) (first.fields index id u.declared.0)) in
+        let typed : type_described (desc_referred spot) ≡ types.Ref f.class = ap type_described (desc_told (target.ApiField index) u ∙ f.desc) ∙ described_encoded f.class in (
           inr less,
           subst Done (sym there) (read_done (values.Ref index) (subst (λ (t : VType). fits_made program world.heap (values.Ref index) t ≡ true) (sym typed) is)),
         )
 
     read_static_at : (first : BeginsRight program world.heap) → FieldNamed program r.stands.class r.stands.insn true false spot.ref
-        → WorksFor heaps.ReadStatic spot.ref frame.stack.items
+        → OperatesFor heaps.ReadStatic spot.ref frame.stack.items
     read_static_at first (given of index e u static writes) =
-        subst (λ (ref : Target). WorksFor heaps.ReadStatic ref frame.stack.items) (sym e) (own_read of index (static_of of index u))
+        subst (λ (ref : Target). OperatesFor heaps.ReadStatic ref frame.stack.items) (sym e) (own_read of index (static_of of index u))
     read_static_at first (listed index e u static writes) =
-        subst (λ (ref : Target). WorksFor heaps.ReadStatic ref frame.stack.items) (sym e) (listed_read first index u)
+        subst (λ (ref : Target). OperatesFor heaps.ReadStatic ref frame.stack.items) (sym e) (listed_read first index u)
 
-    pub read_static_works : BeginsRight program world.heap → WorksFor heaps.ReadStatic spot.ref frame.stack.items
-    read_static_works first =
+    pub read_static_operates : BeginsRight program world.heap → OperatesFor heaps.ReadStatic spot.ref frame.stack.items
+    read_static_operates first =
         read_static_at first (field_named program r.stands.class r.stands.insn true false spot.ref (names program typing ok frame r.stands)
         (use_here program typing ok shaped world fit statics frame r heaps.ReadStatic shape))
 
@@ -231,11 +231,11 @@ module _ (program : Program) (typing : Typing) (ok : IsTypedProgram program typi
   module _ (shape : shape_of r.stands.insn ≡ shapes.Heap heaps.WriteStatic) where
     own_written : (of index : ℕ) (v : Value) (below : List Value) → Static of index (desc_referred spot)
         → fits_made program world.heap v (type_described (desc_referred spot)) ≡ true → Paired of_here below under
-        → WorksFor heaps.WriteStatic (target.Field of index) (v ∷ below)
+        → OperatesFor heaps.WriteStatic (target.Field of index) (v ∷ below)
     own_written of index v below s h left =
         let old = paired_get (fits_made program world.heap) s.fields (static_types s.class.file) index (type_described (desc_referred spot)) s.paired s.typed in
         let new : World = with_statics world (slice_set world.statics of (slice_set s.fields index v)) in
-        let there : worked program world heaps.WriteStatic (target.Field of index) (v ∷ below) ≡ Some (Ok (new, below)) = rw (s.own, old.1) refl in
+        let there : heap_result program world heaps.WriteStatic (target.Field of index) (v ∷ below) ≡ Some (Ok (new, below)) = rw (s.own, old.1) refl in
         let w : WorldFits program world.heap new =
         record { grows = grows_itself world.heap; objects = fit; statics = statics_set of index (desc_referred spot) v s h } in (
           (own_static of index (desc_referred spot) s, tt),
@@ -243,17 +243,17 @@ module _ (program : Program) (typing : Typing) (ok : IsTypedProgram program typi
         )
 
     write_static_at : (v : Value) (below : List Value) → fits_made program world.heap v (type_described (desc_referred spot)) ≡ true → Paired of_here below under
-        → FieldNamed program r.stands.class r.stands.insn true true spot.ref → WorksFor heaps.WriteStatic spot.ref (v ∷ below)
+        → FieldNamed program r.stands.class r.stands.insn true true spot.ref → OperatesFor heaps.WriteStatic spot.ref (v ∷ below)
     write_static_at v below h left (given of index e u static writes) =
-        subst (λ (ref : Target). WorksFor heaps.WriteStatic ref (v ∷ below)) (sym e) (own_written of index v below (static_of of index u) h left)
+        subst (λ (ref : Target). OperatesFor heaps.WriteStatic ref (v ∷ below)) (sym e) (own_written of index v below (static_of of index u) h left)
     write_static_at v below h left (listed index e u static writes) =
         absurd (true≢false (sym (ap (λ (b : Bool). b && true) writes) ∙ u.unwritten))
 
-    pub write_static_works : WorksFor heaps.WriteStatic spot.ref frame.stack.items
-    write_static_works =
+    pub write_static_operates : OperatesFor heaps.WriteStatic spot.ref frame.stack.items
+    write_static_operates =
         let t = one_taken of_here _ taken_types under frame.stack.items (met_here program typing ok shaped world fit statics frame r heaps.WriteStatic shape)
         (split_here program typing ok shaped world fit statics frame r heaps.WriteStatic shape) in
-        subst (WorksFor heaps.WriteStatic spot.ref) (sym t.items_are)
+        subst (OperatesFor heaps.WriteStatic spot.ref) (sym t.items_are)
         (write_static_at t.value t.below
         (described_over program ok.links.order world.heap r.stands.class r.stands.method t.value t.type (desc_referred spot) t.met t.fits) t.left
         (field_named program r.stands.class r.stands.insn true true spot.ref (names program typing ok frame r.stands)
@@ -319,7 +319,7 @@ module _ (program : Program) (typing : Typing) (ok : IsTypedProgram program typi
         subst (IsNullOr (HasPlaceAt (place_of_field program o.class index)) world.heap) (sym e)
         (some_and (HasPlaceAt (place_of_field program o.class index)) (slice_get world.heap at) (objects.Plain name fields goal thread) there (omega (arith, less, many)))
 
-    object_done : (v : Value) (f : ℕ → List Value → Worked) → Is v
+    object_done : (v : Value) (f : ℕ → List Value → HeapResult) → Is v
         → ((at : ℕ) (name : Name) (fields : List Value) (goal : Value) (thread : Option ℕ) → slice_get world.heap at ≡ Some (objects.Plain name fields goal thread)
         → (name ≡ o.class.name) ⊎ (is_below program name o.class.name ≡ true)
         → Paired (fits_made program world.heap) fields (field_types program name) → is_array name ≡ false → Done (f at fields))
@@ -331,10 +331,10 @@ module _ (program : Program) (typing : Typing) (ok : IsTypedProgram program typi
         subst (λ (w : Value). Done (on_object world.heap w f)) (sym e) (subst Done (sym is) (each at name fields goal thread there below paired apart))
 
     module _ (shape : shape_of r.stands.insn ≡ shapes.Heap heaps.ReadField) where
-      read_field : (v : Value) (below : List Value) → Is v → Paired of_here below under → WorksFor heaps.ReadField (target.Field of index) (v ∷ below)
+      read_field : (v : Value) (below : List Value) → Is v → Paired of_here below under → OperatesFor heaps.ReadField (target.Field of index) (v ∷ below)
       read_field v below is left =
-          let f : ℕ → List Value → Worked = λ at fields. option_map (λ (w : Value). Ok (world, w ∷ below)) (slice_get fields (place_of_field program o.class index)) in
-          let there : worked program world heaps.ReadField (target.Field of index) (v ∷ below) ≡ on_object world.heap v f = rw place_there refl in (
+          let f : ℕ → List Value → HeapResult = λ at fields. option_map (λ (w : Value). Ok (world, w ∷ below)) (slice_get fields (place_of_field program o.class index)) in
+          let there : heap_result program world heaps.ReadField (target.Field of index) (v ∷ below) ≡ on_object world.heap v f = rw place_there refl in (
             field_ready (λ place. HasOne (IsNullOr (HasPlaceAt place) world.heap) (v ∷ below)) (object_ready v is),
             subst Done (sym there)
                 (object_done v f is
@@ -373,11 +373,11 @@ module _ (program : Program) (typing : Typing) (ok : IsTypedProgram program typi
 
     module _ (shape : shape_of r.stands.insn ≡ shapes.Heap heaps.WriteField) where
       write_field : (v w : Value) (below : List Value) → fits_made program world.heap v (type_described (desc_referred spot)) ≡ true → Is w → Paired of_here below under
-          → WorksFor heaps.WriteField (target.Field of index) (v ∷ w ∷ below)
+          → OperatesFor heaps.WriteField (target.Field of index) (v ∷ w ∷ below)
       write_field v w below h is left =
           let at_place = place_of_field program o.class index in
-          let f : ℕ → List Value → Worked = λ at fields. option_map (λ (old : Value). Ok (with_heap world (with_value_at world.heap at at_place v), below)) (slice_get fields at_place) in
-          let there : worked program world heaps.WriteField (target.Field of index) (v ∷ w ∷ below) ≡ on_object world.heap w f = rw place_there refl in (
+          let f : ℕ → List Value → HeapResult = λ at fields. option_map (λ (old : Value). Ok (with_heap world (with_value_at world.heap at at_place v), below)) (slice_get fields at_place) in
+          let there : heap_result program world heaps.WriteField (target.Field of index) (v ∷ w ∷ below) ≡ on_object world.heap w f = rw place_there refl in (
             field_ready (λ place. HasTwo IsAny (IsNullOr (HasPlaceAt place) world.heap) (v ∷ w ∷ below)) (tt, object_ready w is),
             subst Done (sym there)
                 (object_done w f is
@@ -395,17 +395,17 @@ module _ (program : Program) (typing : Typing) (ok : IsTypedProgram program typi
 
   module _ (shape : shape_of r.stands.insn ≡ shapes.Heap heaps.ReadField) where
     read_field_at : (v : Value) (below : List Value) → fits_made program world.heap v (types.Ref (class_referred spot)) ≡ true → Paired of_here below under
-        → FieldNamed program r.stands.class r.stands.insn false false spot.ref → WorksFor heaps.ReadField spot.ref (v ∷ below)
+        → FieldNamed program r.stands.class r.stands.insn false false spot.ref → OperatesFor heaps.ReadField spot.ref (v ∷ below)
     read_field_at v below h left (given of index e u static writes) =
         let o = owned of index u static in
-        subst (λ (ref : Target). WorksFor heaps.ReadField ref (v ∷ below)) (sym e) (read_field of index o shape v below (is_object of index o v (o.reaches v h)) left)
+        subst (λ (ref : Target). OperatesFor heaps.ReadField ref (v ∷ below)) (sym e) (read_field of index o shape v below (is_object of index o v (o.reaches v h)) left)
     read_field_at v below h left (listed index e u static writes) = absurd (not_listed index u static)
 
-    pub read_field_works : WorksFor heaps.ReadField spot.ref frame.stack.items
-    read_field_works =
+    pub read_field_operates : OperatesFor heaps.ReadField spot.ref frame.stack.items
+    read_field_operates =
         let t = one_taken of_here _ taken_types under frame.stack.items (met_here program typing ok shaped world fit statics frame r heaps.ReadField shape)
         (split_here program typing ok shaped world fit statics frame r heaps.ReadField shape) in
-        subst (WorksFor heaps.ReadField spot.ref) (sym t.items_are)
+        subst (OperatesFor heaps.ReadField spot.ref) (sym t.items_are)
         (read_field_at t.value t.below
         (type_fits_over program ok.links.order world.heap r.stands.class r.stands.method t.value t.type (types.Ref (class_referred spot)) t.met t.fits) t.left
         (field_named program r.stands.class r.stands.insn false false spot.ref (names program typing ok frame r.stands)
@@ -436,18 +436,18 @@ module _ (program : Program) (typing : Typing) (ok : IsTypedProgram program typi
 
     write_field_at : (v w : Value) (t : VType) (below : List Value) → fits_made program world.heap v (type_described (desc_referred spot)) ≡ true
         → of_here w t ≡ true → to_written spot t ≡ true → Paired of_here below under
-        → FieldNamed program r.stands.class r.stands.insn false true spot.ref → WorksFor heaps.WriteField spot.ref (v ∷ w ∷ below)
+        → FieldNamed program r.stands.class r.stands.insn false true spot.ref → OperatesFor heaps.WriteField spot.ref (v ∷ w ∷ below)
     write_field_at v w t below h k m left (given of index e u static writes) =
         let o = owned of index u static in
-        subst (λ (ref : Target). WorksFor heaps.WriteField ref (v ∷ w ∷ below)) (sym e)
+        subst (λ (ref : Target). OperatesFor heaps.WriteField ref (v ∷ w ∷ below)) (sym e)
         (write_field of index o shape v w below h (is_object of index o w (written_of of index o w t e k m)) left)
     write_field_at v w t below h k m left (listed index e u static writes) = absurd (not_listed index u static)
 
-    pub write_field_works : WorksFor heaps.WriteField spot.ref frame.stack.items
-    write_field_works =
+    pub write_field_operates : OperatesFor heaps.WriteField spot.ref frame.stack.items
+    write_field_operates =
         let t = two_taken of_here _ _ taken_types under frame.stack.items (met_here program typing ok shaped world fit statics frame r heaps.WriteField shape)
         (split_here program typing ok shaped world fit statics frame r heaps.WriteField shape) in
-        subst (WorksFor heaps.WriteField spot.ref) (sym t.items_are)
+        subst (OperatesFor heaps.WriteField spot.ref) (sym t.items_are)
         (write_field_at t.upper t.lower t.low_type t.below
         (described_over program ok.links.order world.heap r.stands.class r.stands.method t.upper t.high_type (desc_referred spot) t.high_met t.upper_fits)
         t.lower_fits t.low_met t.left

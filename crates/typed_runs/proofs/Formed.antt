@@ -15,7 +15,7 @@ use Rattle.api_listing.specs.declared.events.Event.TheVariants as events
 use Rattle.api_listing.specs.declared.types.Listing.{Listing}
 use Rattle.bytecode_model.specs.declared.program.Program.{Program}
 use Rattle.bytecode_model.specs.Sound.{IsSound}
-use Rattle.bytecode_model.specs.Standing.{AreLiterals}
+use Rattle.bytecode_model.specs.LinkedClasses.{AreLiterals}
 use Rattle.bytecode_model.specs.Targets.{AreNamed}
 use Rattle.bytecode_model.specs.Uses.{UsesAreShaped}
 use Rattle.conspec_tree.specs.declared.types.Kind.{Kind}
@@ -35,7 +35,7 @@ use Rattle.guest_model.specs.Runs.{trace}
 use Rattle.typed_runs.specs.Formed.{SeesWellFormed, TellsTypes}
 use Rattle.typed_runs.proofs.Called.{there_and}
 use Rattle.typed_runs.proofs.Changed.{ArePassedNumbers, PassesNumbers}
-use Rattle.typed_runs.proofs.CallsWork.{calls_work}
+use Rattle.typed_runs.proofs.CallsOperate.{calls_operate}
 use Rattle.typed_runs.proofs.Runs.{runs_pass_numbers}
 use Rattle.typed_runs.proofs.Within.{among}
 
@@ -150,4 +150,4 @@ module _ (program : Program) (policy : Policy) (tells : AllByRecursion (TellsTyp
 pub sees_well_formed : UsesAreShaped → ((program : Program) → IsSound program → AreNamed program → AreLiterals program → SeesInRange program) → SeesWellFormed
 sees_well_formed shaped range program typing policy ok tells steps =
     each_formed program policy tells (trace program steps) (range program ok.links.sound ok.links.linked.named ok.links.linked.literals steps)
-    (runs_pass_numbers shaped (λ program typing ok. calls_work program typing ok shaped) program typing ok steps)
+    (runs_pass_numbers shaped (λ program typing ok. calls_operate program typing ok shaped) program typing ok steps)

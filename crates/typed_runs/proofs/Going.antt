@@ -15,7 +15,7 @@ use Rattle.insn_codec.specs.Effect.{Moved, effect}
 use Rattle.insn_codec.specs.Following.{Paired}
 use Rattle.insn_codec.specs.Opcodes.{goes_on}
 use Rattle.insn_codec.specs.Shapes.{shape_of}
-use Rattle.insn_codec.specs.Spelling.{opcode_of}
+use Rattle.insn_codec.specs.Encoding.{opcode_of}
 use Rattle.insn_codec.specs.Table.{ends, is_heap}
 use Rattle.insn_codec.proofs.Following.{follows}
 use Rattle.insn_codec.proofs.Table.{goes_on_alike, goes_to_successor}
@@ -51,12 +51,12 @@ pub record HoldTypes (program : Program) (heap : List Object) (class : LinkedCla
   pub locals_hold : Paired (fits_type program heap class method) locals (padded method.max_locals from)
   pub items_hold : Paired (fits_type program heap class method) items (reverse stack)
 
--- the types of locals and operands behind an instruction
-abbrev pub locals_behind : InsnPlace → FrameType → ℕ → VType
-locals_behind place type = local_after place type.locals (taken place type)
+-- the types of locals and operands after an instruction
+abbrev pub locals_following : InsnPlace → FrameType → ℕ → VType
+locals_following place type = local_after place type.locals (taken place type)
 
-abbrev pub stack_behind : InsnPlace → FrameType → List VType
-stack_behind place type = stack_after place type.locals (length (takes place)) type.stack
+abbrev pub stack_following : InsnPlace → FrameType → List VType
+stack_following place type = stack_after place type.locals (length (takes place)) type.stack
 
 module _ (program : Program) (order : IsInOrder program) (heap : List Object) (class : LinkedClass) (method : Method) where
   abbrev of : Value → VType → Bool
@@ -89,11 +89,11 @@ module _ (program : Program) (order : IsInOrder program) (heap : List Object) (c
 
   -- what fits what an instruction leaves fits the frame type where control goes
   pub hold_there : (place : InsnPlace) (type to : FrameType) (locals items : List Value) → place.program ≡ program → goes_well place type to ≡ true
-      → HoldTypes program heap class method (locals_behind place type) (stack_behind place type) locals items
+      → HoldTypes program heap class method (locals_following place type) (stack_following place type) locals items
       → HoldTypes program heap class method (type_at to.locals) to.stack locals items
   hold_there place type to locals items same e h =
-      let left = stack_behind place type in
-      let from = locals_behind place type in
+      let left = stack_following place type in
+      let from = locals_following place type in
       let well : (stack_fits program left to.stack && locals_fit program from 0 to.locals) ≡ true =
       subst (λ (p : Program). (stack_fits p left to.stack && locals_fit p from 0 to.locals) ≡ true) same e in
       let a = and_parts (stack_fits program left to.stack) (locals_fit program from 0 to.locals) well in
@@ -119,7 +119,7 @@ module _ (program : Program) (heap : List Object) (place : InsnPlace) (type : Fr
       → IsTrue (Depth place type) → IsTrue (Operand place type) → IsTrue (Local place type)
       → HoldTypes program heap place.class place.method (type_at type.locals) type.stack locals items
       → (m : Moved Value) × (effect values_moved (shape_of place.insn) locals items ≡ Some m)
-      × HoldTypes program heap place.class place.method (locals_behind place type) (stack_behind place type) m.0 m.1
+      × HoldTypes program heap place.class place.method (locals_following place type) (stack_following place type) m.0 m.1
   alone_holds locals items alone depth operand local h =
       let l = follows values_moved types_moved fits_here (respects program heap place.class place.method) (shape_of place.insn) locals items _ _ _
       h.locals_hold h.items_hold (effect_typed place type alone depth operand local) in
@@ -131,22 +131,22 @@ module _ (program : Program) (heap : List Object) (place : InsnPlace) (type : Fr
         subst (λ (s : Shape). fits_here v (changed_by place (taken place type) s t) ≡ true) (sym shape)
         (fits_changed program place heap (taken place type) what v t h)
 
-    stays : (j : ℕ) → Widens fits_here (type_at type.locals j) (locals_behind place type j)
+    stays : (j : ℕ) → Widens fits_here (type_at type.locals j) (locals_following place type j)
     stays j v h =
         subst (λ (s : Shape). fits_here v (cond (stores s j) (type_at (taken place type) 0) (changed_by place (taken place type) s (type_at type.locals j))) ≡ true)
         (sym shape) (fits_changed program place heap (taken place type) what v (type_at type.locals j) h)
 
     -- one that does more leaves the locals
     pub locals_stay : (locals : List Value) → Paired fits_here locals (padded place.method.max_locals (type_at type.locals))
-        → Paired fits_here locals (padded place.method.max_locals (locals_behind place type))
+        → Paired fits_here locals (padded place.method.max_locals (locals_following place type))
     locals_stay locals p =
-        widened fits_here locals _ _ (places_widen fits_here (type_at type.locals) (locals_behind place type) (range_with_len 0 place.method.max_locals) stays) p
+        widened fits_here locals _ _ (places_widen fits_here (type_at type.locals) (locals_following place type) (range_with_len 0 place.method.max_locals) stays) p
 
     -- and the operands that it does not take
     pub heap_holds : (locals items pushed : List Value) → Paired fits_here locals (padded place.method.max_locals (type_at type.locals))
         → Paired fits_here items (reverse (below (length (takes place)) type.stack))
         → Paired fits_here pushed (reverse (yields place type.locals (taken place type)))
-        → HoldTypes program heap place.class place.method (locals_behind place type) (stack_behind place type) locals (pushed ++ items)
+        → HoldTypes program heap place.class place.method (locals_following place type) (stack_following place type) locals (pushed ++ items)
     heap_holds locals items pushed p q r =
         let n = length (takes place) in
         let stack = map (changed place (taken place type)) (below n type.stack) in
@@ -169,31 +169,31 @@ fitted_there frame at locals items fit =
     rw not_more refl
 
 module _ (program : Program) (typing : Typing) (ok : IsTypedProgram program typing) (heap : List Object) (frame : Frame) (s : Stands program typing frame) where
-  abbrev pub Behind : List Value → List Value → Type 0
-  Behind locals items = HoldTypes program heap s.class s.method (locals_behind (stands_at s) s.type) (stack_behind (stands_at s) s.type) locals items
+  abbrev pub AfterInsn : List Value → List Value → Type 0
+  AfterInsn locals items = HoldTypes program heap s.class s.method (locals_following (stands_at s) s.type) (stack_following (stands_at s) s.type) locals items
 
   -- what the instruction leaves is at most the stack's size
-  pub behind_fits : length (stack_behind (stands_at s) s.type) ≤ frame.stack.size
-  behind_fits =
+  pub after_fits : length (stack_following (stands_at s) s.type) ≤ frame.stack.size
+  after_fits =
       let d = and_parts (nat_le (length (takes (stands_at s))) (length s.type.stack)) _ (rules program typing ok frame s).depth in
-      omega (arith, leb-true (length (stack_behind (stands_at s) s.type)) s.method.max_stack d.1, s.size)
+      omega (arith, leb-true (length (stack_following (stands_at s) s.type)) s.method.max_stack d.1, s.size)
 
   pub enough_taken : length (takes (stands_at s)) ≤ length s.type.stack
   enough_taken =
       let d = and_parts (nat_le (length (takes (stands_at s))) (length s.type.stack)) _ (rules program typing ok frame s).depth in
       leb-true (length (takes (stands_at s))) (length s.type.stack) d.0
 
-  items_fit : (locals items : List Value) → Behind locals items → length items ≤ frame.stack.size
+  items_fit : (locals items : List Value) → AfterInsn locals items → length items ≤ frame.stack.size
   items_fit locals items h =
-      let many = paired_length (fits_type program heap s.class s.method) items (reverse (stack_behind (stands_at s) s.type)) h.items_hold in
-      omega (arith, many, length-reverse (stack_behind (stands_at s) s.type), behind_fits)
+      let many = paired_length (fits_type program heap s.class s.method) items (reverse (stack_following (stands_at s) s.type)) h.items_hold in
+      omega (arith, many, length-reverse (stack_following (stands_at s) s.type), after_fits)
 
   -- The frame can go where control goes.
-  pub went : (to : ℕ) (locals items : List Value) → Behind locals items → fitted frame to locals items ≡ Some (moved_to frame to locals items)
+  pub went : (to : ℕ) (locals items : List Value) → AfterInsn locals items → fitted frame to locals items ≡ Some (moved_to frame to locals items)
   went to locals items h = fitted_there frame to locals items (items_fit locals items h)
 
   -- and it runs there, in front of those that wait for what its method gives
-  pub runs_at : (to : ℕ) (locals items : List Value) (under : List Frame) → Contains (successors frame.at s.insn) to → Behind locals items
+  pub runs_at : (to : ℕ) (locals items : List Value) (under : List Frame) → Contains (successors frame.at s.insn) to → AfterInsn locals items
       → AreWaiting program typing heap (result_type s.method.desc) under → AreRunning program typing heap (moved_to frame to locals items ∷ under)
   runs_at to locals items under has h waiting =
       let g = goes_to program typing ok frame s to has in
@@ -207,16 +207,16 @@ module _ (program : Program) (typing : Typing) (ok : IsTypedProgram program typi
         waiting,
       )
 
-  -- control goes on behind an instruction that does not end
+  -- control goes on after an instruction that does not end
   pub next_is : ends (shape_of s.insn) ≡ false → Contains (successors frame.at s.insn) (frame.at + 1)
   next_is stays =
       let goes : goes_on (opcode_of s.insn) ≡ true = goes_on_alike s.insn (is_insn program typing ok frame s) ∙ ap not stays in
       rw goes (0, omega arith, refl)
 
-  pub runs_behind : (items : List Value) (under : List Frame) → ends (shape_of s.insn) ≡ false → Behind frame.locals items
+  pub runs_after : (items : List Value) (under : List Frame) → ends (shape_of s.insn) ≡ false → AfterInsn frame.locals items
       → AreWaiting program typing heap (result_type s.method.desc) under
       → AreRunning program typing heap (moved_to frame (frame.at + 1) frame.locals items ∷ under)
-  runs_behind items under stays h waiting = runs_at (frame.at + 1) frame.locals items under (next_is stays) h waiting
+  runs_after items under stays h waiting = runs_at (frame.at + 1) frame.locals items under (next_is stays) h waiting
 
 -- ---- an instruction that works on its frame alone
 

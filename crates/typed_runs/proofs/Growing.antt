@@ -49,17 +49,17 @@ get_front [] ys i x e = absurd cc
 get_front (y ∷ xs) ys zero x e = e
 get_front (y ∷ xs) ys (suc i) x e = get_front xs ys i x e
 
-pub get_behind : {A : Type 0} (xs : List A) (x : A) (ys : List A) → slice_get (xs ++ x ∷ ys) (length xs) ≡ Some x
-get_behind [] x ys = refl
-get_behind (y ∷ xs) x ys = get_behind xs x ys
+pub get_after : {A : Type 0} (xs : List A) (x : A) (ys : List A) → slice_get (xs ++ x ∷ ys) (length xs) ≡ Some x
+get_after [] x ys = refl
+get_after (y ∷ xs) x ys = get_after xs x ys
 
 -- ---- how a heap grows
 
 pub grows_itself : (heap : List Object) → Grows heap heap
 grows_itself heap at object e = ap (option_map class_of_object) e
 
-pub grows_behind : (heap more : List Object) → Grows heap (heap ++ more)
-grows_behind heap more at object e = ap (option_map class_of_object) (get_front heap more at object e)
+pub grows_after : (heap more : List Object) → Grows heap (heap ++ more)
+grows_after heap more at object e = ap (option_map class_of_object) (get_front heap more at object e)
 
 found_again : (o : Option Object) (name : Name) → option_map class_of_object o ≡ Some name → (object : Object) × (o ≡ Some object) × (class_of_object object ≡ name)
 found_again None name e = absurd cc
@@ -229,11 +229,11 @@ module _ (heap new : List Object) (grows : Grows heap new) where
 
 module _ (program : Program) where
   -- one object more
-  pub heap_behind : (heap : List Object) (object : Object) → HeapFits program heap → ObjectFits program (heap ++ object ∷ []) object
+  pub heap_after : (heap : List Object) (object : Object) → HeapFits program heap → ObjectFits program (heap ++ object ∷ []) object
       → HeapFits program (heap ++ object ∷ [])
-  heap_behind heap object all one =
+  heap_after heap object all one =
       all_append (ObjectFits program (heap ++ object ∷ [])) heap (object ∷ [])
-      (objects_grown heap (heap ++ object ∷ []) (grows_behind heap (object ∷ [])) program heap all) (one, tt)
+      (objects_grown heap (heap ++ object ∷ []) (grows_after heap (object ∷ [])) program heap all) (one, tt)
 
   -- an object in the place of another of its class
   pub heap_set : (heap : List Object) (at : ℕ) (old new : Object) → slice_get heap at ≡ Some old → class_of_object new ≡ class_of_object old

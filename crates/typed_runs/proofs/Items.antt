@@ -36,7 +36,7 @@ use Rattle.guest_frames.specs.Values.{fits, is_null, is_number, is_reference}
 use Rattle.guest_model.specs.Changes.{World, with_heap}
 use Rattle.guest_model.specs.Kinds.{is_instance}
 use Rattle.guest_model.specs.Moving.{HasItems, IsArray, IsNullOr}
-use Rattle.guest_model.specs.Working.{ArrayAt, Worked, bad_item, bad_place, has_items, item_kind, item_read, item_written, kept, kept_number, may_hold, on_array, on_items, place_among}
+use Rattle.guest_model.specs.HeapOperations.{ArrayAt, HeapResult, bad_item, bad_place, has_items, item_kind, item_read, item_written, kept, kept_number, may_hold, on_array, on_items, place_among}
 use Rattle.typed_runs.specs.Fitting.{HeapFits, ObjectFits, StaticsFit, fits_made}
 use Rattle.typed_runs.specs.Frames.{IsReady}
 use Rattle.typed_runs.specs.Programs.{IsTypedProgram}
@@ -46,7 +46,7 @@ use Rattle.typed_runs.proofs.Growing.{all_also, grows_set, heap_set, made_grown,
 use Rattle.typed_runs.proofs.Objects.{ArrayOf, an_array, array_of_value, items_over, no_array, null_is}
 use Rattle.typed_runs.proofs.Taken.{Three, Two, one_taken, three_taken, two_taken}
 use Rattle.typed_runs.proofs.Types.{described_fits, holds_at, type_fits_over, wanted_number, wanted_reference}
-use Rattle.typed_runs.proofs.Works.{WellDone, WorksOn, fails, here, holds, leaves, met_here, number_value, same_world, split_here, taken_here, under_here}
+use Rattle.typed_runs.proofs.Operates.{WellDone, OperatesOn, fails, here, holds, leaves, met_here, number_value, same_world, split_here, taken_here, under_here}
 
 -- an array of these items is assignable to one of those
 over_array : (program : Program) (rest item : List ℕ) → component_fits program rest item ≡ true
@@ -58,11 +58,11 @@ module _ (program : Program) (typing : Typing) (ok : IsTypedProgram program typi
   abbrev of_here : Value → VType → Bool
   of_here v t = holds program typing ok shaped world fit statics frame r v t
 
-  abbrev Done : Worked → Type 0
+  abbrev Done : HeapResult → Type 0
   Done o = WellDone program typing ok shaped world fit statics frame r o
 
-  abbrev Works : Heap → List Value → Type 0
-  Works what list = WorksOn program typing ok shaped world fit statics frame r what (here program typing ok shaped world fit statics frame r).ref list
+  abbrev Operates : Heap → List Value → Type 0
+  Operates what list = OperatesOn program typing ok shaped world fit statics frame r what (here program typing ok shaped world fit statics frame r).ref list
 
   abbrev taken_types : List VType
   taken_types = taken_here program typing ok shaped world fit statics frame r
@@ -75,11 +75,11 @@ module _ (program : Program) (typing : Typing) (ok : IsTypedProgram program typi
 
   -- ---- what is done with an array
 
-  array_there : (at : ℕ) (desc : List ℕ) (list : List Value) (f : ArrayAt → Worked) → slice_get world.heap at ≡ Some (objects.Array desc list)
+  array_there : (at : ℕ) (desc : List ℕ) (list : List Value) (f : ArrayAt → HeapResult) → slice_get world.heap at ≡ Some (objects.Array desc list)
       → on_array world.heap (values.Ref at) f ≡ f (record { at = at; desc = desc; items = list })
   array_there at desc list f e = rw e refl
 
-  array_done : (item : List ℕ) (v : Value) (f : ArrayAt → Worked) → ArrayOf program typing ok world.heap fit item v
+  array_done : (item : List ℕ) (v : Value) (f : ArrayAt → HeapResult) → ArrayOf program typing ok world.heap fit item v
       → ((at : ℕ) (rest : List ℕ) (list : List Value) → v ≡ values.Ref at → slice_get world.heap at ≡ Some (objects.Array (91 ∷ rest) list)
       → component_fits program rest item ≡ true → AllByRecursion (λ (w : Value). fits_made program world.heap w (type_described rest) ≡ true) list
       → Done (f (record { at = at; desc = 91 ∷ rest; items = list })))
@@ -111,12 +111,12 @@ module _ (program : Program) (typing : Typing) (ok : IsTypedProgram program typi
   -- ---- the length
 
   module _ (shape : shape_of r.stands.insn ≡ shapes.Heap heaps.Length) where
-    pub length_works : Works heaps.Length frame.stack.items
-    length_works =
+    pub length_operates : Operates heaps.Length frame.stack.items
+    length_operates =
         let t = one_taken of_here _ taken_types under frame.stack.items (met_here program typing ok shaped world fit statics frame r heaps.Length shape)
         (split_here program typing ok shaped world fit statics frame r heaps.Length shape) in
         let a = array_typed t.value t.type t.fits t.met in
-        subst (Works heaps.Length) (sym t.items_are) (
+        subst (Operates heaps.Length) (sym t.items_are) (
           array_ready IsArray a.0 t.value a.1 (λ rest list over. tt),
           array_done a.0 t.value (λ (x : ArrayAt). Some (Ok (world, values.Int (pos (length x.items)) ∷ t.below))) a.1
               (λ at rest list e there over all. leaves program typing ok shaped world fit statics frame r heaps.Length shape world
@@ -275,7 +275,7 @@ module _ (program : Program) (typing : Typing) (ok : IsTypedProgram program typi
     reads : (w : Value) → fits_made program world.heap w (type_described rest) ≡ true → of_here w (read_of item t) ≡ true
     all : AllByRecursion (λ (w : Value). fits_made program world.heap w (type_described rest) ≡ true) list
 
-  items_done : (item : Item) (v : Value) (t : VType) (f : ArrayAt → Worked) → Array item v t
+  items_done : (item : Item) (v : Value) (t : VType) (f : ArrayAt → HeapResult) → Array item v t
       → ((at : ℕ) (rest : List ℕ) (list : List Value) → On item t at rest list → Done (f (record { at = at; desc = 91 ∷ rest; items = list })))
       → Done (on_items item world.heap v f)
   items_done item v t f (nothing e) done =
@@ -316,19 +316,19 @@ module _ (program : Program) (typing : Typing) (ok : IsTypedProgram program typi
           found None w e = absurd cc
           found (Some place) w e = all_get (λ (x : Value). fits_made program world.heap x (type_described rest) ≡ true) list place w on.all e
 
-    read_with : Two of_here (to_array program item) wants_number taken_types under frame.stack.items → Works (heaps.ReadItem item) frame.stack.items
+    read_with : Two of_here (to_array program item) wants_number taken_types under frame.stack.items → Operates (heaps.ReadItem item) frame.stack.items
     read_with t =
         let n = number_value t.upper (wanted_number program world.heap r.stands.class r.stands.method t.upper t.high_type t.upper_fits t.high_met) in
         let a = array_wanted item t.lower t.low_type t.lower_fits t.low_met in
         let gives : read_type item taken_types ≡ read_of item t.low_type = ap (read_type item) t.taken_are ∙ read_yields item t.low_type t.high_type in
-        subst (Works (heaps.ReadItem item)) (ap (λ (v : Value). v ∷ t.lower ∷ t.below) (sym n.1) ∙ sym t.items_are) (
+        subst (Operates (heaps.ReadItem item)) (ap (λ (v : Value). v ∷ t.lower ∷ t.below) (sym n.1) ∙ sym t.items_are) (
           (tt, items_ready item t.lower t.low_type a),
           items_done item t.lower t.low_type (λ (x : ArrayAt). item_read world x n.0 t.below) a
               (λ at rest list on. read_done t.below t.low_type at rest list n.0 on t.left gives),
         )
 
-    pub read_item_works : Works (heaps.ReadItem item) frame.stack.items
-    read_item_works =
+    pub read_item_operates : Operates (heaps.ReadItem item) frame.stack.items
+    read_item_operates =
         read_with (two_taken of_here (to_array program item) wants_number taken_types under frame.stack.items
         (met_here program typing ok shaped world fit statics frame r (heaps.ReadItem item) shape)
         (split_here program typing ok shaped world fit statics frame r (heaps.ReadItem item) shape))
@@ -420,24 +420,24 @@ module _ (program : Program) (typing : Typing) (ok : IsTypedProgram program typi
     at_place below t at rest list v (Some place) on left is = written_done _ below t at rest list v place on left is refl
 
     write_with : Three of_here (to_array program item) wants_number (to_item program item) taken_types under frame.stack.items
-        → Works (heaps.WriteItem item) frame.stack.items
+        → Operates (heaps.WriteItem item) frame.stack.items
     write_with t =
         let n = number_value t.between (wanted_number program world.heap r.stands.class r.stands.method t.between t.middle_type t.between_fits t.middle_met) in
         let a = array_wanted item t.lower t.low_type t.lower_fits t.low_met in
         let is : fits (item_kind item) t.upper ≡ true = kind_wanted item t.upper t.high_type t.upper_fits t.high_met in
-        let f : Value → ArrayAt → Worked =
+        let f : Value → ArrayAt → HeapResult =
         λ v x. option_map_or (λ (place : ℕ). item_written program world x place v t.below) (place_among (length x.items) n.0) (Some (Err bad_place)) in
         let there : option_and_then (λ (v : Value). on_items item world.heap t.lower (f v)) (cond (fits (item_kind item) t.upper) (Some t.upper) None)
         ≡ on_items item world.heap t.lower (f t.upper) = rw is refl in
-        subst (Works (heaps.WriteItem item)) (ap (λ (v : Value). t.upper ∷ v ∷ t.lower ∷ t.below) (sym n.1) ∙ sym t.items_are) (
+        subst (Operates (heaps.WriteItem item)) (ap (λ (v : Value). t.upper ∷ v ∷ t.lower ∷ t.below) (sym n.1) ∙ sym t.items_are) (
           (is, (tt, items_ready item t.lower t.low_type a)),
           subst Done (sym there)
               (items_done item t.lower t.low_type (f t.upper) a
               (λ at rest list on. at_place t.below t.low_type at rest list t.upper (place_among (length list) n.0) on t.left is)),
         )
 
-    pub write_item_works : Works (heaps.WriteItem item) frame.stack.items
-    write_item_works =
+    pub write_item_operates : Operates (heaps.WriteItem item) frame.stack.items
+    write_item_operates =
         write_with (three_taken of_here (to_array program item) wants_number (to_item program item) taken_types under frame.stack.items
         (met_here program typing ok shaped world fit statics frame r (heaps.WriteItem item) shape)
         (split_here program typing ok shaped world fit statics frame r (heaps.WriteItem item) shape))

@@ -10,7 +10,7 @@ use Rattle.api_listing.specs.declared.descriptor.Element.TheVariants as elements
 use Rattle.api_listing.specs.declared.descriptor.FieldType.{FieldType}
 use Rattle.api_listing.specs.declared.descriptor.MethodType.{MethodType}
 use Rattle.api_listing.specs.declared.types.ListedMethod.{ListedMethod}
-use Rattle.api_listing.specs.Descriptor.{element_spelled, method_type, type_spelled}
+use Rattle.api_listing.specs.Descriptor.{element_encoded, method_type, type_encoded}
 use Rattle.cert_format.specs.declared.typing.Typing.{Typing}
 use Rattle.cert_format.specs.declared.typing.VType.{VType}
 use Rattle.cert_format.specs.declared.typing.VType.TheVariants as types
@@ -50,7 +50,7 @@ use Rattle.typed_runs.proofs.Calls.{Fits, call_here, callers, shared, shared_fit
 use Rattle.typed_runs.proofs.Changed.{ArePassedNumbers}
 use Rattle.typed_runs.proofs.Passed.{Arguments, Passing, Received, none_received, read_type, received_by, receiver_reference, referred_desc, spot}
 use Rattle.typed_runs.proofs.Types.{class_of, just_is_of}
-use Rattle.typed_runs.proofs.Works.{number_value}
+use Rattle.typed_runs.proofs.Operates.{number_value}
 
 -- ---- what is there
 
@@ -84,22 +84,22 @@ module _ (program : Program) (typing : Typing) (ok : IsTypedProgram program typi
   reference_there class method v (types.Uninit at) h e = of_there (new_at method at) v (just_is_of program heap (new_at method at) v h)
 
   -- what fits the type of an argument
-  spelled_there : (dimensions : ℕ) (element : Element) (v : Value)
-      → fits_made program heap v (type_described (replicate dimensions 91 ++ element_spelled element)) ≡ true → is_there heap v ≡ true
-  spelled_there zero elements.Boolean v h = number_there v h
-  spelled_there zero elements.Byte v h = number_there v h
-  spelled_there zero elements.Char v h = number_there v h
-  spelled_there zero elements.Short v h = number_there v h
-  spelled_there zero elements.Int v h = number_there v h
-  spelled_there zero (elements.Class name) v h = named_there _ v h
-  spelled_there (suc n) element v h = named_there _ v h
+  encoded_there : (dimensions : ℕ) (element : Element) (v : Value)
+      → fits_made program heap v (type_described (replicate dimensions 91 ++ element_encoded element)) ≡ true → is_there heap v ≡ true
+  encoded_there zero elements.Boolean v h = number_there v h
+  encoded_there zero elements.Byte v h = number_there v h
+  encoded_there zero elements.Char v h = number_there v h
+  encoded_there zero elements.Short v h = number_there v h
+  encoded_there zero elements.Int v h = number_there v h
+  encoded_there zero (elements.Class name) v h = named_there _ v h
+  encoded_there (suc n) element v h = named_there _ v h
 
-  all_there : (ts : List FieldType) (vs : List Value) → Arguments program typing ok heap vs (map type_spelled ts)
+  all_there : (ts : List FieldType) (vs : List Value) → Arguments program typing ok heap vs (map type_encoded ts)
       → AllByRecursion (λ (v : Value). IsTrue (is_there heap v)) vs
   all_there [] [] p = tt
   all_there [] (v ∷ vs) p = absurd p
   all_there (t ∷ ts) [] p = absurd p
-  all_there (t ∷ ts) (v ∷ vs) p = (spelled_there t.dimensions t.element v p.0, all_there ts vs p.1)
+  all_there (t ∷ ts) (v ∷ vs) p = (encoded_there t.dimensions t.element v p.0, all_there ts vs p.1)
 
   pub arguments_there : (desc : Name) (vs : List Value) → is_ok (method_type desc) ≡ true → Arguments program typing ok heap vs (arguments desc)
       → AllByRecursion (λ (v : Value). IsTrue (is_there heap v)) vs
@@ -109,23 +109,23 @@ module _ (program : Program) (typing : Typing) (ok : IsTypedProgram program typi
 
   -- ---- what the library sees
 
-  spelled_number : (dimensions : ℕ) (element : Element) (v : Value) → ((dimensions == 0) && is_primitive element) ≡ true
-      → fits_made program heap v (type_described (replicate dimensions 91 ++ element_spelled element)) ≡ true → (n : ℤ) × (v ≡ values.Int n)
-  spelled_number zero elements.Boolean v e h = number_value v h
-  spelled_number zero elements.Byte v e h = number_value v h
-  spelled_number zero elements.Char v e h = number_value v h
-  spelled_number zero elements.Short v e h = number_value v h
-  spelled_number zero elements.Int v e h = number_value v h
-  spelled_number zero (elements.Class name) v e h = absurd cc
-  spelled_number (suc n) element v e h = absurd (omega (arith, eqb-true (suc n) 0 (and_parts (suc n == 0) (is_primitive element) e).0))
+  encoded_number : (dimensions : ℕ) (element : Element) (v : Value) → ((dimensions == 0) && is_primitive element) ≡ true
+      → fits_made program heap v (type_described (replicate dimensions 91 ++ element_encoded element)) ≡ true → (n : ℤ) × (v ≡ values.Int n)
+  encoded_number zero elements.Boolean v e h = number_value v h
+  encoded_number zero elements.Byte v e h = number_value v h
+  encoded_number zero elements.Char v e h = number_value v h
+  encoded_number zero elements.Short v e h = number_value v h
+  encoded_number zero elements.Int v e h = number_value v h
+  encoded_number zero (elements.Class name) v e h = absurd cc
+  encoded_number (suc n) element v e h = absurd (omega (arith, eqb-true (suc n) 0 (and_parts (suc n == 0) (is_primitive element) e).0))
 
-  numbers_shown : (ts : List FieldType) (vs : List Value) → Arguments program typing ok heap vs (map type_spelled ts)
+  numbers_shown : (ts : List FieldType) (vs : List Value) → Arguments program typing ok heap vs (map type_encoded ts)
       → ArePassedNumbers ts (values_shown program heap vs)
   numbers_shown [] vs p i t e numbers = absurd cc
   numbers_shown (s ∷ ts) [] p i t e numbers = absurd p
   numbers_shown (s ∷ ts) (v ∷ vs) p zero t e numbers =
       let same : s ≡ t = some_is s t e in
-      let n = spelled_number s.dimensions s.element v (subst (λ (x : FieldType). is_of_numbers x ≡ true) (sym same) numbers) p.0 in
+      let n = encoded_number s.dimensions s.element v (subst (λ (x : FieldType). is_of_numbers x ≡ true) (sym same) numbers) p.0 in
       (n.0, ap (λ (x : Value). Some (value_shown program heap x)) n.1)
   numbers_shown (s ∷ ts) (v ∷ vs) p (suc i) t e numbers = numbers_shown ts vs p.1 i t e numbers
 

@@ -19,7 +19,7 @@ use Rattle.bytecode_model.specs.Heads.{head_of}
 use Rattle.bytecode_model.specs.SearchOrder.{Name}
 use Rattle.bytecode_model.specs.Sound.{IsSoundClass}
 use Rattle.bytecode_model.proofs.Lists.{some_is, all_get}
-use Rattle.bytecode_model.proofs.Upwards.{is_up, up_from, one_named, named_behind, named_passes, named_so, same_of, of_same}
+use Rattle.bytecode_model.proofs.Upwards.{is_up, up_from, one_named, named_after, named_passes, named_so, same_of, of_same}
 use Rattle.guest_model.specs.Layout.{class_given}
 use Rattle.typed_runs.specs.Programs.{IsTypedProgram}
 
@@ -154,7 +154,7 @@ module _ (program : Program) (typing : Typing) (ok : IsTypedProgram program typi
   abbrev pub listed_classes : List ListedClass
   listed_classes = program.listing.classes
 
-  -- the classes behind the built-in ones
+  -- the classes after the built-in ones
   abbrev more_listed : List ListedClass
   more_listed = filter_map class_declared ok.links.listed.said
 
@@ -357,7 +357,7 @@ module _ (program : Program) (typing : Typing) (ok : IsTypedProgram program typi
   pub not_known_found : (name : Name) → is_known listed_classes name ≡ false
       → class_named (classes_of program) name ≡ option_map (λ (c : LinkedClass). head_of c.file) (class_given program name)
   not_known_found name e =
-      named_behind (map (λ (c : LinkedClass). head_of c.file) program.classes) name listed_classes (find_none (λ (c : ListedClass). bytes_eq c.name name) listed_classes e)
+      named_after (map (λ (c : LinkedClass). head_of c.file) program.classes) name listed_classes (find_none (λ (c : ListedClass). bytes_eq c.name name) listed_classes e)
       ∙ heads_named program.classes name ok.links.sound.classes
 
   pub given_head : (own : ℕ) (class : LinkedClass) → slice_get program.classes own ≡ Some class

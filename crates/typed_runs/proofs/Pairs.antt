@@ -30,7 +30,7 @@ module _ {V T : Type 0} (of : V → T → Bool) where
   dropped (x ∷ xs) ys [] p = absurd p
   dropped (x ∷ xs) ys (v ∷ vs) p = dropped xs ys vs p.1
 
-  -- what is left behind so many
+  -- what is left after so many
   pub paired_drop : (n : ℕ) (xs ys : List T) (vs : List V) → length xs ≡ n → Paired of vs (xs ++ ys) → Paired of (drop n vs) ys
   paired_drop n xs ys vs e p = subst (λ (k : ℕ). Paired of (drop k vs) ys) e (dropped xs ys vs p)
 

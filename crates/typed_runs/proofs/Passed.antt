@@ -9,7 +9,7 @@ use Rattle.mon_base.specs.declared.method.MethodId.{MethodId}
 use Rattle.api_listing.specs.declared.descriptor.MethodType.{MethodType}
 use Rattle.api_listing.specs.declared.types.ListedMethod.{ListedMethod}
 use Rattle.api_listing.specs.BuiltIn.{MethodRow}
-use Rattle.api_listing.specs.Descriptor.{method_type, type_spelled}
+use Rattle.api_listing.specs.Descriptor.{method_type, type_encoded}
 use Rattle.api_listing.specs.Fault.{Read}
 use Rattle.cert_format.specs.declared.typing.Typing.{Typing}
 use Rattle.cert_format.specs.declared.typing.VType.{VType}
@@ -103,12 +103,12 @@ pub many_arguments : (desc : List ℕ) → is_ok (method_type desc) ≡ true →
 many_arguments desc e =
     let m = read_type (method_type desc) e in
     let read : types_of desc ≡ m.0 = ap types_read m.1 in
-    ap (λ (t : MethodType). length t.arguments) read ∙ sym (length-map m.0.arguments type_spelled) ∙ sym (ap length (read_so desc m.0 m.1).0)
+    ap (λ (t : MethodType). length t.arguments) read ∙ sym (length-map m.0.arguments type_encoded) ∙ sym (ap length (read_so desc m.0 m.1).0)
 
 -- ---- lists beside one another
 
 module _ {V T : Type 0} (of : V → T → Bool) where
-  -- what stands behind so many, and what it fits
+  -- what stands after so many, and what it fits
   pub record Between (xs ys : List T) (t : T) (n : ℕ) (vs : List V) : Type 0 where
     pub value : V
     pub there : slice_get vs n ≡ Some value

@@ -195,8 +195,8 @@ module _ (program : Program) (typing : Typing) (ok : IsTypedProgram program typi
       let g = given_is program typing ok name class e in
       elim (or_cases (bytes_eq (head_of class.file).name above) (is_up (classes_of program) n (head_of class.file).parent above) up) [
         | inl is ↦ begins_itself name above (sym g.named ∙ sym (given_name program typing ok g.own class g.there) ∙ same_of (head_of class.file).name above is)
-        | inr behind ↦
-            let b = later (subst (λ (p : Name). is_up (classes_of program) n p above ≡ true) (given_parent program typing ok g.own class g.there) behind) in (
+        | inr following ↦
+            let b = later (subst (λ (p : Name). is_up (classes_of program) n p above ≡ true) (given_parent program typing ok g.own class g.there) following) in (
               b.0 ++ own_types class.file,
               ap (field_types program) (sym g.named) ∙ types_given g.own class g.there ∙ ap (λ (l : List VType). l ++ own_types class.file) b.1
                   ∙ append_assoc (field_types program above) b.0 (own_types class.file),

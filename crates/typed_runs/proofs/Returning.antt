@@ -1,4 +1,4 @@
--- Returns: the result fits its type, and the caller goes on behind its call with it, or the thread rests.
+-- Returns: the result fits its type, and the caller goes on after its call with it, or the thread rests.
 use Rattle.std.proofs.Common.{◌≡◌, ℕ, ◌+◌, Bool, true, false, cond, List, [], ◌∷◌, ◌++◌, length, map, reverse, Option, Some, None, refl, sym, ap, subst, ◌∙◌, arith}
 use Rattle.std.specs.Prelude.{bytes_eq, codes}
 use Rattle.std.specs.List.{AllByRecursion}
@@ -41,7 +41,7 @@ use Rattle.typed_runs.specs.Machines.{BeginsRight, CanBegin}
 use Rattle.typed_runs.specs.Programs.{IsTypedProgram}
 use Rattle.typed_runs.proofs.Changed.{ChangeFits, SeesNumbers, WorldFits, event_fits, goes_fits}
 use Rattle.typed_runs.proofs.Entering.{rests_fits}
-use Rattle.typed_runs.proofs.Going.{behind_fits, heap_holds, runs_behind, went}
+use Rattle.typed_runs.proofs.Going.{after_fits, heap_holds, runs_after, went}
 use Rattle.typed_runs.proofs.Pairs.{paired_length}
 use Rattle.typed_runs.proofs.Rows.{rules}
 use Rattle.typed_runs.proofs.Topmost.{one_taken}
@@ -84,7 +84,7 @@ module _ (program : Program) (heap : List Object) (class : LinkedClass) (method 
 -- ---- callers
 
 module _ (program : Program) (typing : Typing) (ok : IsTypedProgram program typing) (heap : List Object) where
-  -- A caller goes on behind its call with the result.
+  -- A caller goes on after its call with the result.
   pub resumed : (frame : Frame) (type : Option VType) (w : IsWaiting program typing heap type frame) (under : List Frame)
       → AreWaiting program typing heap (result_type w.stands.method.desc) under → (result : Option Value) → ResultFits program heap type result
       → (f : Frame) × (after frame (option_to_list result ++ frame.stack.items) ≡ Some f) × AreRunning program typing heap (f ∷ under)
@@ -99,7 +99,7 @@ module _ (program : Program) (typing : Typing) (ok : IsTypedProgram program typi
       let h = heap_holds program heap place s.type (heap_shapes.Call w.how) w.calls frame.locals frame.stack.items (option_to_list result) w.locals w.operands q in (
         moved_to frame (frame.at + 1) frame.locals items,
         went program typing ok heap frame s (frame.at + 1) frame.locals items h,
-        runs_behind program typing ok heap frame s items under (ap ends w.calls) h waiting,
+        runs_after program typing ok heap frame s items under (ap ends w.calls) h waiting,
       )
 
   -- and has room for it
@@ -124,7 +124,7 @@ module _ (program : Program) (typing : Typing) (ok : IsTypedProgram program typi
         long,
         length-append stays pushed,
         length-map (below n s.type.stack) (changed place (taken place s.type)),
-        behind_fits program typing ok heap frame s,
+        after_fits program typing ok heap frame s,
       )
     where
       as_many : (t : Option VType) → length (call_yields t) ≡ many_results t

@@ -38,7 +38,7 @@ use Rattle.bytecode_model.specs.Rules.{
   row_failing,
 }
 use Rattle.bytecode_model.specs.Sound.{IsSoundClass, IsSoundMethod, IsWithin}
-use Rattle.bytecode_model.specs.Standing.{IsStanding}
+use Rattle.bytecode_model.specs.LinkedClasses.{IsLinkedMethod}
 use Rattle.bytecode_model.specs.Targets.{Names}
 use Rattle.bytecode_model.specs.Typed.{frames_in, frames_told, place_at, row_fault}
 use Rattle.frame_types.proofs.Choices.{passed}
@@ -73,9 +73,9 @@ rules_met frames place type e =
     let caught = passed (Caught frames place type) 7 _ successor.1 in
     record { depth = depth.0; operand = operand.0; local = local.0; made = made.0; successor = successor.0; caught = caught.0 }
 
-behind_entry : (b : Bool) (rest : Option ℕ) → cond b (Some 1) rest ≡ None → rest ≡ None
-behind_entry true rest e = absurd cc
-behind_entry false rest e = e
+after_entry : (b : Bool) (rest : Option ℕ) → cond b (Some 1) rest ≡ None → rest ≡ None
+after_entry true rest e = absurd cc
+after_entry false rest e = e
 
 contained : {A : Type 0} (p : A → Bool) (xs : List A) (x : A) → list_all p xs ≡ true → Contains xs x → p x ≡ true
 contained p xs x h c = All-contains (λ y. p y ≡ true) xs x (AllPass-from_list_all p xs h) c
@@ -148,8 +148,8 @@ module _ (program : Program) (typing : Typing) (ok : IsTypedProgram program typi
   method_sound own index class method there here = all_get IsSoundMethod class.methods index method (class_sound own class there).methods here
 
   pub method_stands : (own index : ℕ) (class : LinkedClass) (method : Method) → slice_get program.classes own ≡ Some class
-      → slice_get class.methods index ≡ Some method → IsStanding program class method
-  method_stands own index class method there here = all_get (IsStanding program class) class.methods index method (ok.links.linked.standing own class there).methods here
+      → slice_get class.methods index ≡ Some method → IsLinkedMethod program class method
+  method_stands own index class method there here = all_get (IsLinkedMethod program class) class.methods index method (ok.links.linked.standing own class there).methods here
 
   begins_so : (own index : ℕ) (class : LinkedClass) (method : Method) (insn : Insn) (o : Option FrameType) → slice_get method.insns 0 ≡ Some insn
       → frame_of (frames_in class.methods (frames_told typing own) index) 0 ≡ o
@@ -177,7 +177,7 @@ module _ (program : Program) (typing : Typing) (ok : IsTypedProgram program typi
     row = rw (s.there, s.here, s.next, s.told) refl
 
     pub rules : MeetsRules (frames_at s) (stands_at s) s.type
-    rules = rules_met (frames_at s) (stands_at s) s.type (behind_entry _ _ (sym row ∙ ok.typed frame.class frame.method frame.at))
+    rules = rules_met (frames_at s) (stands_at s) s.type (after_entry _ _ (sym row ∙ ok.typed frame.class frame.method frame.at))
 
     pub is_insn : IsInsn s.insn
     is_insn = all_get IsInsn s.method.insns frame.at s.insn sound.insns s.next

@@ -27,7 +27,7 @@ use Rattle.typed_runs.specs.Machines.{FramesFit, MachineFits, ThreadFits}
 use Rattle.typed_runs.specs.Programs.{IsTypedProgram}
 use Rattle.typed_runs.specs.Runs.{NeverStuck, RunsFit}
 use Rattle.typed_runs.proofs.Able.{can_run}
-use Rattle.typed_runs.proofs.Acting.{CallsWork, frames_fit}
+use Rattle.typed_runs.proofs.Acting.{CallsOperate, frames_fit}
 use Rattle.typed_runs.proofs.Beginning.{start_fits}
 use Rattle.typed_runs.proofs.Called.{call_stepped_fits, can_take}
 use Rattle.typed_runs.proofs.Changed.{ChangeFits, PassesNumbers, WorldFits}
@@ -41,7 +41,7 @@ is_mapped : {A B : Type 0} (f : A → B) (o : Option A) → IsSome o → IsSome 
 is_mapped f None e = e
 is_mapped f (Some x) e = refl
 
-module _ (program : Program) (typing : Typing) (ok : IsTypedProgram program typing) (shaped : UsesAreShaped) (calls_work : CallsWork program typing) where
+module _ (program : Program) (typing : Typing) (ok : IsTypedProgram program typing) (shaped : UsesAreShaped) (calls_operate : CallsOperate program typing) where
   module _ (machine : Machine) (m : MachineFits program typing machine) where
     abbrev Fits : Change → Type 0
     Fits change = ChangeFits program typing machine.heap change
@@ -54,7 +54,7 @@ module _ (program : Program) (typing : Typing) (ok : IsTypedProgram program typi
     module _ (number : ℕ) (thread : Thread) (fits : ThreadFits program typing machine.heap thread) where
       runs_fit_in : (frames : List Frame) → AreRunning program typing machine.heap frames → IfThere Fits (frames_stepped program machine number thread frames)
       runs_fit_in [] r = absurd r
-      runs_fit_in (frame ∷ under) r = frames_fit program typing ok machine m number thread fits.to_begin frame under r.0 r.1 shaped calls_work
+      runs_fit_in (frame ∷ under) r = frames_fit program typing ok machine m number thread fits.to_begin frame under r.0 r.1 shaped calls_operate
 
       doing_fits : (doing : Doing) → FramesFit program typing machine.heap thread.frames doing → (choice : Choice)
           → IfThere Fits (doing_stepped program machine number thread doing choice)
@@ -67,7 +67,7 @@ module _ (program : Program) (typing : Typing) (ok : IsTypedProgram program typi
 
       can_run_in : (frames : List Frame) → AreRunning program typing machine.heap frames → CanRun program machine number thread frames
       can_run_in [] r = absurd r
-      can_run_in (frame ∷ under) r = can_run program typing ok machine m number thread fits.to_begin frame under r.0 r.1 shaped calls_work
+      can_run_in (frame ∷ under) r = can_run program typing ok machine m number thread fits.to_begin frame under r.0 r.1 shaped calls_operate
 
       -- What it needs is there.
       able : (doing : Doing) → FramesFit program typing machine.heap thread.frames doing → (choice : Choice)
@@ -139,15 +139,15 @@ module _ (program : Program) (typing : Typing) (ok : IsTypedProgram program typi
       all_append (PassesNumbers program) (seen program machine step) (trace_from program next steps) (step_seen machine m step)
       (trace_seen steps next (step_kept machine m step))
 
-module _ (shaped : UsesAreShaped) (calls_work : (program : Program) (typing : Typing) → IsTypedProgram program typing → CallsWork program typing) where
+module _ (shaped : UsesAreShaped) (calls_operate : (program : Program) (typing : Typing) → IsTypedProgram program typing → CallsOperate program typing) where
   pub runs_fit : RunsFit
-  runs_fit program typing ok steps = exec_fits program typing ok shaped (calls_work program typing ok) steps (start_of program) (start_fits program typing ok)
+  runs_fit program typing ok steps = exec_fits program typing ok shaped (calls_operate program typing ok) steps (start_of program) (start_fits program typing ok)
 
   pub runs_pass_numbers : (program : Program) (typing : Typing) → IsTypedProgram program typing → (steps : List Step)
       → AllByRecursion (PassesNumbers program) (trace program steps)
   runs_pass_numbers program typing ok steps =
-      trace_seen program typing ok shaped (calls_work program typing ok) steps (start_of program) (start_fits program typing ok)
+      trace_seen program typing ok shaped (calls_operate program typing ok) steps (start_of program) (start_fits program typing ok)
 
   pub never_stuck : EnabledIsMade → NeverStuck
   never_stuck law program typing ok steps step enabled =
-      made program typing ok shaped (calls_work program typing ok) _ (runs_fit program typing ok steps) law step enabled
+      made program typing ok shaped (calls_operate program typing ok) _ (runs_fit program typing ok steps) law step enabled

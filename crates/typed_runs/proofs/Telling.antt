@@ -5,8 +5,8 @@ use Rattle.std.specs.List.{AllByRecursion}
 use Rattle.api_listing.specs.declared.descriptor.MethodType.{MethodType}
 use Rattle.api_listing.specs.declared.types.ListedMethod.{ListedMethod}
 use Rattle.api_listing.specs.declared.types.Listing.{Listing}
-use Rattle.api_listing.specs.Descriptor.{SpellsDescriptor}
-use Rattle.api_listing.specs.Listing.{SpellsListing}
+use Rattle.api_listing.specs.Descriptor.{EncodesDescriptor}
+use Rattle.api_listing.specs.Listing.{EncodesListing}
 use Rattle.api_listing.proofs.DescriptorLaws.{method_found}
 use Rattle.conspec_tree.specs.declared.types.TreeClause.{TreeClause}
 use Rattle.conspec_tree.specs.Kinds.{kind_of}
@@ -16,22 +16,22 @@ use Rattle.guest_model.specs.Calls.{types_of, types_read}
 use Rattle.typed_runs.specs.Formed.{PoliciesTellTypes, TellsTypes}
 use Rattle.typed_runs.proofs.Declared.{listed_method}
 
-module _ (text : List ℕ) (listing : Listing) (spelled : SpellsListing text listing) where
-  -- The descriptor of a listed method spells the types that are read of it.
-  spells_types : (index : ℕ) (method : ListedMethod) → slice_get listing.methods index ≡ Some method
-      → (types : MethodType) × (types_of method.id.desc ≡ types) × SpellsDescriptor method.id.desc types
-  spells_types index method there =
-      let m = listed_method text listing spelled index method there in
+module _ (text : List ℕ) (listing : Listing) (encoded : EncodesListing text listing) where
+  -- The descriptor of a listed method encodes the types that are read of it.
+  encodes_types : (index : ℕ) (method : ListedMethod) → slice_get listing.methods index ≡ Some method
+      → (types : MethodType) × (types_of method.id.desc ≡ types) × EncodesDescriptor method.id.desc types
+  encodes_types index method there =
+      let m = listed_method text listing encoded index method there in
       (m.0, ap types_read m.1, method_found method.id.desc m.0 m.1)
 
   clause_tells : (maxint : ℤ) (clause : TreeClause) → ClauseTellsKinds listing clause → ClauseTellsResult listing clause
       → TellsTypes listing (clause_built maxint clause)
   clause_tells maxint clause kinds results = record {
     args = λ method there.
-        let s = spells_types clause.method method there in
+        let s = encodes_types clause.method method there in
         kinds method s.0 there s.2 ∙ ap (λ (t : MethodType). map kind_of t.arguments) (sym s.1);
     result = λ method there.
-        let s = spells_types clause.method method there in
+        let s = encodes_types clause.method method there in
         results method s.0 there s.2 ∙ ap (λ (t : MethodType). option_map kind_of t.result) (sym s.1);
   }
 
@@ -42,4 +42,4 @@ module _ (text : List ℕ) (listing : Listing) (spelled : SpellsListing text lis
       (clause_tells maxint clause kinds.0 results.0, clauses_tell maxint clauses kinds.1 results.1)
 
 pub policies_tell_types : PoliciesTellTypes
-policies_tell_types text listing tree spelled kinds results = clauses_tell text listing spelled tree.maxint tree.clauses kinds results
+policies_tell_types text listing tree encoded kinds results = clauses_tell text listing encoded tree.maxint tree.clauses kinds results

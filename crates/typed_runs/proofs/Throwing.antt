@@ -43,7 +43,7 @@ use Rattle.typed_runs.specs.Programs.{IsTypedProgram}
 use Rattle.typed_runs.proofs.Above.{below_fits}
 use Rattle.typed_runs.proofs.Changed.{ChangeFits, SeesNumbers, WorldFits, ended_fits}
 use Rattle.typed_runs.proofs.Going.{locals_widen}
-use Rattle.typed_runs.proofs.Growing.{all_waiting_grown, grows_behind, grows_on, statics_grown, type_grown}
+use Rattle.typed_runs.proofs.Growing.{all_waiting_grown, grows_after, grows_on, statics_grown, type_grown}
 use Rattle.typed_runs.proofs.Pairs.{Widens, paired_also, places_widen, widened}
 use Rattle.typed_runs.proofs.Rows.{caught_by, method_is, moved_stands}
 use Rattle.typed_runs.proofs.Thrown.{IsThrown, new_is_thrown, new_thrown_fits}
@@ -173,7 +173,7 @@ module _ (program : Program) (typing : Typing) where
         → IsTrue (may_throw program class) → ChangeFits program typing heap (throws_new program world number thread frames class event)
     throws_new_fits heap world number thread frames class event seen fits later left may =
         let new = world.heap ++ bare_object class ∷ [] in
-        let grows = grows_behind world.heap (bare_object class ∷ []) in
+        let grows = grows_after world.heap (bare_object class ∷ []) in
         throws_fits heap _ number thread frames (values.Ref (length world.heap)) class event seen
         (record {
           grows = grows_on heap world.heap new fits.grows grows;

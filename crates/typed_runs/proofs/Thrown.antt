@@ -25,11 +25,11 @@ use Rattle.guest_model.specs.Throwing.{bare_object}
 use Rattle.guest_model.specs.Calling.{second_start}
 use Rattle.guest_model.specs.Kinds.{class_of_object, class_of_value}
 use Rattle.guest_model.specs.Layout.{class_given}
-use Rattle.guest_model.specs.Working.{bad_cast, bad_division, bad_item, bad_place, bad_size}
+use Rattle.guest_model.specs.HeapOperations.{bad_cast, bad_division, bad_item, bad_place, bad_size}
 use Rattle.typed_runs.specs.Fitting.{HeapFits, ObjectFits, field_types, fits_made, is_of, types_up}
 use Rattle.typed_runs.specs.Programs.{IsTypedProgram}
 use Rattle.typed_runs.proofs.Above.{below_fits}
-use Rattle.typed_runs.proofs.Growing.{get_behind, heap_behind}
+use Rattle.typed_runs.proofs.Growing.{get_after, heap_after}
 use Rattle.typed_runs.proofs.Listed.{known_apart, known_not_given}
 use Rattle.typed_runs.proofs.Types.{of_class}
 use Rattle.typed_runs.proofs.Within.{among}
@@ -102,12 +102,12 @@ module _ (program : Program) (typing : Typing) (ok : IsTypedProgram program typi
   new_is_thrown heap class may =
       let new = heap ++ bare_object class ∷ [] in
       let is : class_of_value new (values.Ref (length heap)) ≡ Some class =
-      ap (option_map class_of_object) (get_behind heap (bare_object class) []) in
+      ap (option_map class_of_object) (get_after heap (bare_object class) []) in
       let below = (and_parts (is_known program.listing.classes class) (is_below program class throwable) may).1 in
       record { class_is = is; thrown = of_class program new class throwable (values.Ref (length heap)) is (below_fits program typing ok class throwable below) }
 
   pub new_thrown_fits : (heap : List Object) (class : Name) → HeapFits program heap → IsTrue (may_throw program class)
       → HeapFits program (heap ++ bare_object class ∷ [])
   new_thrown_fits heap class all may =
-      heap_behind program heap (bare_object class) all
+      heap_after program heap (bare_object class) all
       (bare_fits (heap ++ bare_object class ∷ []) class (and_parts (is_known program.listing.classes class) (is_below program class throwable) may).0)

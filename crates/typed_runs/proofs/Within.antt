@@ -9,7 +9,7 @@ use Rattle.insn_codec.specs.declared.insn.Insn.TheVariants as insns
 use Rattle.insn_codec.specs.Control.{jump_targets, successors}
 use Rattle.insn_codec.specs.Fits.{AimsWithin, Ends}
 use Rattle.insn_codec.specs.Opcodes.{goes_on}
-use Rattle.insn_codec.specs.Spelling.{opcode_of}
+use Rattle.insn_codec.specs.Encoding.{opcode_of}
 
 -- what holds of each holds of one of them
 pub among : {A : Type 0} (P : A → Type 0) (xs : List A) (x : A) → AllByRecursion P xs → Contains xs x → P x
@@ -19,15 +19,15 @@ among P xs x all has = at_place P xs x has.0 all has.1 has.2 where
   at_place P (y ∷ xs) x zero all within is = subst P is all.0
   at_place P (y ∷ xs) x (suc i) all within is = at_place P xs x i all.1 (omega (arith, within)) is
 
--- behind an instruction behind which control goes on
-behind_within : (list : List Insn) (at : ℕ) (insn : Insn) → Ends list → slice_get list at ≡ Some insn → goes_on (opcode_of insn) ≡ true → at + 1 < length list
-behind_within [] at insn ends there goes = absurd cc
-behind_within (last ∷ []) zero insn ends there goes =
+-- after an instruction after which control goes on
+after_within : (list : List Insn) (at : ℕ) (insn : Insn) → Ends list → slice_get list at ≡ Some insn → goes_on (opcode_of insn) ≡ true → at + 1 < length list
+after_within [] at insn ends there goes = absurd cc
+after_within (last ∷ []) zero insn ends there goes =
     let same : last ≡ insn = cc in
     absurd (true≢false (sym goes ∙ ap (λ (i : Insn). goes_on (opcode_of i)) (sym same) ∙ ends))
-behind_within (last ∷ []) (suc at) insn ends there goes = absurd cc
-behind_within (first ∷ next ∷ others) zero insn ends there goes = omega arith
-behind_within (first ∷ next ∷ others) (suc at) insn ends there goes = omega (arith, behind_within (next ∷ others) at insn ends there goes)
+after_within (last ∷ []) (suc at) insn ends there goes = absurd cc
+after_within (first ∷ next ∷ others) zero insn ends there goes = omega arith
+after_within (first ∷ next ∷ others) (suc at) insn ends there goes = omega (arith, after_within (next ∷ others) at insn ends there goes)
 
 targets_within : (n : ℕ) (insn : Insn) → AimsWithin n insn → AllByRecursion (λ to. to < n) (jump_targets insn)
 targets_within n (insns.Branch op to) aims = (aims, tt)
@@ -53,6 +53,6 @@ pub successor_within : (list : List Insn) (at : ℕ) (insn : Insn) → Ends list
     → slice_get list at ≡ Some insn → AimsWithin (length list) insn → (to : ℕ) → Contains (successors at insn) to → to < length list
 successor_within list at insn ends each there aims to has =
     elim (Contains-append_cases (cond (goes_on (opcode_of insn)) ((at + 1) ∷ []) []) (jump_targets insn) to has) [
-      | inl next ↦ next_among (goes_on (opcode_of insn)) (length list) at to (behind_within list at insn ends there) next
+      | inl next ↦ next_among (goes_on (opcode_of insn)) (length list) at to (after_within list at insn ends there) next
       | inr jump ↦ among (λ (k : ℕ). k < length list) (jump_targets insn) to (targets_within (length list) insn aims) jump
     ]

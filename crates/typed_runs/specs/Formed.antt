@@ -4,7 +4,7 @@ use Rattle.std.specs.Prelude.{◌≡◌, ℕ, List, map, Some, option_map, slice
 use Rattle.std.specs.List.{AllByRecursion}
 use Rattle.api_listing.specs.declared.types.ListedMethod.{ListedMethod}
 use Rattle.api_listing.specs.declared.types.Listing.{Listing}
-use Rattle.api_listing.specs.Listing.{SpellsListing}
+use Rattle.api_listing.specs.Listing.{EncodesListing}
 use Rattle.cert_format.specs.declared.typing.Typing.{Typing}
 use Rattle.bytecode_model.specs.declared.program.Program.{Program}
 use Rattle.conspec_tree.specs.declared.types.PolicyTree.{PolicyTree}
@@ -37,6 +37,6 @@ SeesWellFormed =
 -- arguments and of the results.
 abbrev pub PoliciesTellTypes : Type 0
 PoliciesTellTypes =
-    (text : List ℕ) (listing : Listing) (tree : PolicyTree) → SpellsListing text listing
+    (text : List ℕ) (listing : Listing) (tree : PolicyTree) → EncodesListing text listing
     → TellsKinds listing tree → TellsResults listing tree
     → AllByRecursion (TellsTypes listing) (built tree).clauses

@@ -1,13 +1,13 @@
 -- The programs that the laws are about: those that files link to, with a listing that was read and a typing that meets the rules.
 -- (docs/MACHINE.md)
 use Rattle.std.specs.Prelude.{List, ℕ}
-use Rattle.api_listing.specs.Listing.{SpellsListing}
+use Rattle.api_listing.specs.Listing.{EncodesListing}
 use Rattle.cert_format.specs.declared.typing.Typing.{Typing}
 use Rattle.bytecode_model.specs.declared.program.Program.{Program}
 use Rattle.bytecode_model.specs.declared.program.Side.{Side}
 use Rattle.bytecode_model.specs.Order.{IsInOrder}
 use Rattle.bytecode_model.specs.Sound.{IsSound}
-use Rattle.bytecode_model.specs.Standing.{IsLinkedOf}
+use Rattle.bytecode_model.specs.LinkedClasses.{IsLinkedOf}
 use Rattle.bytecode_model.specs.Typed.{IsTyped}
 
 -- Class files link to the program, over a listing that was read.
@@ -15,7 +15,7 @@ pub record IsLinkedProgram (program : Program) : Type 0 where
   pub side : Side
   pub main : List ℕ
   pub text : List ℕ
-  pub listed : SpellsListing text program.listing
+  pub listed : EncodesListing text program.listing
   pub linked : IsLinkedOf side program.listing main program
   pub sound : IsSound program
   pub order : IsInOrder program

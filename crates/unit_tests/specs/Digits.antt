@@ -1,4 +1,4 @@
--- Bytes spelled in hexadecimal digits.
+-- Bytes encoded in hexadecimal digits.
 use Rattle.std.specs.Prelude.{ℕ, ◌+◌, ◌-◌, ◌*◌, ◌&&◌, nat_le, List, [], ◌∷◌, if◌then◌else◌}
 
 -- the value of a digit; that of another character is 0
@@ -8,7 +8,7 @@ digit c =
     else if nat_le 97 c && nat_le c 102 then c - 97 + 10
     else 0
 
--- the bytes that pairs of digits spell
-abbrev pub spelled : List ℕ → List ℕ
-spelled (high ∷ low ∷ rest) = (16 * digit high + digit low) ∷ spelled rest
-spelled other = []
+-- the bytes that pairs of digits encode
+abbrev pub encoded : List ℕ → List ℕ
+encoded (high ∷ low ∷ rest) = (16 * digit high + digit low) ∷ encoded rest
+encoded other = []

@@ -2,13 +2,13 @@
 
 ghost use Rattle.std.specs.Prelude.{◌≡◌, ◌++◌, ◌<◌, IfOk, OnOk};
 ghost use Rattle.std.specs.List.{flat_map};
-ghost use Rattle.unit_tests.specs.Digits.{digit, spelled};
+ghost use Rattle.unit_tests.specs.Digits.{digit, encoded};
 
 use std::alloc::{AllocError, Global};
 
-/// The bytes that the lines spell, one line behind the other.
+/// The bytes that the lines encode, one line after the other.
 pub fn bytes_of(alloc: Global, lines: &[&str]) -> Result<Vec<u8>, AllocError>
-    ensures { IfOk result (λ bytes. bytes.items ≡ flat_map (λ line. spelled line.now) lines.now) }
+    ensures { IfOk result (λ bytes. bytes.items ≡ flat_map (λ line. encoded line.now) lines.now) }
 {
     let mut bytes = Vec::new(alloc);
     for line in lines {
@@ -17,9 +17,9 @@ pub fn bytes_of(alloc: Global, lines: &[&str]) -> Result<Vec<u8>, AllocError>
     Ok(bytes)
 }
 
-/// Appends the bytes that the line spells.
+/// Appends the bytes that the line encodes.
 fn push_line(bytes: &mut Vec<u8>, line: &[u8]) -> Result<(), AllocError>
-    ensures { OnOk result (bytes.new.items ≡ bytes.old.items ++ spelled line.now) }
+    ensures { OnOk result (bytes.new.items ≡ bytes.old.items ++ encoded line.now) }
 {
     let mut left = line;
     while let [high, low, rest @ ..] = left {

@@ -121,7 +121,7 @@ module _ (classes : List ListedClass) (unnamed : class_named classes [] ≡ None
       let rest = climbs (before ++ c ∷ []) more after (split ∙ sym (append_assoc before (c ∷ []) (more ++ after))) here.1 next name in
       subst (λ (xs : List ListedClass). is_known xs name ≡ true → Ends (length xs) classes name) same rest known
 
--- The given classes stand behind the listed ones, and the way up leaves them.
+-- The given classes stand after the listed ones, and the way up leaves them.
 module _ (listed heads : List ListedClass) (low : (name : List ℕ) → is_known listed name ≡ true → Ends (length listed) (listed ++ heads) name) where
   low_or : (k : ℕ) (name : List ℕ) → (class_named (listed ++ heads) name ≡ class_named heads name → Ends (length listed + k) (listed ++ heads) name) → Ends (length listed + k) (listed ++ heads) name
   low_or k name given =

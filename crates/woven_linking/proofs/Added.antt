@@ -1,4 +1,4 @@
--- What is known, searched, declared and written down in a program stays the same with conspec/State behind its classes.
+-- What is known, searched, declared and written down in a program stays the same with conspec/State after its classes.
 use Rattle.std.proofs.Common.{◌≡◌, ◌≢◌, ℕ, suc, ◌+◌, Bool, true, false, ◌||◌, ◌&&◌, List, [], ◌∷◌, ◌++◌, length, map, Option, Some, None, Ok, refl, sym, ap, subst, ◌∙◌, append_assoc, append-nil, arith}
 use Rattle.std.specs.Prelude.{◌<◌, ◌≤◌, ◌^◌, bytes_eq, not, slice_get, if◌then◌else◌}
 use Rattle.std.specs.List.{AllByRecursion, list_all}
@@ -9,7 +9,7 @@ use Rattle.std.proofs.lemmas.List.Folds.{find-append, list_any-append}
 use Rattle.class_codec.specs.declared.tree.ClassFile.{ClassFile}
 use Rattle.class_codec.specs.declared.tree.Const.{Const}
 use Rattle.class_codec.specs.declared.tree.Member.{Member}
-use Rattle.class_codec.specs.Fits.{CanSpell}
+use Rattle.class_codec.specs.Fits.{IsEncodable}
 use Rattle.api_listing.specs.declared.types.ListedClass.{ListedClass}
 use Rattle.api_listing.specs.declared.types.ListedMethod.{ListedMethod}
 use Rattle.api_listing.specs.declared.types.Listing.{Listing}
@@ -188,7 +188,7 @@ indices_other pool (i ∷ is) free = (class_free pool i free, indices_other pool
 
 -- ---- the program
 
-module _ (vars : List Var) (few_vars : length vars ≤ 16) (listing : Listing) (l : IsListed listing) (olds news : List ClassFile) (fits : AllByRecursion CanSpell olds) (kept : Each IsKept olds news)
+module _ (vars : List Var) (few_vars : length vars ≤ 16) (listing : Listing) (l : IsListed listing) (olds news : List ClassFile) (fits : AllByRecursion IsEncodable olds) (kept : Each IsKept olds news)
     (good : classes_linked sides.Original (heads_of olds) listing.classes olds ≡ Ok tt) where
   abbrev heads : List ListedClass
   heads = heads_of olds

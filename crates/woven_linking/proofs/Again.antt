@@ -15,9 +15,9 @@ use Rattle.insn_codec.specs.declared.insn.Insn.{Insn}
 use Rattle.insn_codec.specs.declared.insn.Insn.TheVariants.{Plain, Byte, Short, Ldc, Pool, Iface, Local, Inc, Branch, GotoW, NewArray, Table, Lookup}
 use Rattle.insn_codec.specs.Fits.{IsInsn, AimsWithin, Ends, Reaches, ReachFrom}
 use Rattle.insn_codec.specs.Reading.{code_of}
-use Rattle.insn_codec.specs.Spelling.{size, offset, starts_of, len_from, spelling}
+use Rattle.insn_codec.specs.Encoding.{size, offset, starts_of, len_from, encoding}
 use Rattle.insn_codec.specs.Writing.{held_by_2, held_by_4, near, far, all_far, reach, reach_from, written}
-use Rattle.insn_codec.proofs.CodeLaws.{spelled_code}
+use Rattle.insn_codec.proofs.CodeLaws.{encoded_code}
 use Rattle.bytecode_model.specs.declared.program.Method.{Method}
 use Rattle.class_linking.proofs.Lengths.{count_len}
 use Rattle.bytecode_model.specs.Sound.{IsSoundMethod}
@@ -90,19 +90,19 @@ insns_held starts at (x ∷ xs) e =
     let one = bind_ok (reach starts at x) (λ _. reach_from starts (at + size at x) xs) tt e in
     (insn_held starts at x one.1, insns_held starts (at + size at x) xs one.2)
 
--- what is written reaches its targets, and is the spelling
-written_reaches : (xs : List Insn) (bytes : List ℕ) → written xs ≡ Ok bytes → ReachFrom (starts_of xs) 0 xs × (spelling xs ≡ bytes)
+-- what is written reaches its targets, and is the encoding
+written_reaches : (xs : List Insn) (bytes : List ℕ) → written xs ≡ Ok bytes → ReachFrom (starts_of xs) 0 xs × (encoding xs ≡ bytes)
 unfolding written
 written_reaches xs bytes e =
-    let one = need_ok (nat_le (len_from 0 xs) 65535) (overflows.Length (len_from 0 xs)) (λ short. reach_from (starts_of xs) 0 xs >>= λ held. Ok (spelling xs)) bytes e in
-    let two = bind_ok (reach_from (starts_of xs) 0 xs) (λ held. Ok (spelling xs)) bytes one.1 in
-    (insns_held (starts_of xs) 0 xs two.1, ok_is CodeOverflow (spelling xs) bytes two.2)
+    let one = need_ok (nat_le (len_from 0 xs) 65535) (overflows.Length (len_from 0 xs)) (λ short. reach_from (starts_of xs) 0 xs >>= λ held. Ok (encoding xs)) bytes e in
+    let two = bind_ok (reach_from (starts_of xs) 0 xs) (λ held. Ok (encoding xs)) bytes one.1 in
+    (insns_held (starts_of xs) 0 xs two.1, ok_is CodeOverflow (encoding xs) bytes two.2)
 
 -- what is written of instructions that aim within themselves is read again
 written_reads : (xs : List Insn) (bytes : List ℕ) → AllByRecursion IsInsn xs → AllByRecursion (AimsWithin (length xs)) xs → Ends xs → written xs ≡ Ok bytes → code_of bytes ≡ Ok xs
 written_reads xs bytes each aims ends e =
     let h = written_reaches xs bytes e in
-    spelled_code bytes xs (record { fits = record { each = each; targets = aims; offsets = h.0; ends = ends }; is = sym h.1 })
+    encoded_code bytes xs (record { fits = record { each = each; targets = aims; offsets = h.0; ends = ends }; is = sym h.1 })
 
 -- ---- a code with blocks
 

@@ -8,7 +8,7 @@ use Rattle.class_codec.specs.declared.tree.Const.{Const}
 use Rattle.insn_codec.specs.declared.insn.Insn.{Insn}
 use Rattle.insn_codec.specs.declared.insn.Insn.TheVariants as insns
 use Rattle.insn_codec.specs.Opcodes.{goes_on}
-use Rattle.insn_codec.specs.Spelling.{opcode_of}
+use Rattle.insn_codec.specs.Encoding.{opcode_of}
 use Rattle.insn_codec.specs.Fits.{AimsWithin, Ends}
 use Rattle.bytecode_model.specs.declared.program.Target.{Target}
 use Rattle.offset_patch.specs.declared.block.Block.{Block}
@@ -32,11 +32,11 @@ last_rest : (site : Option Block) (sites : List (Option Block)) → LastAlone (s
 last_rest site [] h = tt
 last_rest site (next ∷ sites) h = h
 
--- Control goes on behind a call of a listed method.
+-- Control goes on after a call of a listed method.
 abbrev pub GoesOn : Insn → Target → Type 0
 GoesOn x t = IsListedCall t → goes_on (opcode_of x) ≡ true
 
--- control does not go on behind the last instruction, so it calls nothing that has a block
+-- control does not go on after the last instruction, so it calls nothing that has a block
 pub last_alone : (kinds : List Bool) (plan : Plan) → IsGood kinds plan → (base : ℕ) (own : List Insn) (refs : List Target) → Ends own → Each GoesOn own refs → LastAlone (map (plan.block base) refs)
 last_alone kinds plan good base [] [] ends h = tt
 last_alone kinds plan good base [] (t ∷ refs) ends h = absurd h
@@ -111,7 +111,7 @@ aims fronts size m f (insns.Inc slot by wide) h = tt
 aims fronts size m f (insns.NewArray kind) h = tt
 
 module _ (pool : List Const) (fronts : List ℕ) (begin : ℕ) (own : Insn) (m : ℕ) (aim : AimsWithin m (aimed fronts own)) where
-  -- a jump goes to an instruction of the block, or to what stands behind it
+  -- a jump goes to an instruction of the block, or to what stands after it
   put_aims : (count : ℕ) → begin + count < m → (x : BlockInsn) → JumpsWithin count x → AimsWithin m (put pool fronts begin own x)
   put_aims count few (Plain op) j = tt
   put_aims count few (Byte n) j = tt
@@ -147,11 +147,11 @@ spliced_aims pool own sites same h last s =
 
 -- ---- the end
 
-ends_behind : (xs ys : List Insn) → 1 ≤ length ys → Ends ys → Ends (xs ++ ys)
-ends_behind [] ys some h = h
-ends_behind (x ∷ []) [] some h = absurd (omega arith)
-ends_behind (x ∷ []) (y ∷ ys) some h = h
-ends_behind (x ∷ next ∷ xs) ys some h = ends_behind (next ∷ xs) ys some h
+ends_after : (xs ys : List Insn) → 1 ≤ length ys → Ends ys → Ends (xs ++ ys)
+ends_after [] ys some h = h
+ends_after (x ∷ []) [] some h = absurd (omega arith)
+ends_after (x ∷ []) (y ∷ ys) some h = h
+ends_after (x ∷ next ∷ xs) ys some h = ends_after (next ∷ xs) ys some h
 
 same_opcode : (fronts : List ℕ) (x : Insn) → opcode_of (aimed fronts x) ≡ opcode_of x
 same_opcode fronts (insns.Branch op to) = refl
@@ -181,7 +181,7 @@ parts_end pool fronts begin (insn ∷ next ∷ own) (site ∷ other ∷ sites) e
     let after = begin + length (part_of site) in
     let later = parts_from pool fronts after (next ∷ own) (other ∷ sites) in
     let count = parts_many pool fronts after (next ∷ own) (other ∷ sites) (omega arith) in
-    ends_behind here later (omega (arith, count, part_some other s.1.0)) (parts_end pool fronts after (next ∷ own) (other ∷ sites) (omega arith) h last s.1)
+    ends_after here later (omega (arith, count, part_some other s.1.0)) (parts_end pool fronts after (next ∷ own) (other ∷ sites) (omega arith) h last s.1)
 
 pub spliced_ends : (pool : List Const) (own : List Insn) (sites : List (Option Block)) → length sites ≡ length own → Ends own → LastAlone sites → AllByRecursion IsSite sites
     → Ends (spliced pool own sites)

@@ -41,7 +41,7 @@ abbrev pub class_with : Plan → ℕ → LinkedClass → ClassFile → LinkedCla
 class_with plan state class file =
     record { name = class.name; parent = class.parent; file = file; methods = map (method_with plan state file.pool) class.methods }
 
--- the classes with their files, and behind them conspec/State
+-- the classes with their files, and after them conspec/State
 abbrev pub classes_with : Plan → ℕ → List LinkedClass → List ClassFile → List LinkedClass
 classes_with plan state [] [] = []
 classes_with plan state [] (file ∷ files) = state_with file ∷ []

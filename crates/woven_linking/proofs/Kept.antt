@@ -1,4 +1,4 @@
--- What weaving keeps of a class file: all but codes. The constants that it adds stand behind the others, and none of them
+-- What weaving keeps of a class file: all but codes. The constants that it adds stand after the others, and none of them
 -- is a string.
 use Rattle.std.proofs.Common.{◌≡◌, ℕ, suc, List, [], ◌∷◌, ◌++◌, length, map, Option, Some, None, Ok, refl, sym, ap, subst, ◌∙◌, append_assoc, append-nil}
 use Rattle.std.specs.Prelude.{slice_get, codes, ⊤}
@@ -36,7 +36,7 @@ abbrev pub IsPlain : Const → Type 0
 IsPlain (constants.Str text) = ⊥
 IsPlain other = ⊤
 
--- The new pool has constants behind the old one's, and no string is among them.
+-- The new pool has constants after the old one's, and no string is among them.
 pub record IsLonger (old new : List Const) : Type 0 where
   pub more : List Const
   pub is : new ≡ old ++ more

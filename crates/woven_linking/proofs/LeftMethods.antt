@@ -1,4 +1,4 @@
--- A class leaves the same methods to the library with conspec/State behind the classes, which is no interface and has no method.
+-- A class leaves the same methods to the library with conspec/State after the classes, which is no interface and has no method.
 use Rattle.std.proofs.Common.{◌≡◌, ℕ, zero, suc, ◌+◌, Bool, true, false, ◌||◌, ◌&&◌, List, [], ◌∷◌, ◌++◌, length, map, Option, Some, None, refl, sym, ap, ap₂, ◌∙◌, arith}
 use Rattle.std.specs.Prelude.{bytes_eq, filter, find, not, if◌then◌else◌, is_some, option_and_then, option_map, slice_get}
 use Rattle.std.specs.List.{AllByRecursion, flat_map}
@@ -9,7 +9,7 @@ use Rattle.mon_base.specs.declared.method.MethodId.{MethodId}
 use Rattle.class_codec.specs.declared.tree.ClassFile.{ClassFile}
 use Rattle.class_codec.specs.declared.tree.Const.{Const}
 use Rattle.class_codec.specs.declared.tree.Member.{Member}
-use Rattle.class_codec.specs.Fits.{CanSpell, FitsMember}
+use Rattle.class_codec.specs.Fits.{IsEncodable, FitsMember}
 use Rattle.api_listing.specs.declared.types.ListedClass.{ListedClass}
 use Rattle.api_listing.specs.declared.types.Listing.{Listing}
 use Rattle.api_listing.specs.Listing.{is_known}
@@ -42,9 +42,9 @@ flat_same : {X Y : Type 0} (f g : X → List Y) → ((x : X) → f x ≡ g x) �
 flat_same f g same [] = refl
 flat_same {Y = Y} f g same (x ∷ xs) = ap₂ (λ (ys zs : List Y). ys ++ zs) (same x) (flat_same f g same xs)
 
-none_behind : {X : Type 0} (xs : List X) → slice_get xs (length xs) ≡ None
-none_behind [] = refl
-none_behind (x ∷ xs) = none_behind xs
+none_after : {X : Type 0} (xs : List X) → slice_get xs (length xs) ≡ None
+none_after [] = refl
+none_after (x ∷ xs) = none_after xs
 
 -- ---- what interfaces ask for
 
@@ -74,7 +74,7 @@ asked_in name file = option_map_or (asked_by name) (option_and_then if_interface
 abbrev asked_from : List ClassFile → Name → Option ℕ → List MethodId
 asked_from files name place = option_map_or (asked_by name) (option_and_then (λ (at : ℕ). option_and_then if_interface (slice_get files at)) place) []
 
-file_asks : (name : Name) (old new : ClassFile) → CanSpell old → IsKept old new → asked_in name (Some new) ≡ asked_in name (Some old)
+file_asks : (name : Name) (old new : ClassFile) → IsEncodable old → IsKept old new → asked_in name (Some new) ≡ asked_in name (Some old)
 file_asks name old new fits k =
     ap (λ (flags : ℕ). option_map_or (asked_by name) (if is_interface flags then Some new else None) []) k.flags
     ∙ by (is_interface old.flags) (asked_kept name old.pool new.pool k.longer old.methods new.methods fits.methods.each k.methods) where
@@ -82,7 +82,7 @@ file_asks name old new fits k =
       by true same = same
       by false same = refl
 
-asked_at : (name : Name) (vars : List Var) (olds news : List ClassFile) → AllByRecursion CanSpell olds → Each IsKept olds news
+asked_at : (name : Name) (vars : List Var) (olds news : List ClassFile) → AllByRecursion IsEncodable olds → Each IsKept olds news
     → (at : ℕ) → asked_in name (slice_get (news ++ state_file vars ∷ []) at) ≡ asked_in name (slice_get olds at)
 asked_at name vars [] [] fits kept zero = refl
 asked_at name vars [] [] fits kept (suc at) = refl
@@ -117,7 +117,7 @@ open_at vars (old ∷ olds) (new ∷ news) kept (suc class) index = open_at vars
 
 -- ---- what is left
 
-module _ (vars : List Var) (listing : Listing) (olds news : List ClassFile) (fits : AllByRecursion CanSpell olds) (kept : Each IsKept olds news)
+module _ (vars : List Var) (listing : Listing) (olds news : List ClassFile) (fits : AllByRecursion IsEncodable olds) (kept : Each IsKept olds news)
     (new_heads : heads_of (news ++ state_file vars ∷ []) ≡ heads_of olds ++ state_head ∷ []) (methods : methods_declared (news ++ state_file vars ∷ []) listing ≡ methods_declared olds listing) where
   abbrev new_files : List ClassFile
   new_files = news ++ state_file vars ∷ []
@@ -131,7 +131,7 @@ module _ (vars : List Var) (listing : Listing) (olds news : List ClassFile) (fit
       ∙ by (class_place (heads_of olds) name) (bytes_eq state_head.name name) where
         by : (at : Option ℕ) (b : Bool) → asked_from new_files name (option_or at (if b then Some (length olds) else None)) ≡ asked_from olds name at
         by (Some at) b = asked_at name vars olds news fits kept at
-        by None true = asked_at name vars olds news fits kept (length olds) ∙ ap (asked_in name) (none_behind olds)
+        by None true = asked_at name vars olds news fits kept (length olds) ∙ ap (asked_in name) (none_after olds)
         by None false = refl
 
   open_same : (t : Target) → is_open_to_all new_files t ≡ is_open_to_all olds t

@@ -1,4 +1,4 @@
--- What holds of the listing that a text spells: each class is below one before it, and none is the tool's own.
+-- What holds of the listing that a text encodes: each class is below one before it, and none is the tool's own.
 use Rattle.std.proofs.Common.{◌≡◌, ◌≢◌, ℕ, Bool, true, false, ◌||◌, ◌&&◌, List, [], ◌∷◌, ◌++◌, refl, sym, ap, subst, ◌∙◌, append_assoc, append-nil}
 use Rattle.std.specs.Prelude.{bytes_eq, filter}
 use Rattle.std.specs.List.{AllByRecursion, list_all, list_any, filter_map}
@@ -13,7 +13,7 @@ use Rattle.api_listing.specs.declared.types.Listing.{Listing}
 use Rattle.api_listing.specs.BuiltIn.{class_rows, built_in_classes, method_rows, is_method, is_built_in}
 use Rattle.api_listing.specs.Words.{is_class_name}
 use Rattle.api_listing.specs.Lines.{says_something}
-use Rattle.api_listing.specs.Listing.{is_known, has_method, own_class, stands_already, listing_of, class_declared, method_declared, AreSaid, AreOnce, AreNamed, SpellsListing}
+use Rattle.api_listing.specs.Listing.{is_known, has_method, own_class, stands_already, listing_of, class_declared, method_declared, AreSaid, AreOnce, AreNamed, EncodesListing}
 use Rattle.bytecode_model.proofs.Lists.{not_true}
 use Rattle.bytecode_model.proofs.Names.{same_id}
 use Rattle.bytecode_model.proofs.Placing.{test_cases}
@@ -146,7 +146,7 @@ built_in_free : is_known built_in_classes state_name ≡ false
 unfolding class_rows
 built_in_free = refl
 
-pub listed : (text : List ℕ) (listing : Listing) → SpellsListing text listing → IsListed listing
+pub listed : (text : List ℕ) (listing : Listing) → EncodesListing text listing → IsListed listing
 listed text listing h =
     let others = filter_map class_declared h.said in
     let are : listing.classes ≡ built_in_classes ++ others = ap (λ (l : Listing). l.classes) h.listed in
@@ -156,7 +156,7 @@ listed text listing h =
       others = others;
       classes = are;
       placed = subst (λ (xs : List ListedClass). ordered xs others ≡ true) (append-nil built_in_classes) (placed_from listing h.said h.named [] h.said refl);
-      named = named_from (filter says_something h.lines) h.said h.spelled;
+      named = named_from (filter says_something h.lines) h.said h.encoded;
       free = ap (λ (xs : List ListedClass). is_known xs state_name) are ∙ none;
       others_say = say_from listing h.said h.named none [] h.said refl;
       out = ap (λ (l : Listing). has_method l.methods way_out) h.listed ∙ out_from h.said h.once [] h.said refl;

@@ -4,7 +4,7 @@ use Rattle.std.specs.Prelude.{if◌then◌else◌, ⊤}
 use Rattle.std.specs.List.{AllByRecursion}
 use Rattle.class_codec.specs.declared.tree.ClassFile.{ClassFile}
 use Rattle.class_codec.specs.declared.tree.Const.{Const}
-use Rattle.class_codec.specs.Fits.{CanSpell}
+use Rattle.class_codec.specs.Fits.{IsEncodable}
 use Rattle.bytecode_model.specs.declared.program.LinkedClass.{LinkedClass}
 use Rattle.bytecode_model.specs.declared.program.Method.{Method}
 use Rattle.offset_patch.specs.declared.block.Block.{Block}
@@ -60,7 +60,7 @@ with_state plan [] news state h = tt
 with_state plan (class ∷ classes) [] state h = absurd h
 with_state plan (class ∷ classes) (file ∷ news) state h = (h.0, with_state plan classes news state h.1)
 
-pub have_room : (plan : Plan) (classes : List LinkedClass) (files : List ClassFile) → HaveMethodsRoom plan classes files → AllByRecursion CanSpell files → HaveRoom plan classes files
+pub have_room : (plan : Plan) (classes : List LinkedClass) (files : List ClassFile) → HaveMethodsRoom plan classes files → AllByRecursion IsEncodable files → HaveRoom plan classes files
 have_room plan [] files h fits = tt
 have_room plan (class ∷ classes) [] h fits = tt
 have_room plan (class ∷ classes) (file ∷ files) h fits = (record { few = fits.0.pool.count; methods = h.0 }, have_room plan classes files h.1 fits.1)

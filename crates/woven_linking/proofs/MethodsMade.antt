@@ -35,7 +35,7 @@ use Rattle.woven_linking.proofs.ByPlan.{with_blocks, method_with}
 use Rattle.woven_linking.proofs.ByPlan as by_plan
 use Rattle.woven_linking.proofs.Kept.{members_kept}
 use Rattle.woven_linking.proofs.Steps.{conditions_of, coded, spliced_on}
-use Rattle.woven_linking.proofs.Whole.{get_behind, IsOf, program_of}
+use Rattle.woven_linking.proofs.Whole.{get_after, IsOf, program_of}
 
 -- ---- a method
 
@@ -110,7 +110,7 @@ module _ (plan : Plan) (state : ℕ) (files : List ClassFile) (listing : Listing
       let m = a.0 in
       let rest = a.1 in
       let split' : class.methods ≡ done ++ m ∷ rest = split ∙ ap (λ (xs : List Method). done ++ xs) (sym a.4) in
-      let here : slice_get class.methods made.number ≡ Some m = ap (λ (n : ℕ). slice_get class.methods n) (sym count) ∙ ap (λ (xs : List Method). slice_get xs (length done)) split' ∙ get_behind done m rest in
+      let here : slice_get class.methods made.number ≡ Some m = ap (λ (n : ℕ). slice_get class.methods n) (sym count) ∙ ap (λ (xs : List Method). slice_get xs (length done)) split' ∙ get_after done m rest in
       let one = bind_ok (member_woven plan state class made member) (λ next. folded (member_woven plan state class) next members) last w in
       let next = one.0 in
       let made_by : body_woven plan state class.name made member (Some m) (first_code member.attrs) ≡ Ok next =

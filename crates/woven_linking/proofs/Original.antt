@@ -101,7 +101,7 @@ module _ (files : List ClassFile) (listing : Listing) where
       ((λ e. class_free class.file.pool class.file.this_class free.0 (sym of.0.name ∙ e), rest.0), (methods, rest.1))
 
 pub free : OriginalIsFree
-free text listing files main program spelled e =
+free text listing files main program encoded e =
     let p = program_of files listing main sides.Original program e in
     let all = classes_free files listing program.classes (free_classes files listing main program p) p.classes in
     record { classes = all.0; operands = all.1 }

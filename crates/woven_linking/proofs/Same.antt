@@ -8,7 +8,7 @@ use Rattle.class_codec.specs.declared.tree.ClassFile.{ClassFile}
 use Rattle.class_codec.specs.declared.tree.Const.{Const}
 use Rattle.class_codec.specs.declared.tree.Const.TheVariants as constants
 use Rattle.class_codec.specs.declared.tree.Member.{Member}
-use Rattle.class_codec.specs.Fits.{CanSpell, FitsMember, FitsPool, IsIndex, IsNamed}
+use Rattle.class_codec.specs.Fits.{IsEncodable, FitsMember, FitsPool, IsIndex, IsNamed}
 use Rattle.class_codec.specs.Pool.{names, utf8_at}
 use Rattle.api_listing.specs.declared.types.ListedClass.{ListedClass}
 use Rattle.bytecode_model.specs.declared.members.MemberKind.{MemberKind}
@@ -37,7 +37,7 @@ classes_longer : (old new : List Const) (is : List ℕ) → IsLonger old new →
 classes_longer old new [] k fits h = refl
 classes_longer old new (i ∷ is) k fits h = rw (class_longer old new i k fits h.0.named, classes_longer old new is k fits h.1) refl
 
-pub head_kept : (old new : ClassFile) → CanSpell old → IsKept old new → head_of new ≡ head_of old
+pub head_kept : (old new : ClassFile) → IsEncodable old → IsKept old new → head_of new ≡ head_of old
 head_kept old new fits k =
     let made : List ℕ → List ℕ → List (List ℕ) → Bool → ListedClass = λ name parent interfaces flag. record { name = name; parent = parent; interfaces = interfaces; is_interface = flag } in
     let name : class_at new.pool new.this_class ≡ class_at old.pool old.this_class = ap (class_at new.pool) k.this_class ∙ class_longer old.pool new.pool old.this_class k.longer fits.pool fits.this_class.named in
@@ -50,7 +50,7 @@ head_kept old new fits k =
     ∙ ap (λ (x : List (List ℕ)). made (class_at old.pool old.this_class) (class_at old.pool old.super_class) x f) interfaces
     ∙ ap (λ (x : ℕ). made (class_at old.pool old.this_class) (class_at old.pool old.super_class) (map (class_at old.pool) old.interfaces) (is_interface x)) k.flags
 
-pub heads_kept : (olds news : List ClassFile) → AllByRecursion CanSpell olds → Each IsKept olds news → heads_of news ≡ heads_of olds
+pub heads_kept : (olds news : List ClassFile) → AllByRecursion IsEncodable olds → Each IsKept olds news → heads_of news ≡ heads_of olds
 heads_kept [] [] fits k = refl
 heads_kept [] (new ∷ news) fits k = absurd k
 heads_kept (old ∷ olds) [] fits k = absurd k
@@ -81,7 +81,7 @@ same_members : (ms : List Member) → Each IsKeptMember ms ms
 same_members [] = tt
 same_members (m ∷ ms) = (same_member m, same_members ms)
 
-file_declares : (kind : MemberKind) (class : ℕ) (old new : ClassFile) → CanSpell old → IsKept old new → file_members kind class new ≡ file_members kind class old
+file_declares : (kind : MemberKind) (class : ℕ) (old new : ClassFile) → IsEncodable old → IsKept old new → file_members kind class new ≡ file_members kind class old
 file_declares members.Method class old new fits k =
     ap (λ (name : Name). members_from members.Method name new.pool class 0 new.methods) (ap (λ (c : ListedClass). c.name) (head_kept old new fits k))
     ∙ all_declared members.Method (class_at old.pool old.this_class) old.pool new.pool k.longer true class 0 old.methods new.methods fits.methods.each k.methods
@@ -90,8 +90,8 @@ file_declares members.Field class old new fits k =
     ∙ all_declared members.Field (class_at old.pool old.this_class) old.pool new.pool k.longer false class 0 old.fields new.fields fits.fields.each
     (subst (Each IsKeptMember old.fields) (sym k.fields) (same_members old.fields))
 
--- and behind the files stands one more
-pub given_kept : (kind : MemberKind) (s : ClassFile) (class : ℕ) (olds news : List ClassFile) → AllByRecursion CanSpell olds → Each IsKept olds news
+-- and after the files stands one more
+pub given_kept : (kind : MemberKind) (s : ClassFile) (class : ℕ) (olds news : List ClassFile) → AllByRecursion IsEncodable olds → Each IsKept olds news
     → given_from kind class (news ++ s ∷ []) ≡ given_from kind class olds ++ file_members kind (class + length olds) s
 given_kept kind s class [] [] fits k =
     let n : class ≡ class + 0 = omega arith in
@@ -124,20 +124,20 @@ no_strings : (pool cs : List Const) → AllByRecursion IsPlain cs → filter_map
 no_strings pool [] plain = refl
 no_strings pool (c ∷ cs) plain = rw (no_string pool c plain.0) (no_strings pool cs plain.1)
 
-file_strings : (old new : ClassFile) → CanSpell old → IsKept old new → strings_in new ≡ strings_in old
+file_strings : (old new : ClassFile) → IsEncodable old → IsKept old new → strings_in new ≡ strings_in old
 file_strings old new fits k =
     let f = text_of_string new.pool in
     ap (filter_map f) k.longer.is ∙ filter_map-append f old.pool k.longer.more
     ∙ ap (λ (xs : List (List ℕ)). filter_map f old.pool ++ xs) (no_strings new.pool k.longer.more k.longer.plain) ∙ append-nil (filter_map f old.pool)
     ∙ strings_kept old.pool new.pool k.longer old.pool fits.pool.named
 
-texts_kept : (s : ClassFile) → strings_in s ≡ [] → (olds news : List ClassFile) → AllByRecursion CanSpell olds → Each IsKept olds news → flat_map strings_in (news ++ s ∷ []) ≡ flat_map strings_in olds
+texts_kept : (s : ClassFile) → strings_in s ≡ [] → (olds news : List ClassFile) → AllByRecursion IsEncodable olds → Each IsKept olds news → flat_map strings_in (news ++ s ∷ []) ≡ flat_map strings_in olds
 texts_kept s none [] [] fits k = ap (λ (xs : List (List ℕ)). xs ++ []) none
 texts_kept s none [] (new ∷ news) fits k = absurd k
 texts_kept s none (old ∷ olds) [] fits k = absurd k
 texts_kept s none (old ∷ olds) (new ∷ news) fits k = rw (file_strings old new fits.0 k.0, texts_kept s none olds news fits.1 k.1) refl
 
-pub literals_kept : (s : ClassFile) → strings_in s ≡ [] → (olds news : List ClassFile) → AllByRecursion CanSpell olds → Each IsKept olds news → literals_of (news ++ s ∷ []) ≡ literals_of olds
+pub literals_kept : (s : ClassFile) → strings_in s ≡ [] → (olds news : List ClassFile) → AllByRecursion IsEncodable olds → Each IsKept olds news → literals_of (news ++ s ∷ []) ≡ literals_of olds
 literals_kept s none olds news fits k = ap (fold with_name []) (texts_kept s none olds news fits k)
 
 -- ---- main
@@ -150,7 +150,7 @@ static_kept class old new k i (m ∷ ms) [] fits same = absurd same
 static_kept class old new k i (m ∷ ms) (n ∷ ns) fits same =
     rw (name_kept old new m n true k fits.0 same.0, desc_kept old new m n true k fits.0 same.0, same.0.flags, static_kept class old new k (i + 1) ms ns fits.1 same.1) refl
 
-pub main_kept : (s : ClassFile) (main : List ℕ) (begin : ℕ × ℕ) (class : ℕ) (olds news : List ClassFile) → AllByRecursion CanSpell olds → Each IsKept olds news
+pub main_kept : (s : ClassFile) (main : List ℕ) (begin : ℕ × ℕ) (class : ℕ) (olds news : List ClassFile) → AllByRecursion IsEncodable olds → Each IsKept olds news
     → main_from class olds main ≡ Some begin → main_from class (news ++ s ∷ []) main ≡ Some begin
 main_kept s main begin class [] [] fits k e = absurd cc
 main_kept s main begin class [] (new ∷ news) fits k e = absurd k

@@ -10,7 +10,7 @@ use Rattle.mon_base.specs.Reading.{◌>>=◌, need}
 use Rattle.mon_base.proofs.Reading.{bind_ok, need_ok}
 use Rattle.class_codec.specs.declared.tree.ClassFile.{ClassFile}
 use Rattle.class_codec.specs.declared.tree.Member.{Member}
-use Rattle.class_codec.specs.Fits.{CanSpell}
+use Rattle.class_codec.specs.Fits.{IsEncodable}
 use Rattle.class_codec.specs.Pool.{class_name_at, utf8_at}
 use Rattle.api_listing.specs.declared.types.ListedClass.{ListedClass}
 use Rattle.api_listing.specs.BuiltIn.{object}
@@ -176,7 +176,7 @@ module _ (vars : List Var) (heads : List ListedClass) (parents : AllByRecursion 
   unfolding state_head
   named_state = refl
 
-  one_still : (taken : List ListedClass) (old new : ClassFile) → CanSpell old → IsKept old new → IsGoodClass heads old → is_known taken (head_of old).name ≡ false
+  one_still : (taken : List ListedClass) (old new : ClassFile) → IsEncodable old → IsKept old new → IsGoodClass heads old → is_known taken (head_of old).name ≡ false
       → class_linked sides.Inlined (heads ++ state_head ∷ []) (is_known taken (head_of new).name) (head_of new) new ≡ Ok tt
   one_still taken old new fits kept good once =
       let all = heads ++ state_head ∷ [] in
@@ -198,7 +198,7 @@ module _ (vars : List Var) (heads : List ListedClass) (parents : AllByRecursion 
       ∙ ap (λ (b : Bool). need (not b) (faults.Twice c.name) >>= λ once. need (has_supers all c (state_file vars).fields) (faults.SuperLeftOut c.name)) free
       ∙ ap (λ (b : Bool). need b (faults.SuperLeftOut c.name)) supers
 
-  stand : (taken : List ListedClass) (olds news : List ClassFile) → AllByRecursion CanSpell olds → Each IsKept olds news → classes_linked sides.Original heads taken olds ≡ Ok tt
+  stand : (taken : List ListedClass) (olds news : List ClassFile) → AllByRecursion IsEncodable olds → Each IsKept olds news → classes_linked sides.Original heads taken olds ≡ Ok tt
       → is_known taken state_head.name ≡ false → has_supers (heads ++ state_head ∷ []) state_head (state_file vars).fields ≡ true
       → classes_linked sides.Inlined (heads ++ state_head ∷ []) taken (news ++ (state_file vars) ∷ []) ≡ Ok tt
   stand taken [] [] fits kept e free supers =
@@ -215,7 +215,7 @@ module _ (vars : List Var) (heads : List ListedClass) (parents : AllByRecursion 
       ap (λ (r : Linked (Unit {0})). r >>= λ _. classes_linked sides.Inlined all (head_of new ∷ taken) (news ++ (state_file vars) ∷ [])) one
       ∙ ap (λ (h : ListedClass). classes_linked sides.Inlined all (h ∷ taken) (news ++ (state_file vars) ∷ [])) (head_kept old new fits.0 kept.0) ∙ rest
 
-  pub classes_stand : (listed : List ListedClass) (olds news : List ClassFile) → AllByRecursion CanSpell olds → Each IsKept olds news → classes_linked sides.Original heads listed olds ≡ Ok tt
+  pub classes_stand : (listed : List ListedClass) (olds news : List ClassFile) → AllByRecursion IsEncodable olds → Each IsKept olds news → classes_linked sides.Original heads listed olds ≡ Ok tt
       → is_known listed state_name ≡ false → is_known heads state_name ≡ false → is_known heads object ≡ false
       → classes_linked sides.Inlined (heads ++ state_head ∷ []) listed (news ++ (state_file vars) ∷ []) ≡ Ok tt
   classes_stand listed olds news fits kept e free own above =

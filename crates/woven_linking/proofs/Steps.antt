@@ -14,7 +14,7 @@ use Rattle.class_codec.specs.Fits.{FitsMember, FitsOther}
 use Rattle.insn_codec.specs.declared.fault.CodeFault.{CodeFault}
 use Rattle.insn_codec.specs.declared.insn.Insn.{Insn}
 use Rattle.insn_codec.specs.Reading.{code_of}
-use Rattle.insn_codec.specs.Spelling.{starts_of}
+use Rattle.insn_codec.specs.Encoding.{starts_of}
 use Rattle.api_listing.specs.declared.types.Listing.{Listing}
 use Rattle.class_linking.proofs.Parts.{code_parts, method_parts}
 use Rattle.class_linking.specs.declared.fault.LinkFault.{LinkFault}
@@ -345,11 +345,11 @@ module _ (kinds : List Bool) (plan : Plan) (good : IsGood kinds plan) (file new 
               name = h.name;
               attrs = λ woven.
                   let moved = start_moved (begins_at m.insns) (fronts_of sites) (starts_of xs) in
-                  let behind = begins.0 ++ more.0 in
-                  let entries : w.entries ≡ file.pool ++ behind =
+                  let following = begins.0 ++ more.0 in
+                  let entries : w.entries ≡ file.pool ++ following =
                   h.entries ∙ more.1 ∙ ap (λ (q : List Const). q ++ more.0) begins.1 ∙ append_assoc file.pool begins.0 more.0 in
                   let stay : attrs_kept w.entries moved code.attrs ≡ attrs_kept new.pool moved code.attrs =
-                  ap (λ (q : List Const). attrs_kept q moved code.attrs) entries ∙ lines_same file.pool behind ys moved code.attrs attrs
+                  ap (λ (q : List Const). attrs_kept q moved code.attrs) entries ∙ lines_same file.pool following ys moved code.attrs attrs
                   ∙ ap (λ (q : List Const). attrs_kept (q ++ ys) moved code.attrs) (sym entries) ∙ ap (λ (q : List Const). attrs_kept q moved code.attrs) (sym grown) in
                   h.attrs ∙ ap (λ (q : List Insn). attrs_spliced w.entries m.insns q sites code.attrs) (spliced_same ys grown) ∙ stay
                   ∙ ap (λ (q : List Insn). attrs_spliced new.pool m.insns q sites code.attrs) (sym insns_is)

@@ -12,7 +12,7 @@ use Rattle.class_codec.specs.declared.tree.TableEntry.{TableEntry}
 use Rattle.class_codec.specs.Fits.{FitsPool, FitsTableEntry}
 use Rattle.class_codec.specs.Pool.{names}
 use Rattle.insn_codec.specs.declared.insn.Insn.{Insn}
-use Rattle.insn_codec.specs.Spelling.{size, starts_from, starts_of}
+use Rattle.insn_codec.specs.Encoding.{size, starts_from, starts_of}
 use Rattle.insn_codec.proofs.Standing.{size-some}
 use Rattle.api_listing.specs.declared.types.Listing.{Listing}
 use Rattle.class_linking.proofs.Parts.{handler_parts}
@@ -40,12 +40,12 @@ use Rattle.woven_linking.proofs.Same.{class_longer}
 
 -- ---- where instructions begin
 
-start_behind : (xs : List Insn) (base i : ℕ) → i ≤ length xs → base ≤ slice_index (starts_from base xs) i
+start_after : (xs : List Insn) (base i : ℕ) → i ≤ length xs → base ≤ slice_index (starts_from base xs) i
 unfolding starts_from
-start_behind [] base zero h = omega arith
-start_behind [] base (suc i) h = absurd (omega arith)
-start_behind (x ∷ xs) base zero h = omega arith
-start_behind (x ∷ xs) base (suc i) h = omega (arith, start_behind xs (base + size base x) i (omega arith))
+start_after [] base zero h = omega arith
+start_after [] base (suc i) h = absurd (omega arith)
+start_after (x ∷ xs) base zero h = omega arith
+start_after (x ∷ xs) base (suc i) h = omega (arith, start_after xs (base + size base x) i (omega arith))
 
 same_number : (n : ℕ) → (n == n) ≡ true
 same_number n = grind (arith, nat_tests)
@@ -65,7 +65,7 @@ index_back (x ∷ xs) base at zero h =
     rw (same_number base) (ap Some n)
 index_back (x ∷ xs) base at (suc i) h =
     let after = base + size base x in
-    let far = start_behind xs after i (omega arith) in
+    let far = start_after xs after i (omega arith) in
     let not : (base == slice_index (starts_from after xs) i) ≡ false = below_not base (slice_index (starts_from after xs) i) (omega (arith, far, size-some base x)) in
     let n : at + 1 + i ≡ at + suc i = omega arith in
     rw not (index_back xs after (at + 1) i (omega arith) ∙ ap Some n)

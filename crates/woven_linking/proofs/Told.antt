@@ -35,7 +35,7 @@ use Rattle.class_linking.proofs.Loop.{first_linked}
 use Rattle.class_linking.proofs.Parts.{class_parts}
 use Rattle.woven_linking.proofs.Pairs.{each_append}
 use Rattle.woven_linking.proofs.Steps.{conditions_of, coded}
-use Rattle.woven_linking.proofs.Whole.{get_behind, IsOf, program_of}
+use Rattle.woven_linking.proofs.Whole.{get_after, IsOf, program_of}
 use Rattle.class_weaving.specs.State.{state_file}
 use Rattle.conspec_tree.specs.declared.types.Var.{Var}
 
@@ -249,7 +249,7 @@ module _ (plan : Plan) (Holds : Method → List Origin → Type 0) (told_of : To
       let rest = a.1 in
       let sound' : AllByRecursion IsSoundMethod (m ∷ rest) = subst (AllByRecursion IsSoundMethod) (sym a.4) sound in
       let split' : class.methods ≡ done ++ m ∷ rest = split ∙ ap (λ (xs : List Method). done ++ xs) (sym a.4) in
-      let here : slice_get class.methods made.number ≡ Some m = ap (λ (n : ℕ). slice_get class.methods n) (sym count) ∙ ap (λ (xs : List Method). slice_get xs (length done)) split' ∙ get_behind done m rest in
+      let here : slice_get class.methods made.number ≡ Some m = ap (λ (n : ℕ). slice_get class.methods n) (sym count) ∙ ap (λ (xs : List Method). slice_get xs (length done)) split' ∙ get_after done m rest in
       let one = bind_ok (member_woven plan state class made member) (λ next. folded (member_woven plan state class) next members) last w in
       let next = one.0 in
       let made_by : body_woven plan state class.name made member (Some m) (first_code member.attrs) ≡ Ok next =

@@ -8,7 +8,7 @@ use Rattle.mon_base.proofs.Reading.{bind_ok, ok_is}
 use Rattle.class_codec.specs.declared.tree.ClassFile.{ClassFile}
 use Rattle.class_codec.specs.declared.tree.Const.{Const}
 use Rattle.class_codec.specs.declared.tree.Member.{Member}
-use Rattle.class_codec.specs.Fits.{CanSpell, FitsMember, FitsPool}
+use Rattle.class_codec.specs.Fits.{IsEncodable, FitsMember, FitsPool}
 use Rattle.api_listing.specs.declared.types.ListedClass.{ListedClass}
 use Rattle.api_listing.specs.declared.types.Listing.{Listing}
 use Rattle.class_linking.specs.declared.fault.LinkFault.{LinkFault}
@@ -51,9 +51,9 @@ use Rattle.woven_linking.proofs.Steps.{one_step}
 
 -- ---- lists
 
-pub get_behind : {X : Type 0} (xs : List X) (x : X) (ys : List X) → slice_get (xs ++ x ∷ ys) (length xs) ≡ Some x
-get_behind [] x ys = refl
-get_behind (z ∷ xs) x ys = get_behind xs x ys
+pub get_after : {X : Type 0} (xs : List X) (x : X) (ys : List X) → slice_get (xs ++ x ∷ ys) (length xs) ≡ Some x
+get_after [] x ys = refl
+get_after (z ∷ xs) x ys = get_after xs x ys
 
 -- ---- the methods of a class
 
@@ -87,7 +87,7 @@ module _ (kinds : List Bool) (plan : Plan) (good : IsGood kinds plan) (class : L
       let rest = a.1 in
       let sound' : AllByRecursion IsSoundMethod (m ∷ rest) = subst (AllByRecursion IsSoundMethod) (sym a.4) sound in
       let split' : class.methods ≡ done ++ m ∷ rest = split ∙ ap (λ (xs : List Method). done ++ xs) (sym a.4) in
-      let here : slice_get class.methods made.number ≡ Some m = ap (λ (n : ℕ). slice_get class.methods n) (sym count) ∙ ap (λ (xs : List Method). slice_get xs (length done)) split' ∙ get_behind done m rest in
+      let here : slice_get class.methods made.number ≡ Some m = ap (λ (n : ℕ). slice_get class.methods n) (sym count) ∙ ap (λ (xs : List Method). slice_get xs (length done)) split' ∙ get_after done m rest in
       let one = bind_ok (member_woven plan state class made member) (λ next. folded (member_woven plan state class) next members) last w in
       let next = one.0 in
       let woven : body_woven plan state class.name made member (Some m) (first_code member.attrs) ≡ Ok next =
@@ -170,7 +170,7 @@ module _ (kinds : List Bool) (plan : Plan) (good : IsGood kinds plan) (vars : Li
         rest.room,
       )
 
-  -- What the files link to, behind which conspec/State stands.
+  -- What the files link to, after which conspec/State stands.
   record AreJoined (at : ℕ) (olds : List LinkedClass) (news : List ClassFile) : Type 0 where
     methods : List (List Method)
     links : linked_from (λ i. methods_linked others listing) at (news ++ state_file vars ∷ []) ≡ Ok methods
@@ -264,7 +264,7 @@ module _ (plan : Plan) where
   all_kept state (class ∷ classes) [] w = absurd w
   all_kept state (class ∷ classes) (new ∷ news) w = (file_kept plan state class new w.0, all_kept state classes news w.1)
 
-all_fit : (classes : List LinkedClass) → AllByRecursion IsSoundClass classes → AllByRecursion CanSpell (files_of classes)
+all_fit : (classes : List LinkedClass) → AllByRecursion IsSoundClass classes → AllByRecursion IsEncodable (files_of classes)
 all_fit [] h = tt
 all_fit (class ∷ classes) h = (h.0.fits, all_fit classes h.1)
 
@@ -297,7 +297,7 @@ relinked listing files main old plan vars made of =
     let news = all.0 in
     let state = state_file vars in
     let others = news ++ state ∷ [] in
-    let fits : AllByRecursion CanSpell files = subst (AllByRecursion CanSpell) p.files_are (all_fit old.classes of.sound.classes) in
+    let fits : AllByRecursion IsEncodable files = subst (AllByRecursion IsEncodable) p.files_are (all_fit old.classes of.sound.classes) in
     let kept : Each IsKept files news = subst (λ (fs : List ClassFile). Each IsKept fs news) p.files_are (all_kept plan (length old.classes) old.classes news all.2) in
     let l = listed of.text listing of.listed in
     let added = is_added vars of.few listing l files news fits kept p.good in
@@ -332,7 +332,7 @@ relinked listing files main old plan vars made of =
 -- ---- the laws
 
 pub links : WovenLinks
-links text listing files main old plan vars made spelled first sound good few w =
-    let of : IsWovenOf listing files main old plan vars made = record { text = text; listed = spelled; links = first; sound = sound; good = good; few = few; woven = w } in
+links text listing files main old plan vars made encoded first sound good few w =
+    let of : IsWovenOf listing files main old plan vars made = record { text = text; listed = encoded; links = first; sound = sound; good = good; few = few; woven = w } in
     let h = relinked listing files main old plan vars made of in
     (_, (assembled_by made.files listing main sides.Inlined h.methods h.begin h.good h.each h.begins, h.woven))

@@ -96,7 +96,7 @@ OriginsAreTrue =
     → ClassesTell (MethodIsFrom plan) old.classes made.files made.origins
 
 -- A method that is woven has an origin for each instruction, and each instruction stands where its origin tells: the client's of an
--- index at its front and as far behind as the call stands in its block.
+-- index at its front and as far after as the call stands in its block.
 pub record MethodIsLaid (plan : Plan) (pool : List Const) (method : Method) (told : List Origin) : Type 0 where
   pub each : length told ≡ length (insns_woven plan pool method)
   pub stand : StandAsTold (sites_of plan method.max_locals method) 0 told

@@ -4,9 +4,9 @@ use Rattle.std.specs.Prelude.{◌≡◌, ℕ, ◌+◌, ◌<◌, ◌≤◌, ◌^�
 use Rattle.std.specs.List.{AllByRecursion}
 use Rattle.class_codec.specs.declared.tree.ClassFile.{ClassFile}
 use Rattle.class_codec.specs.declared.tree.Const.{Const}
-use Rattle.class_codec.specs.Fits.{CanSpell}
+use Rattle.class_codec.specs.Fits.{IsEncodable}
 use Rattle.api_listing.specs.declared.types.Listing.{Listing}
-use Rattle.api_listing.specs.Listing.{SpellsListing}
+use Rattle.api_listing.specs.Listing.{EncodesListing}
 use Rattle.bytecode_model.specs.declared.program.LinkedClass.{LinkedClass}
 use Rattle.bytecode_model.specs.declared.program.Method.{Method}
 use Rattle.bytecode_model.specs.declared.program.Program.{Program}
@@ -33,7 +33,7 @@ class_with class file methods = record { name = class.name; parent = class.paren
 abbrev pub state_with : ClassFile → LinkedClass
 state_with file = record { name = class_at file.pool file.this_class; parent = class_at file.pool file.super_class; file = file; methods = [] }
 
--- the classes with their files and methods, and behind them conspec/State
+-- the classes with their files and methods, and after them conspec/State
 abbrev pub classes_with : List LinkedClass → List ClassFile → List (List Method) → List LinkedClass
 classes_with [] [] methods = []
 classes_with [] (file ∷ files) methods = state_with file ∷ []
@@ -81,7 +81,7 @@ HaveRoom plan (class ∷ classes) (file ∷ files) = ClassHasRoom plan class fil
 -- A program was linked of a compiler's files, and these files were woven of it by a good plan.
 pub record IsWovenOf (listing : Listing) (files : List ClassFile) (main : List ℕ) (old : Program) (plan : Plan) (vars : List Var) (made : Woven) : Type 0 where
   pub text : List ℕ
-  pub listed : SpellsListing text listing
+  pub listed : EncodesListing text listing
   pub links : assembled files listing main sides.Original ≡ Ok old
   pub sound : IsSound old
   pub good : IsGood (map (λ (v : Var). v.is_bool) vars) plan
@@ -104,10 +104,10 @@ WovenFilesComeBack =
 abbrev pub WovenFilesHaveRoom : Type 0
 WovenFilesHaveRoom =
     (listing : Listing) (files : List ClassFile) (main : List ℕ) (old : Program) (plan : Plan) (vars : List Var) (made : Woven)
-    → IsWovenOf listing files main old plan vars made → AllByRecursion CanSpell made.files → HaveRoom plan old.classes made.files
+    → IsWovenOf listing files main old plan vars made → AllByRecursion IsEncodable made.files → HaveRoom plan old.classes made.files
 
 -- What is made of files that can be written, of no more classes than may be given, is sound.
 abbrev pub WovenProgramIsSound : Type 0
 WovenProgramIsSound =
     (listing : Listing) (files : List ClassFile) (main : List ℕ) (old : Program) (plan : Plan) (vars : List Var) (made : Woven)
-    → IsWovenOf listing files main old plan vars made → AllByRecursion CanSpell made.files → length made.files ≤ 1001 → IsSound (program_with old made.files made.methods)
+    → IsWovenOf listing files main old plan vars made → AllByRecursion IsEncodable made.files → length made.files ≤ 1001 → IsSound (program_with old made.files made.methods)

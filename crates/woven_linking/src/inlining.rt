@@ -26,7 +26,7 @@ pub struct Inlined {
     pub origins: List<List<List<Origin>>>,
 }
 
-/// The program with a block for each instruction to which the planner gives one, and behind its classes `conspec/State` of these
+/// The program with a block for each instruction to which the planner gives one, and after its classes `conspec/State` of these
 /// variables; or the first size that does not fit.
 pub fn inline<P: Planner>(
     alloc: Global,

@@ -38,7 +38,7 @@ pub fn program_with(
     Ok((program, classes))
 }
 
-/// The classes with their files and methods, and behind them `conspec/State`.
+/// The classes with their files and methods, and after them `conspec/State`.
 fn classes_with(
     alloc: Global,
     olds: &[LinkedClass],

@@ -24,7 +24,7 @@ use Rattle.block_template.specs.declared.item.Item.{Item}
 use Rattle.block_template.specs.declared.item.Role.{Role}
 use Rattle.block_template.specs.declared.item.Role.TheVariants as roles
 use Rattle.block_template.specs.Blocks.{clauses_of, handler_at, is_locked, lets_pass}
-use Rattle.block_template.specs.Flow.{entered, jump_of, behind_return, role_at, thrown}
+use Rattle.block_template.specs.Flow.{entered, jump_of, after_return, role_at, thrown}
 use Rattle.block_template.specs.Frames.{frame_at}
 use Rattle.block_template.specs.Reached.{IsReached}
 use Rattle.block_template.specs.Typed.{CallIsTyped, GoesTo, ItemIsTyped}
@@ -183,11 +183,11 @@ module _ (t : Typed) (c : CallAt t) where
       let lt : call < length (items t c) = slice_get_within (items t c) call item e in
       let next : m + 1 ≡ start t c + (call + 1) = omega arith in
       let goes : ℕ → Bool = λ to. option_map_or (goes_well place typed.types) (frame_of (woven t) to) false in
-      let behind : role_at (items t c) (call + 1) ≡ behind_return (mode t c) (told t c).after =
+      let following : role_at (items t c) (call + 1) ≡ after_return (mode t c) (told t c).after =
       (flow_is.goes call item e reached).passes refl ∙ ap (Rattle.block_template.specs.Flow.next (mode t c) (told t c)) role in
       let to : GoesTo (told t c) (near t c) place typed.types (role_at (items t c) (call + 1)) =
-      reached_to (told t c) (near t c) (λ f. goes_well place typed.types f ≡ true) (behind_return (mode t c) (told t c).after) (role_at (items t c) (call + 1))
-      behind ((reach_is.goes call item e reached).passes refl) typed.returns in
+      reached_to (told t c) (near t c) (λ f. goes_well place typed.types f ≡ true) (after_return (mode t c) (told t c).after) (role_at (items t c) (call + 1))
+      following ((reach_is.goes call item e reached).passes refl) typed.returns in
       met_at call item e reached typed.types types_are
       (record {
         entry = begins call item e reached typed.types types_are;

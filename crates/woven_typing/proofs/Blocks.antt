@@ -86,7 +86,7 @@ module _ (P : ℕ → Bool) (pool : List Const) (fronts : List ℕ) (begin at : 
       on (goes_on op) ((begin + place) ∷ []) (unless op GOTO refl next) (and_from (P (begin + place)) true lands refl)
   goes_from Call other next lands = absurd cc
 
--- ---- what is caught behind a call
+-- ---- what is caught after a call
 
 -- What stands for the type before it is made stands for it once it is.
 made_caught : (program : Program) (place : InsnPlace) (r u v : VType) → assignable program (when_thrown u) v ≡ true
@@ -228,7 +228,7 @@ module _ (t : Typed) (c : CallAt t) where
 
   pub frame_there : (k : ℕ) (item : Item) → slice_get items k ≡ Some item → frame_of (woven t) (start + k) ≡ frame_at told near item.role
   frame_there k item e =
-      frames.frame_item (b t) t.frames c.i c.callee c.insn (Some c.types) c.there c.names c.framed c.has k item e
+      frames.frame_item (b t) t.frames c.i c.callee c.insn (Some c.types) c.there c.names c.typed_here c.has k item e
       ∙ ap (λ (o : Option FrameType). option_and_then (λ g. frame_at told (around_of (moved t) (p t c) g) item.role) o) (low_is t c.types c.few)
 
   pub frame_role : (k : ℕ) → k < length items → frame_of (woven t) (start + k) ≡ frame_at told near (role_at items k)
@@ -274,12 +274,12 @@ module _ (t : Typed) (c : CallAt t) where
       → option_map_or (goes_well (here t m x r) types) (frame_of (woven t) (start + length items)) false ≡ true
   leaves m x r types goes =
       let lt : c.i < of.n (b t) = slice_get_within (b t).method.insns c.i c.insn c.there in
-      let behind : start + length items ≡ moved t (c.i + 1) =
+      let following : start + length items ≡ moved t (c.i + 1) =
       omega (arith, part_long, of.moved_next (b t) c.i lt, next_front (of.weaves (b t)) c.i (ref t c) c.names) in
       let next = goes_next c.insn c.insn (listed t c).how c.i is_insn (calls t c) refl (calls t c) in
       let there = and_parts (option_map_or (goes_well (p t c) c.types) (frame_of t.frames (c.i + 1)) false) true
       (sym (ap (list_all (λ to. option_map_or (goes_well (p t c) c.types) (frame_of t.frames to) false)) next) ∙ c.row.successor) in
-      ap (λ (n : ℕ). option_map_or (goes_well (here t m x r) types) (frame_of (woven t) n) false) behind
+      ap (λ (n : ℕ). option_map_or (goes_well (here t m x r) types) (frame_of (woven t) n) false) following
       ∙ leaves_by (frame_of t.frames (c.i + 1)) refl there.0 m x r types goes
 
   -- Where control goes in the block, or where it leaves it, there are types that take what is left.
@@ -304,9 +304,9 @@ module _ (t : Typed) (c : CallAt t) where
 
   -- ---- what is caught
 
-  behind_caught : (to : List VType) → locals_fit (b t).new (local_caught near.before.locals) 0 to ≡ true
+  after_caught : (to : List VType) → locals_fit (b t).new (local_caught near.before.locals) 0 to ≡ true
       → locals_fit (b t).new (local_caught near.after.locals) 0 to ≡ true
-  behind_caught to e =
+  after_caught to e =
       let call = called_there t c first in
       let ts : List VType = taken (q t c first) (again t c.types) in
       locals_through (b t).new (local_caught near.before.locals) (local_caught near.after.locals) to
@@ -329,7 +329,7 @@ module _ (t : Typed) (c : CallAt t) where
   in_phase : (phase : Phase) (to : List VType) → locals_fit (b t).new (local_caught near.before.locals) 0 to ≡ true
       → locals_fit (b t).new (local_caught (phase_locals near phase)) 0 to ≡ true
   in_phase Before to e = e
-  in_phase After to e = behind_caught to e
+  in_phase After to e = after_caught to e
   in_phase Exceptional to e = e
 
   in_role : (role : Role) → IsReached role → (to : List VType) → locals_fit (b t).new (local_caught near.before.locals) 0 to ≡ true
@@ -343,9 +343,9 @@ module _ (t : Typed) (c : CallAt t) where
   in_role (roles.Unlock phase checked pushed) reached to e = in_phase phase to e
   in_role (roles.Load n locked) reached to e = e
   in_role (roles.Call locked) reached to e = e
-  in_role (roles.Keep locked) reached to e = behind_caught to e
-  in_role roles.Give reached to e = behind_caught to e
-  in_role roles.Leave reached to e = behind_caught to e
+  in_role (roles.Keep locked) reached to e = after_caught to e
+  in_role roles.Give reached to e = after_caught to e
+  in_role roles.Leave reached to e = after_caught to e
   in_role roles.Rethrow reached to e = e
   in_role roles.Unreached reached to e = absurd (reached refl)
 

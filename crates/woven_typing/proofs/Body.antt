@@ -188,8 +188,8 @@ module _ (b : Body) where
   pub grows : (i j : ℕ) → i < j → j ≤ n → front i < front j
   grows i j lt le = parts.before_grows plan base some refs i j lt (omega (arith, le, same_length weaves))
 
-  moved_behind : (i : ℕ) → n ≤ i → moved i ≡ i + (front n - n)
-  moved_behind i le =
+  moved_after : (i : ℕ) → n ≤ i → moved i ≡ i + (front n - n)
+  moved_after i le =
       let fails : nat_lt i n ≡ false = grind (arith, nat_tests) in
       ap (λ (c : Bool). cond c (slice_index fronts i) (i + (slice_index fronts n - n))) fails
       ∙ ap (λ (m : ℕ). i + (m - n)) (fronts_are weaves n (omega arith))
@@ -201,7 +201,7 @@ module _ (b : Body) where
         | inl is ↦ rw s (moved_is (suc i) (omega (arith, ltb-true _ _ is)))
         | inr fails ↦
             let last : suc i ≡ n = grind (arith, nat_tests) in
-            let is : moved (i + 1) ≡ i + 1 + (front n - n) = moved_behind (i + 1) (omega (arith, last)) in
+            let is : moved (i + 1) ≡ i + 1 + (front n - n) = moved_after (i + 1) (omega (arith, last)) in
             let long : n ≤ front n = least n (omega arith) in
             is ∙ omega (arith, last, long) ∙ ap front (sym last)
       ]
@@ -218,10 +218,10 @@ module _ (b : Body) where
             elim (cases_Bool (nat_lt i n)) [
               | inl is ↦
                   let less : i < n = ltb-true _ _ is in
-                  omega (arith, moved_is i less, moved_behind j past, grows i n less (omega arith), long, past)
+                  omega (arith, moved_is i less, moved_after j past, grows i n less (omega arith), long, past)
               | inr none ↦
-                  let behind : n ≤ i = grind (arith, nat_tests) in
-                  omega (arith, moved_behind i behind, moved_behind j past, lt)
+                  let following : n ≤ i = grind (arith, nat_tests) in
+                  omega (arith, moved_after i following, moved_after j past, lt)
             ]
       ]
 
@@ -236,6 +236,6 @@ module _ (b : Body) where
             ]
       ]
 
-  -- What is behind the code is behind the woven code.
+  -- What is after the code is after the woven code.
   pub moved_past : (i : ℕ) → n ≤ i → length b.made.insns ≤ moved i
-  moved_past i le = omega (arith, end_is weaves, moved_behind i le, least n (omega arith), le)
+  moved_past i le = omega (arith, end_is weaves, moved_after i le, least n (omega arith), le)

@@ -1,4 +1,4 @@
--- The types behind a call are those that the rules tell.
+-- The types after a call are those that the rules tell.
 use Rattle.std.proofs.Common.{◌≡◌, ℕ, ◌+◌, Bool, true, false, cond, List, ◌∷◌, ◌++◌, length, map, Option, Some, None, refl, sym, ap, ◌∙◌, arith}
 use Rattle.std.specs.Prelude.{option_map, slice_get}
 use Rattle.std.specs.Option.{option_map_or}
@@ -17,7 +17,7 @@ use Rattle.bytecode_model.specs.Makes.{below, changed_by, class_made, is_same_ob
 use Rattle.bytecode_model.specs.InsnPlace.{InsnPlace, calls_maker, desc_referred, has_receiver}
 use Rattle.bytecode_model.specs.Rules.{taken}
 use Rattle.bytecode_model.specs.Wants.{call_takes, takes, takes_of, to_arguments, to_described, to_receiver}
-use Rattle.woven_typing.specs.Behind.{arguments_count, call_operands, count_of, count_taken, given, stack_behind, types_behind}
+use Rattle.woven_typing.specs.Following.{arguments_count, call_operands, count_of, count_taken, given, stack_following, types_after}
 
 module _ (place : InsnPlace) (how : How) (calls : shape_of place.insn ≡ shapes.Heap (heap.Call how)) where
   pub takes_call : takes place ≡ call_takes place how
@@ -34,9 +34,9 @@ module _ (place : InsnPlace) (how : How) (calls : shape_of place.insn ≡ shapes
   pub operands_are : (frame : FrameType) → call_operands place frame.stack ≡ taken place frame
   operands_are frame = ap (λ (n : ℕ). topmost n frame.stack) counts
 
-  pub stack_is : (locals stack : List VType) → stack_behind place stack ≡ stack_after place locals (length (takes place)) stack
+  pub stack_is : (locals stack : List VType) → stack_following place stack ≡ stack_after place locals (length (takes place)) stack
   stack_is locals stack =
-      ap (λ (n : ℕ). types_behind place (topmost n stack) (below n stack) ++ given place) counts
+      ap (λ (n : ℕ). types_after place (topmost n stack) (below n stack) ++ given place) counts
       ∙ sym
       (ap (λ (s : Shape). map (changed_by place (topmost (length (takes place)) stack) s) (below (length (takes place)) stack)
       ++ yields_of place locals (topmost (length (takes place)) stack) s) calls)
@@ -69,15 +69,15 @@ module _ (place : InsnPlace) (how : How) (calls : shape_of place.insn ≡ shapes
   or_top ts None = sym (top_stays ts)
   or_top ts (Some t) = refl
 
-  pub type_behind : (ts locals : List VType) (j : ℕ) → type_at (types_behind place ts locals) j ≡ when_called place ts (type_at locals j)
-  type_behind ts locals j =
+  pub type_after : (ts locals : List VType) (j : ℕ) → type_at (types_after place ts locals) j ≡ when_called place ts (type_at locals j)
+  type_after ts locals j =
       ap (λ (o : Option VType). option_map_or (λ (t : VType). t) o types.Top) (slice_get-map (when_called place ts) locals j)
       ∙ or_top ts (slice_get locals j)
 
   pub local_is : (frame : FrameType) (j : ℕ)
-      → type_at (types_behind place (call_operands place frame.stack) frame.locals) j ≡ local_after place frame.locals (taken place frame) j
+      → type_at (types_after place (call_operands place frame.stack) frame.locals) j ≡ local_after place frame.locals (taken place frame) j
   local_is frame j =
       let ts : List VType = taken place frame in
-      ap (λ (operands : List VType). type_at (types_behind place operands frame.locals) j) (operands_are frame)
-      ∙ type_behind ts frame.locals j
+      ap (λ (operands : List VType). type_at (types_after place operands frame.locals) j) (operands_are frame)
+      ∙ type_after ts frame.locals j
       ∙ sym (ap (λ (s : Shape). cond (stores s j) (type_at ts 0) (changed_by place ts s (type_at frame.locals j))) calls)

@@ -28,11 +28,11 @@ use Rattle.block_template.specs.Blocks.{Clauses, clauses_of}
 use Rattle.block_template.specs.Frames.{Around}
 use Rattle.block_template.specs.Typed.{FitsAround, HasRoom, IsCallOf, kept_kind}
 use Rattle.block_template.proofs.ItemsTyped.{clauses_are_asked}
-use Rattle.woven_typing.specs.Behind.{call_operands, count_taken, stack_behind, types_behind}
+use Rattle.woven_typing.specs.Following.{call_operands, count_taken, stack_following, types_after}
 use Rattle.woven_typing.specs.Framing.{around_of}
 use Rattle.woven_typing.specs.Renaming.{renamed}
 use Rattle.woven_typing.specs.Telling.{AreOfKinds, IsOfResult, TellsOf}
-use Rattle.woven_typing.proofs.CallTypes as behind
+use Rattle.woven_typing.proofs.CallTypes as following
 use Rattle.woven_typing.proofs.Body as of
 use Rattle.woven_typing.proofs.Client.{Typed, again, aim, b, here, kept_at, moved, old}
 use Rattle.woven_typing.proofs.Kept.{IsKept, retargeted, same_desc, type_renamed}
@@ -50,7 +50,7 @@ pub record CallAt (t : Typed) : Type 0 where
   pub names : slice_get t.body.method.refs i ≡ Some (target.ApiMethod callee)
   pub has : has_clauses t.body.policy callee ≡ true
   pub types : FrameType
-  pub framed : slice_get t.frames i ≡ Some (Some types)
+  pub typed_here : slice_get t.frames i ≡ Some (Some types)
   pub row : Passes t.frames (old t i insn (target.ApiMethod callee)) types
   pub few : length types.stack ≤ t.body.method.max_stack
 
@@ -100,11 +100,11 @@ module _ (t : Typed) (c : CallAt t) where
         how = listed.how;
         call = shape_there m;
         stack =
-            ap (map (renamed (moved t))) (behind.stack_is p listed.how calls c.types.locals c.types.stack)
+            ap (map (renamed (moved t))) (following.stack_is p listed.how calls c.types.locals c.types.stack)
             ∙ sym (stack_renamed (moved t) p (q m) k c.types);
         locals = λ j.
-            type_renamed (moved t) (types_behind p (call_operands p c.types.stack) c.types.locals) j
-            ∙ ap (renamed (moved t)) (behind.local_is p listed.how calls c.types j)
+            type_renamed (moved t) (types_after p (call_operands p c.types.stack) c.types.locals) j
+            ∙ ap (renamed (moved t)) (following.local_is p listed.how calls c.types j)
             ∙ sym (local_left (moved t) p (q m) k c.types.locals (taken p c.types) j)
             ∙ ap (λ (ts : List VType). local_after (q m) (again t c.types).locals ts j) (sym (taken_renamed (moved t) p (q m) k c.types));
       }
@@ -141,7 +141,7 @@ module _ (t : Typed) (c : CallAt t) where
       (operand_kept (moved t) p front (kept (moved t c.i)) c.types c.row.operand) in
       let depth = and_parts (nat_le (length (takes front)) (length (again t c.types).stack)) _
       (depth_kept (moved t) p front (kept (moved t c.i)) c.types c.row.depth) in
-      let takes_these = behind.takes_call front listed.how (shape_there (moved t c.i)) in
+      let takes_these = following.takes_call front listed.how (shape_there (moved t c.i)) in
       let are = subst (λ (desc : List ℕ). AreOfKinds clause.args (arguments desc)) (sym same_descriptor) tells.arguments in
       telling.arguments_held (b t).new clause.args (arguments (desc_referred front)) are (again t c.types).stack (has_receiver listed.how)
       (to_receiver front listed.how)
@@ -157,7 +157,7 @@ module _ (t : Typed) (c : CallAt t) where
           → IfSome o (λ kind. all_met (kept_kind kind ∷ []) (topmost 1 around.after.stack) ≡ true)
       by None is = tt
       by (Some kind) is =
-          telling.result_held (moved t) kind (desc_referred p) (types_behind p (call_operands p c.types.stack) (below (count_taken p) c.types.stack))
+          telling.result_held (moved t) kind (desc_referred p) (types_after p (call_operands p c.types.stack) (below (count_taken p) c.types.stack))
           (subst (λ (desc : List ℕ). IsOfResult desc kind) (sym listed.desc) is)
 
   -- ---- sizes
@@ -165,11 +165,11 @@ module _ (t : Typed) (c : CallAt t) where
   few_locals : length c.types.locals ≤ (b t).method.max_locals
   few_locals = leb-true _ _ (and_parts (nat_le (length c.types.locals) (b t).method.max_locals) _ c.row.local).0
 
-  low_behind : length (stack_behind p c.types.stack) ≤ (b t).method.max_stack
-  low_behind =
+  low_after : length (stack_following p c.types.stack) ≤ (b t).method.max_stack
+  low_after =
       let left : List VType = stack_after p c.types.locals (length (takes p)) c.types.stack in
       let depth = and_parts _ (nat_le (length left) (b t).method.max_stack) c.row.depth in
-      omega (arith, ap length (behind.stack_is p listed.how calls c.types.locals c.types.stack), leb-true _ _ depth.1)
+      omega (arith, ap length (following.stack_is p listed.how calls c.types.locals c.types.stack), leb-true _ _ depth.1)
 
   pub fits : FitsAround clauses around
   fits = record {
@@ -177,7 +177,7 @@ module _ (t : Typed) (c : CallAt t) where
     after = omega (
       arith,
       few_locals,
-      length-map (types_behind p (call_operands p c.types.stack) c.types.locals) (renamed (moved t)),
+      length-map (types_after p (call_operands p c.types.stack) c.types.locals) (renamed (moved t)),
       length-map c.types.locals (when_called p (call_operands p c.types.stack)),
     );
     arguments = arguments_by clauses.before told;
@@ -192,7 +192,7 @@ module _ (t : Typed) (c : CallAt t) where
       let slots = of.slots (b t) c.i c.callee c.names c.has in
       record {
         before = omega (arith, c.few, three, length-map c.types.stack (renamed (moved t)));
-        after = omega (arith, low_behind, three, length-map (stack_behind p c.types.stack) (renamed (moved t)));
+        after = omega (arith, low_after, three, length-map (stack_following p c.types.stack) (renamed (moved t)));
         arguments = omega (arith, asked.arguments, slots);
         result = omega (arith, asked.result, slots);
       }

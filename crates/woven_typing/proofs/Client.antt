@@ -156,12 +156,12 @@ module _ (t : Typed) where
     pub front : IsFrontOf (again f) types
 
   module _ (i : ℕ) (insn : Insn) (f : FrameType) (there : slice_get b.method.insns i ≡ Some insn)
-      (framed : slice_get t.frames i ≡ Some (Some f)) (few : length f.stack ≤ b.method.max_stack) where
+      (typed_here : slice_get t.frames i ≡ Some (Some f)) (few : length f.stack ≤ b.method.max_stack) where
     front_alone : (ref : Target) → slice_get b.method.refs i ≡ Some ref → has_block b.policy ref ≡ false → FrontAt i f
     front_alone ref names none = record {
       types = again f;
       told =
-          frames.frame_alone b t.frames i insn ref (Some f) there names framed none (of.some b ref)
+          frames.frame_alone b t.frames i insn ref (Some f) there names typed_here none (of.some b ref)
           ∙ ap (option_map (frame_renamed moved)) (low_is f few);
       front = front_itself (again f);
     }
@@ -184,7 +184,7 @@ module _ (t : Typed) where
         record {
           types = enters.types;
           told =
-              frames.frame_item b t.frames i callee insn (Some f) there names framed has 0 first.0 first.1
+              frames.frame_item b t.frames i callee insn (Some f) there names typed_here has 0 first.0 first.1
               ∙ ap (λ (o : Option FrameType). option_and_then (λ g. frame_at clauses (around_of moved (old i insn ref) g) first.0.role) o) (low_is f few)
               ∙ ap (frame_at clauses (around ref)) role ∙ enters.told;
           front = enters.front;

@@ -13,7 +13,7 @@ use Rattle.conspec_automaton.specs.Next.{has_clauses}
 use Rattle.offset_patch.specs.Splicing.{part_of}
 use Rattle.block_template.specs.declared.item.Item.{Item}
 use Rattle.block_template.specs.Blocks.{block_with, bools_of, clauses_of, has_block}
-use Rattle.woven_typing.specs.Framing.{alone_framed, block_framed, front_in, frames_woven, insn_framed, item_framed, items_of, low, parts_framed, insn_place}
+use Rattle.woven_typing.specs.Framing.{alone_typed, block_typed, front_in, frames_woven, insn_typed, item_typed, items_of, low, parts_typed, insn_place}
 use Rattle.woven_typing.specs.Renaming.{frame_renamed}
 use Rattle.class_weaving.proofs.Bodies.{same_length}
 use Rattle.woven_typing.proofs.Body.{Body, base, client, front, moved, part, plan, refs, weaves}
@@ -28,8 +28,8 @@ module _ (b : Body) where
   -- ---- each part has as many frames as instructions
 
   block_long : (at : ℕ) (insn : Insn) (callee : ℕ) (frame : Option FrameType) (c : Bool) → has_clauses b.policy callee ≡ c
-      → length (cond c (block_framed b.policy b.mode (front_in (client b)) (insn_place (client b) at insn (target.ApiMethod callee)) callee frame)
-      (alone_framed (front_in (client b)) frame))
+      → length (cond c (block_typed b.policy b.mode (front_in (client b)) (insn_place (client b) at insn (target.ApiMethod callee)) callee frame)
+      (alone_typed (front_in (client b)) frame))
       ≡ length (part_of (cond c (Some (block_with b.mode (bools_of b.policy) (base b) (clauses_of b.policy callee))) None))
   block_long at insn callee frame true has =
       length-map (items_of b.policy b.mode (base b) callee) _
@@ -37,7 +37,7 @@ module _ (b : Body) where
   block_long at insn callee frame false has = refl
 
   pub as_long : (at : ℕ) (insn : Insn) (ref : Target) (frame : Option FrameType)
-      → length (insn_framed (client b) at insn ref frame) ≡ length (part b ref)
+      → length (insn_typed (client b) at insn ref frame) ≡ length (part b ref)
   as_long at insn (target.ApiMethod callee) frame = block_long at insn callee (low b.method.max_stack frame) (has_clauses b.policy callee) refl
   as_long at insn target.None frame = refl
   as_long at insn (target.Builtin i) frame = refl
@@ -49,7 +49,7 @@ module _ (b : Body) where
   as_long at insn (target.Literal i) frame = refl
 
   pub all_long : (at : ℕ) (insns : List Insn) (refs : List Target) (frames : Frames) → length insns ≡ length refs → length frames ≡ length insns
-      → length (parts_framed (client b) at insns refs frames) ≡ parts.total (plan b) (base b) refs
+      → length (parts_typed (client b) at insns refs frames) ≡ parts.total (plan b) (base b) refs
   all_long at [] [] frames e f = refl
   all_long at [] (r ∷ refs) frames e f = absurd (omega (arith, e))
   all_long at (x ∷ insns) [] frames e f = absurd (omega (arith, e))
@@ -57,7 +57,7 @@ module _ (b : Body) where
   all_long at (x ∷ insns) (r ∷ refs) (y ∷ frames) e f =
       omega (
         arith,
-        length-append (insn_framed (client b) at x r y) (parts_framed (client b) (at + 1) insns refs frames),
+        length-append (insn_typed (client b) at x r y) (parts_typed (client b) (at + 1) insns refs frames),
         as_long at x r y,
         all_long (at + 1) insns refs frames (omega (arith, e)) (omega (arith, f)),
       )
@@ -66,8 +66,8 @@ module _ (b : Body) where
 
   frames_at : (at : ℕ) (insns : List Insn) (refs : List Target) (frames : Frames) (i k : ℕ) (insn : Insn) (ref : Target) (frame : Option FrameType)
       → slice_get insns i ≡ Some insn → slice_get refs i ≡ Some ref → slice_get frames i ≡ Some frame → k < length (part b ref)
-      → slice_get (parts_framed (client b) at insns refs frames) (parts.before (plan b) (base b) refs i + k)
-      ≡ slice_get (insn_framed (client b) (at + i) insn ref frame) k
+      → slice_get (parts_typed (client b) at insns refs frames) (parts.before (plan b) (base b) refs i + k)
+      ≡ slice_get (insn_typed (client b) (at + i) insn ref frame) k
   frames_at at [] refs frames i k insn ref frame e f g lt = absurd cc
   frames_at at (x ∷ insns) [] frames i k insn ref frame e f g lt = absurd cc
   frames_at at (x ∷ insns) (r ∷ refs) [] i k insn ref frame e f g lt = absurd cc
@@ -78,16 +78,16 @@ module _ (b : Body) where
       let none : 0 + k ≡ k = omega arith in
       let here : at + 0 ≡ at = omega arith in
       rw (own, same, this, none, here)
-      (get_left (insn_framed (client b) at insn ref frame) (parts_framed (client b) (at + 1) insns refs frames) k
+      (get_left (insn_typed (client b) at insn ref frame) (parts_typed (client b) (at + 1) insns refs frames) k
       (omega (arith, lt, as_long at insn ref frame)))
   frames_at at (x ∷ insns) (r ∷ refs) (y ∷ frames) (suc i) k insn ref frame e f g lt =
-      let first : Frames = insn_framed (client b) at x r y in
+      let first : Frames = insn_typed (client b) at x r y in
       let len : length first ≡ length (part b r) = as_long at x r y in
       let place : parts.before (plan b) (base b) (r ∷ refs) (suc i) + k ≡ length first + (parts.before (plan b) (base b) refs i + k) =
       omega (arith, len) in
       let next : at + suc i ≡ (at + 1) + i = omega arith in
       rw (place, next)
-      (get_right first (parts_framed (client b) (at + 1) insns refs frames) (parts.before (plan b) (base b) refs i + k)
+      (get_right first (parts_typed (client b) (at + 1) insns refs frames) (parts.before (plan b) (base b) refs i + k)
       ∙ frames_at (at + 1) insns refs frames i k insn ref frame e f g lt)
 
   module _ (frames : Frames) where
@@ -99,11 +99,11 @@ module _ (b : Body) where
 
     module _ (i k : ℕ) (insn : Insn) (ref : Target) (frame : Option FrameType) (e : slice_get b.method.insns i ≡ Some insn)
         (f : slice_get (refs b) i ≡ Some ref) (g : slice_get frames i ≡ Some frame) (lt : k < length (part b ref)) where
-      pub frame_in : slice_get woven (front b i + k) ≡ slice_get (insn_framed (client b) i insn ref frame) k
+      pub frame_in : slice_get woven (front b i + k) ≡ slice_get (insn_typed (client b) i insn ref frame) k
       frame_in =
           let here : 0 + i ≡ i = omega arith in
           frames_at 0 b.method.insns (refs b) frames i k insn ref frame e f g lt
-          ∙ ap (λ (at : ℕ). slice_get (insn_framed (client b) at insn ref frame) k) here
+          ∙ ap (λ (at : ℕ). slice_get (insn_typed (client b) at insn ref frame) k) here
 
     -- an instruction without a block
     pub frame_alone : (i : ℕ) (insn : Insn) (ref : Target) (frame : Option FrameType) → slice_get b.method.insns i ≡ Some insn
@@ -116,11 +116,11 @@ module _ (b : Body) where
         kept = low b.method.max_stack frame
 
         by : (r : Target) → has_block b.policy r ≡ false
-            → frame_or_none (slice_get (insn_framed (client b) i insn r frame) 0) ≡ option_map (frame_renamed (moved b)) kept
+            → frame_or_none (slice_get (insn_typed (client b) i insn r frame) 0) ≡ option_map (frame_renamed (moved b)) kept
         by (target.ApiMethod callee) none =
             ap (λ (c : Bool). frame_or_none (slice_get (cond c
-            (block_framed b.policy b.mode (front_in (client b)) (insn_place (client b) i insn (target.ApiMethod callee)) callee kept)
-            (alone_framed (front_in (client b)) kept)) 0)) none
+            (block_typed b.policy b.mode (front_in (client b)) (insn_place (client b) i insn (target.ApiMethod callee)) callee kept)
+            (alone_typed (front_in (client b)) kept)) 0)) none
         by target.None none = refl
         by (target.Builtin j) none = refl
         by (target.Method c m) none = refl
@@ -135,12 +135,12 @@ module _ (b : Body) where
         → slice_get (refs b) i ≡ Some (target.ApiMethod callee) → slice_get frames i ≡ Some frame → has_clauses b.policy callee ≡ true
         → (k : ℕ) (item : Item) → slice_get (items_of b.policy b.mode (base b) callee) k ≡ Some item
         → frame_of woven (front b i + k)
-        ≡ item_framed (clauses_of b.policy callee) (moved b) (insn_place (client b) i insn (target.ApiMethod callee))
+        ≡ item_typed (clauses_of b.policy callee) (moved b) (insn_place (client b) i insn (target.ApiMethod callee))
         (low b.method.max_stack frame) item
     frame_item i callee insn frame e f g has k item at =
         let ref : Target = target.ApiMethod callee in
         let kept : Option FrameType = low b.method.max_stack frame in
-        let framed : Item → Option FrameType = item_framed (clauses_of b.policy callee) (moved b) (insn_place (client b) i insn ref) kept in
+        let typed_here : Item → Option FrameType = item_typed (clauses_of b.policy callee) (moved b) (insn_place (client b) i insn ref) kept in
         let lt : k < length (part b ref) =
         omega (
           arith,
@@ -150,7 +150,7 @@ module _ (b : Body) where
         ap frame_or_none
         (frame_in i k insn ref frame e f g lt
         ∙ ap (λ (c : Bool). slice_get (cond c
-        (block_framed b.policy b.mode (front_in (client b)) (insn_place (client b) i insn ref) callee kept)
-        (alone_framed (front_in (client b)) kept)) k) has
-        ∙ slice_get-map framed (items_of b.policy b.mode (base b) callee) k)
-        ∙ ap (λ (o : Option Item). frame_or_none (option_map framed o)) at
+        (block_typed b.policy b.mode (front_in (client b)) (insn_place (client b) i insn ref) callee kept)
+        (alone_typed (front_in (client b)) kept)) k) has
+        ∙ slice_get-map typed_here (items_of b.policy b.mode (base b) callee) k)
+        ∙ ap (λ (o : Option Item). frame_or_none (option_map typed_here o)) at

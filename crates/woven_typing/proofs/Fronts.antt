@@ -1,4 +1,4 @@
--- The types at the front of a block: those before its call, with locals that nothing is known of behind them.
+-- The types at the front of a block: those before its call, with locals that nothing is known of after them.
 use Rattle.std.proofs.Common.{◌≡◌, ℕ, zero, suc, ◌+◌, ◌-◌, ◌≤◌, Bool, true, false, List, [], ◌∷◌, ◌++◌, length, drop, replicate, Option, Some, None, refl, sym, ap, ◌∙◌, append-nil, append_assoc, arith}
 use Rattle.std.specs.Prelude.{◌&&◌, ◌==◌, nat_le}
 use Rattle.std.specs.List.{AllByRecursion}
@@ -25,7 +25,7 @@ use Rattle.block_template.specs.Flow.{entered, saving}
 use Rattle.block_template.specs.Frames.{Around, frame, frame_at, kept_arguments, kept_types, saved_locals}
 use Rattle.block_template.proofs.Types.{below_none, topmost_few}
 
--- The operands are the same, and so are the locals, behind which there may be some that nothing is known of.
+-- The operands are the same, and so are the locals, after which there may be some that nothing is known of.
 pub record IsFrontOf (f g : FrameType) : Type 0 where
   pub stack : g.stack ≡ f.stack
   pub more : List VType

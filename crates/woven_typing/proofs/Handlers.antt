@@ -91,8 +91,8 @@ module _ (plan : Plan) (base : ℕ) (p : Handler → Bool) where
       let here : begin + 0 ≡ begin = omega arith in
       subst (λ (m : ℕ). p (own_handler m block.insns place) ≡ true) here (pass 0 ref block place refl e f)))
       (own_all later refs (λ i r block place e f g.
-      let behind : begin + (length (parts.part plan base ref) + parts.before plan base refs i) ≡ later + parts.before plan base refs i = omega arith in
-      subst (λ (m : ℕ). p (own_handler m block.insns place) ≡ true) behind (pass (suc i) r block place e f g)))
+      let following : begin + (length (parts.part plan base ref) + parts.before plan base refs i) ≡ later + parts.before plan base refs i = omega arith in
+      subst (λ (m : ℕ). p (own_handler m block.insns place) ≡ true) following (pass (suc i) r block place e f g)))
 
 module _ (t : Typed) (i k : ℕ) (insn : Insn) (ref : Target) (there : slice_get t.body.method.insns i ≡ Some insn)
     (names : slice_get t.body.method.refs i ≡ Some ref) (less : k < length (of.part t.body ref)) where

@@ -16,7 +16,7 @@ use Rattle.insn_codec.specs.Control.{jump_targets, successors}
 use Rattle.insn_codec.specs.Fits.{IsInsn}
 use Rattle.insn_codec.specs.Opcodes.{goes_on}
 use Rattle.insn_codec.specs.Shapes.{branch_shape, comparing_shape, shape_of, test_shape}
-use Rattle.insn_codec.specs.Spelling.{opcode_of}
+use Rattle.insn_codec.specs.Encoding.{opcode_of}
 use Rattle.insn_codec.specs.Table.{ends, is_heap}
 use Rattle.insn_codec.proofs.Table.{goes_on_alike}
 use Rattle.bytecode_model.specs.declared.program.Program.{Program}
@@ -152,22 +152,22 @@ type_padded base locals j = by locals j (base - length locals)
     by (x ∷ xs) zero n = refl
     by (x ∷ xs) (suc j) n = by xs j n
 
-module _ (place : InsnPlace) (order : IsInOrder place.program) (base : ℕ) (behind to : FrameType)
-    (stack : stack_fits place.program behind.stack to.stack ≡ true) (locals : locals_fit place.program (type_at behind.locals) 0 to.locals ≡ true) where
+module _ (place : InsnPlace) (order : IsInOrder place.program) (base : ℕ) (following to : FrameType)
+    (stack : stack_fits place.program following.stack to.stack ≡ true) (locals : locals_fit place.program (type_at following.locals) 0 to.locals ≡ true) where
   abbrev left : FrameType
-  left = frame (padded base behind.locals) behind.stack
+  left = frame (padded base following.locals) following.stack
 
-  padded_fits : locals_fit place.program (type_at (padded base behind.locals)) 0 to.locals ≡ true
+  padded_fits : locals_fit place.program (type_at (padded base following.locals)) 0 to.locals ≡ true
   padded_fits =
-      locals_through place.program (type_at behind.locals) (type_at (padded base behind.locals)) to.locals
-      (λ j t e. ap (λ (u : VType). assignable place.program u t) (type_padded base behind.locals j) ∙ e) locals
+      locals_through place.program (type_at following.locals) (type_at (padded base following.locals)) to.locals
+      (λ j t e. ap (λ (u : VType). assignable place.program u t) (type_padded base following.locals j) ∙ e) locals
 
   -- What goes to where the block is left goes to what takes what the call leaves.
   pub goes_out : (types : FrameType) → goes_well place types left ≡ true → goes_well place types to ≡ true
   goes_out types e =
       let after : List VType = stack_after place types.locals (length (takes place)) types.stack in
       let then : ℕ → VType = local_after place types.locals (taken place types) in
-      let parts = and_parts (stack_fits place.program after behind.stack) (locals_fit place.program then 0 (padded base behind.locals)) e in
+      let parts = and_parts (stack_fits place.program after following.stack) (locals_fit place.program then 0 (padded base following.locals)) e in
       and_from (stack_fits place.program after to.stack) (locals_fit place.program then 0 to.locals)
-      (stacks_over place.program order after behind.stack to.stack parts.0 stack)
-      (locals_over place.program order then (padded base behind.locals) to.locals parts.1 padded_fits)
+      (stacks_over place.program order after following.stack to.stack parts.0 stack)
+      (locals_over place.program order then (padded base following.locals) to.locals parts.1 padded_fits)

@@ -89,7 +89,7 @@ module _ (b : Body) where
             ∙ sym (ap (λ (o : Option Insn). new_in o (slice_get b.method.refs i)) x.1 ∙ ap (λ (o : Option Target). new_in (Some x.0) o) r.1)
         | inr fails ↦
             let past : length b.method.insns ≤ i = grind (arith, nat_tests) in
-            let behind : length b.made.insns ≤ moved b i = moved_past b i past in
-            ap (λ (o : Option Insn). new_in o (slice_get b.made.refs (moved b i))) (slice_get_past b.made.insns (moved b i) behind)
+            let following : length b.made.insns ≤ moved b i = moved_past b i past in
+            ap (λ (o : Option Insn). new_in o (slice_get b.made.refs (moved b i))) (slice_get_past b.made.insns (moved b i) following)
             ∙ sym (ap (λ (o : Option Insn). new_in o (slice_get b.method.refs i)) (slice_get_past b.method.insns i past))
       ]

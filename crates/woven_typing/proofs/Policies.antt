@@ -10,13 +10,13 @@ use Rattle.api_listing.specs.declared.types.ListedClass.{ListedClass}
 use Rattle.api_listing.specs.declared.types.Listing.{Listing}
 use Rattle.api_listing.specs.BuiltIn.{built_in_classes, class_rows, throwable}
 use Rattle.api_listing.specs.Descriptor as listed
-use Rattle.api_listing.specs.Descriptor.{SpellsDescriptor}
-use Rattle.api_listing.specs.Listing.{SpellsListing, class_declared}
+use Rattle.api_listing.specs.Descriptor.{EncodesDescriptor}
+use Rattle.api_listing.specs.Listing.{EncodesListing, class_declared}
 use Rattle.api_listing.specs.Nearest.{upwards}
 use Rattle.bytecode_model.specs.declared.program.LinkedClass.{LinkedClass}
 use Rattle.bytecode_model.specs.Described.{Descriptor, arguments, result_text, type_described}
 use Rattle.bytecode_model.specs.Heads.{head_of}
-use Rattle.bytecode_model.proofs.ListedMethods.{method_spelled}
+use Rattle.bytecode_model.proofs.ListedMethods.{method_encoded}
 use Rattle.conspec_tree.specs.declared.types.Kind.{Kind}
 use Rattle.conspec_tree.specs.declared.types.TreeClause.{TreeClause}
 use Rattle.conspec_tree.specs.Kinds.{array_kind, kind_of}
@@ -27,7 +27,7 @@ use Rattle.woven_typing.specs.Telling.{AreOfKinds, ClauseTells, IsOfKind, IsOfRe
 
 -- ---- kinds
 
-kind_fits : (n : ℕ) (e : Element) → IsOfKind (array_kind n e) (type_described (replicate n 91 ++ listed.element_spelled e))
+kind_fits : (n : ℕ) (e : Element) → IsOfKind (array_kind n e) (type_described (replicate n 91 ++ listed.element_encoded e))
 kind_fits (suc n) e = (_, refl)
 kind_fits zero elements.Boolean = refl
 kind_fits zero elements.Byte = refl
@@ -36,12 +36,12 @@ kind_fits zero elements.Short = refl
 kind_fits zero elements.Int = refl
 kind_fits zero (elements.Class name) = (_, refl)
 
-kinds_fit : (ts : List FieldType) → AreOfKinds (map kind_of ts) (map listed.type_spelled ts)
+kinds_fit : (ts : List FieldType) → AreOfKinds (map kind_of ts) (map listed.type_encoded ts)
 kinds_fit [] = tt
 kinds_fit (t ∷ ts) = (kind_fits t.dimensions t.element, kinds_fit ts)
 
--- A type is spelled other than nothing is.
-not_nothing : (n : ℕ) (e : Element) → bytes_eq (replicate n 91 ++ listed.element_spelled e) (codes "V") ≡ false
+-- A type is encoded other than nothing is.
+not_nothing : (n : ℕ) (e : Element) → bytes_eq (replicate n 91 ++ listed.element_encoded e) (codes "V") ≡ false
 not_nothing (suc n) e = refl
 not_nothing zero elements.Boolean = refl
 not_nothing zero elements.Byte = refl
@@ -52,34 +52,34 @@ not_nothing zero (elements.Class name) = refl
 
 -- ---- clauses
 
-arguments_told : (args : List Kind) (desc : List ℕ) (types : MethodType) → SpellsDescriptor desc types → args ≡ map kind_of types.arguments
+arguments_told : (args : List Kind) (desc : List ℕ) (types : MethodType) → EncodesDescriptor desc types → args ≡ map kind_of types.arguments
     → AreOfKinds args (arguments desc)
-arguments_told args desc types spells is =
-    let told : arguments desc ≡ map listed.type_spelled types.arguments = (described_so desc types spells).0 in
+arguments_told args desc types encodes is =
+    let told : arguments desc ≡ map listed.type_encoded types.arguments = (described_so desc types encodes).0 in
     subst (λ (ks : List Kind). AreOfKinds ks (arguments desc)) (sym is)
     (subst (λ (ds : List Descriptor). AreOfKinds (map kind_of types.arguments) ds) (sym told) (kinds_fit types.arguments))
 
-result_told : (result : Option Kind) (desc : List ℕ) (types : MethodType) → SpellsDescriptor desc types → result ≡ option_map kind_of types.result
+result_told : (result : Option Kind) (desc : List ℕ) (types : MethodType) → EncodesDescriptor desc types → result ≡ option_map kind_of types.result
     → IfSome result (IsOfResult desc)
-result_told result desc types spells is = subst (λ (o : Option Kind). IfSome o (IsOfResult desc)) (sym is) (by types.result (described_so desc types spells).1)
+result_told result desc types encodes is = subst (λ (o : Option Kind). IfSome o (IsOfResult desc)) (sym is) (by types.result (described_so desc types encodes).1)
   where
-    by : (o : Option FieldType) → result_text desc ≡ listed.result_spelled o → IfSome (option_map kind_of o) (IsOfResult desc)
+    by : (o : Option FieldType) → result_text desc ≡ listed.result_encoded o → IfSome (option_map kind_of o) (IsOfResult desc)
     by None e = tt
     by (Some t) e = (
-      type_described (listed.type_spelled t),
+      type_described (listed.type_encoded t),
       ap (λ (text : List ℕ). cond (bytes_eq text (codes "V")) None (Some (type_described text))) e
-          ∙ ap (λ (b : Bool). cond b None (Some (type_described (listed.type_spelled t)))) (not_nothing t.dimensions t.element),
+          ∙ ap (λ (b : Bool). cond b None (Some (type_described (listed.type_encoded t)))) (not_nothing t.dimensions t.element),
       kind_fits t.dimensions t.element,
     )
 
-module _ (text : List ℕ) (listing : Listing) (spells : SpellsListing text listing) (maxint : ℤ) where
+module _ (text : List ℕ) (listing : Listing) (encodes : EncodesListing text listing) (maxint : ℤ) where
   clause_tells : (clause : TreeClause) → ClauseTellsKinds listing clause → ClauseTellsResult listing clause
       → ClauseTells listing (clause_built maxint clause)
   clause_tells clause kinds results method there =
-      let spelled = method_spelled text listing clause.method method spells there in
+      let encoded = method_encoded text listing clause.method method encodes there in
       record {
-        arguments = arguments_told clause.args method.id.desc spelled.0 spelled.1 (kinds method spelled.0 there spelled.1);
-        result = result_told clause.result method.id.desc spelled.0 spelled.1 (results method spelled.0 there spelled.1);
+        arguments = arguments_told clause.args method.id.desc encoded.0 encoded.1 (kinds method encoded.0 there encoded.1);
+        result = result_told clause.result method.id.desc encoded.0 encoded.1 (results method encoded.0 there encoded.1);
       }
 
   clauses_tell : (clauses : List TreeClause) → AllByRecursion (ClauseTellsKinds listing) clauses
@@ -88,7 +88,7 @@ module _ (text : List ℕ) (listing : Listing) (spells : SpellsListing text list
   clauses_tell (clause ∷ clauses) kinds results = (clause_tells clause kinds.0 results.0, clauses_tell clauses kinds.1 results.1)
 
 pub policies_tell : PoliciesTell
-policies_tell text listing tree spells kinds results = clauses_tell text listing spells tree.maxint tree.clauses kinds results
+policies_tell text listing tree encodes kinds results = clauses_tell text listing encodes tree.maxint tree.clauses kinds results
 
 -- ---- Throwable
 
@@ -99,10 +99,10 @@ unfolding class_rows
 built_in_known more = refl
 
 pub throwable_known : ListingsKnowThrowable
-throwable_known text program spells =
+throwable_known text program encodes =
     let heads : List ListedClass = map (λ (c : LinkedClass). head_of c.file) program.classes in
-    let said : List ListedClass = filter_map class_declared spells.said in
+    let said : List ListedClass = filter_map class_declared encodes.said in
     let is : program.listing.classes ++ heads ≡ built_in_classes ++ (said ++ heads) =
-    ap (λ (l : Listing). l.classes ++ heads) spells.listed ∙ append_assoc built_in_classes said heads in
+    ap (λ (l : Listing). l.classes ++ heads) encodes.listed ∙ append_assoc built_in_classes said heads in
     ap (λ (cs : List ListedClass). list_any (λ (c : ListedClass). bytes_eq c.name throwable) (upwards (length cs) cs throwable)) is
     ∙ built_in_known (said ++ heads)

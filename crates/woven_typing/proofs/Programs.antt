@@ -28,7 +28,7 @@ use Rattle.offset_patch.proofs.Steady.{steady_wanted}
 use Rattle.block_template.specs.Blocks.{plan_of}
 use Rattle.class_weaving.specs.Outcome.{Each, IsWovenClass, IsWovenMethod, class_wants, wants_woven}
 use Rattle.class_weaving.proofs.Wanted.{all_of}
-use Rattle.woven_typing.specs.Framing.{classes_framed, client_of, frames_woven, methods_framed, typing_of}
+use Rattle.woven_typing.specs.Framing.{classes_typed, client_of, frames_woven, methods_typed, typing_of}
 use Rattle.woven_typing.specs.WovenTyping.{IsGiven}
 use Rattle.class_weaving.proofs.Bodies.{end_is, made_long}
 use Rattle.woven_typing.proofs.Body as of
@@ -79,8 +79,8 @@ each_from {X = X} {Y = Y} P Q at (x ∷ xs) (y ∷ ys) each gives =
   where
     next : (i : ℕ) (u : X) (v : Y) → slice_get xs i ≡ Some u → slice_get ys i ≡ Some v → P u v → Q ((at + 1) + i) u v
     next i u v e f p =
-        let behind : at + suc i ≡ (at + 1) + i = omega arith in
-        subst (λ (n : ℕ). Q n u v) behind (gives (suc i) u v e f p)
+        let following : at + suc i ≡ (at + 1) + i = omega arith in
+        subst (λ (n : ℕ). Q n u v) following (gives (suc i) u v e f p)
 
 each_there : {X Y : Type 0} (Q : ℕ → X → Y → Type 0) (at : ℕ) (xs : List X) (ys : List Y) (i : ℕ) (x : X) (y : Y) → EachFrom Q at xs ys
     → slice_get xs i ≡ Some x → slice_get ys i ≡ Some y → Q (at + i) x y
@@ -97,9 +97,9 @@ each_there Q at (u ∷ xs) (v ∷ ys) (suc i) x y each e f =
 
 -- ---- lists of lists
 
-list_behind : {A : Type 0} (lists : List (List A)) (n : ℕ) → list_at (drop 1 lists) n ≡ list_at lists (suc n)
-list_behind [] n = refl
-list_behind (x ∷ lists) n = refl
+list_after : {A : Type 0} (lists : List (List A)) (n : ℕ) → list_at (drop 1 lists) n ≡ list_at lists (suc n)
+list_after [] n = refl
+list_after (x ∷ lists) n = refl
 
 module _ (old new : Program) (policy : Policy) (mode : Mode) (g : IsGiven old new policy mode) where
   abbrev plan : Plan
@@ -207,15 +207,15 @@ module _ (old new : Program) (policy : Policy) (mode : Mode) (g : IsGiven old ne
 
   method_at : (own : ℕ) (class : LinkedClass) (methods : List Method) (told : List Frames) (index : ℕ) (m : Method)
       → slice_get methods index ≡ Some m → has_code m ≡ true
-      → list_at (methods_framed old policy mode own class methods told) (length (coded (take index methods)))
+      → list_at (methods_typed old policy mode own class methods told) (length (coded (take index methods)))
       ≡ frames_woven (client_of old policy mode own class m) (list_at told (length (coded (take index methods))))
   method_at own class [] told index m e code = absurd cc
   method_at own class (x ∷ methods) told zero m e code =
       let same : x ≡ m = cc in
       let first : has_code x ≡ true = ap has_code same ∙ code in
       ap (λ (c : Bool). list_at (cond c
-      (frames_woven (client_of old policy mode own class x) (list_at told 0) ∷ methods_framed old policy mode own class methods (drop 1 told))
-      (methods_framed old policy mode own class methods told)) 0) first
+      (frames_woven (client_of old policy mode own class x) (list_at told 0) ∷ methods_typed old policy mode own class methods (drop 1 told))
+      (methods_typed old policy mode own class methods told)) 0) first
       ∙ ap (λ (y : Method). frames_woven (client_of old policy mode own class y) (list_at told 0)) same
   method_at own class (x ∷ methods) told (suc index) m e code = by (has_code x)
       (λ later. method_at own class methods later index m e code)
@@ -225,30 +225,30 @@ module _ (old new : Program) (policy : Policy) (mode : Mode) (g : IsGiven old ne
 
       by : (c : Bool)
           → ((later : List Frames)
-          → list_at (methods_framed old policy mode own class methods later) n ≡ frames_woven (client_of old policy mode own class m) (list_at later n))
+          → list_at (methods_typed old policy mode own class methods later) n ≡ frames_woven (client_of old policy mode own class m) (list_at later n))
           → list_at (cond c
-          (frames_woven (client_of old policy mode own class x) (list_at told 0) ∷ methods_framed old policy mode own class methods (drop 1 told))
-          (methods_framed old policy mode own class methods told)) (length (cond c (x ∷ coded (take index methods)) (coded (take index methods))))
+          (frames_woven (client_of old policy mode own class x) (list_at told 0) ∷ methods_typed old policy mode own class methods (drop 1 told))
+          (methods_typed old policy mode own class methods told)) (length (cond c (x ∷ coded (take index methods)) (coded (take index methods))))
           ≡ frames_woven (client_of old policy mode own class m)
           (list_at told (length (cond c (x ∷ coded (take index methods)) (coded (take index methods)))))
-      by true there = there (drop 1 told) ∙ ap (frames_woven (client_of old policy mode own class m)) (list_behind told n)
+      by true there = there (drop 1 told) ∙ ap (frames_woven (client_of old policy mode own class m)) (list_after told n)
       by false there = there told
 
   class_at : (start : ℕ) (classes : List LinkedClass) (told : List (List Frames)) (own : ℕ) (class : LinkedClass)
       → slice_get classes own ≡ Some class
-      → list_at (classes_framed old policy mode start classes told) own
-      ≡ methods_framed old policy mode (start + own) class class.methods (list_at told own)
+      → list_at (classes_typed old policy mode start classes told) own
+      ≡ methods_typed old policy mode (start + own) class class.methods (list_at told own)
   class_at start [] told own class e = absurd cc
   class_at start (x ∷ classes) told zero class e =
       let same : x ≡ class = cc in
       let here : start ≡ start + 0 = omega arith in
-      ap (λ (n : ℕ). methods_framed old policy mode n x x.methods (list_at told 0)) here
-      ∙ ap (λ (c : LinkedClass). methods_framed old policy mode (start + 0) c c.methods (list_at told 0)) same
+      ap (λ (n : ℕ). methods_typed old policy mode n x x.methods (list_at told 0)) here
+      ∙ ap (λ (c : LinkedClass). methods_typed old policy mode (start + 0) c c.methods (list_at told 0)) same
   class_at start (x ∷ classes) told (suc own) class e =
-      let behind : (start + 1) + own ≡ start + suc own = omega arith in
+      let following : (start + 1) + own ≡ start + suc own = omega arith in
       class_at (start + 1) classes (drop 1 told) own class e
-      ∙ ap (λ (n : ℕ). methods_framed old policy mode n class class.methods (list_at (drop 1 told) own)) behind
-      ∙ ap (methods_framed old policy mode (start + suc own) class class.methods) (list_behind told own)
+      ∙ ap (λ (n : ℕ). methods_typed old policy mode n class class.methods (list_at (drop 1 told) own)) following
+      ∙ ap (methods_typed old policy mode (start + suc own) class class.methods) (list_after told own)
 
   -- The frames of a method of the woven program are those that are woven of the frames of the method that it was.
   pub frames_are : (typing : Typing) (own index : ℕ) (class other : LinkedClass) (method : Method) → slice_get old.classes own ≡ Some class
@@ -262,7 +262,7 @@ module _ (old new : Program) (policy : Policy) (mode : Mode) (g : IsGiven old ne
       ap (list_at (frames_told (typing_of old policy mode typing) own)) (same_place own class index 0 class.methods other.methods each)
       ∙ ap (λ (told : List Frames). list_at told (length (coded (take index class.methods))))
       (class_at 0 old.classes typing.frames own class e
-      ∙ ap (λ (n : ℕ). methods_framed old policy mode n class class.methods (list_at typing.frames own)) none)
+      ∙ ap (λ (n : ℕ). methods_typed old policy mode n class class.methods (list_at typing.frames own)) none)
       ∙ method_at own class class.methods (frames_told typing own) index method h code
 
   -- ---- the shape
@@ -270,7 +270,7 @@ module _ (old new : Program) (policy : Policy) (mode : Mode) (g : IsGiven old ne
   methods_shape : (own : ℕ) (class : LinkedClass) (at : ℕ) (olds news : List Method) (told : List Frames)
       → EachFrom (λ (i : ℕ) (x y : Method). IsAlike own class x y) at olds news
       → map length told ≡ map (λ (m : Method). length m.insns) (coded olds)
-      → map length (methods_framed old policy mode own class olds told) ≡ map (λ (m : Method). length m.insns) (coded news)
+      → map length (methods_typed old policy mode own class olds told) ≡ map (λ (m : Method). length m.insns) (coded news)
   methods_shape own class at [] [] told each shape = refl
   methods_shape own class at [] (y ∷ news) told each shape = absurd each
   methods_shape own class at (x ∷ olds) [] told each shape = absurd each
@@ -281,22 +281,22 @@ module _ (old new : Program) (policy : Policy) (mode : Mode) (g : IsGiven old ne
       Later : Type 0
       Later =
           (later : List Frames) → map length later ≡ map (λ (m : Method). length m.insns) (coded olds)
-          → map length (methods_framed old policy mode own class olds later) ≡ map (λ (m : Method). length m.insns) (coded news)
+          → map length (methods_typed old policy mode own class olds later) ≡ map (λ (m : Method). length m.insns) (coded news)
 
       by : (c : Bool) → map length told ≡ map (λ (m : Method). length m.insns) (cond c (x ∷ coded olds) (coded olds))
           → ((frames : Frames) → length frames ≡ length x.insns
           → length (frames_woven (client_of old policy mode own class x) frames) ≡ length y.insns)
           → ((later : List Frames) → map length later ≡ map (λ (m : Method). length m.insns) (coded olds)
-          → map length (methods_framed old policy mode own class olds later) ≡ map (λ (m : Method). length m.insns) (coded news))
+          → map length (methods_typed old policy mode own class olds later) ≡ map (λ (m : Method). length m.insns) (coded news))
           → map length (cond c
-          (frames_woven (client_of old policy mode own class x) (list_at told 0) ∷ methods_framed old policy mode own class olds (drop 1 told))
-          (methods_framed old policy mode own class olds told))
+          (frames_woven (client_of old policy mode own class x) (list_at told 0) ∷ methods_typed old policy mode own class olds (drop 1 told))
+          (methods_typed old policy mode own class olds told))
           ≡ map (λ (m : Method). length m.insns) (cond c (y ∷ coded news) (coded news))
       by true e many later = first told e
         where
           first : (told : List Frames) → map length told ≡ length x.insns ∷ map (λ (m : Method). length m.insns) (coded olds)
               → map length (frames_woven (client_of old policy mode own class x) (list_at told 0)
-              ∷ methods_framed old policy mode own class olds (drop 1 told))
+              ∷ methods_typed old policy mode own class olds (drop 1 told))
               ≡ length y.insns ∷ map (λ (m : Method). length m.insns) (coded news)
           first [] e = absurd cc
           first (fs ∷ told) e =
@@ -308,7 +308,7 @@ module _ (old new : Program) (policy : Policy) (mode : Mode) (g : IsGiven old ne
   classes_shape : (start : ℕ) (olds news : List LinkedClass) (told : List (List Frames)) (state : LinkedClass) → state.methods ≡ []
       → EachFrom AreAlike start olds news
       → map (map length) told ≡ map (λ (c : LinkedClass). map (λ (m : Method). length m.insns) (coded c.methods)) olds
-      → map (map length) (classes_framed old policy mode start olds told)
+      → map (map length) (classes_typed old policy mode start olds told)
       ≡ map (λ (c : LinkedClass). map (λ (m : Method). length m.insns) (coded c.methods)) (news ++ state ∷ [])
   classes_shape start [] [] told state none each shape =
       ap (λ (ms : List Method). map (λ (m : Method). length m.insns) (coded ms) ∷ []) (sym none)

@@ -129,7 +129,7 @@ module _ (moved : ℕ → ℕ) where
   given kinds.Short t is = number_given t is
   given kinds.Char t is = number_given t is
 
-  -- What is on top of other operands behind a call is what it gives.
+  -- What is on top of other operands after a call is what it gives.
   pub result_held : (kind : Kind) (desc : List ℕ) (below : List VType) → IsOfResult desc kind
       → all_met (kept_kind kind ∷ []) (topmost 1 (map (renamed moved) (below ++ call_yields (result_type desc)))) ≡ true
   result_held kind desc below is =

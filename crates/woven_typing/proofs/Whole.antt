@@ -17,7 +17,7 @@ use Rattle.offset_patch.specs.declared.block.BlockInsn.TheVariants.{Call}
 use Rattle.offset_patch.specs.Splicing.{put}
 use Rattle.block_template.specs.Blocks.{clauses_of, has_block}
 use Rattle.class_weaving.specs.Outcome.{part_named}
-use Rattle.woven_typing.specs.Framing.{items_of, item_framed, low, insn_place}
+use Rattle.woven_typing.specs.Framing.{items_of, item_typed, low, insn_place}
 use Rattle.woven_typing.specs.Renaming.{frame_renamed}
 use Rattle.class_weaving.proofs.Bodies.{insn_there, made_long, ref_there, same_length}
 use Rattle.woven_typing.proofs.BlockRows.{block_row}
@@ -42,7 +42,7 @@ module _ (t : Typed) where
   frame_told i x e = ap frames.frame_or_none e
 
   module _ (i : ℕ) (insn : Insn) (ref : Target) (x : Option FrameType) (there : slice_get (b t).method.insns i ≡ Some insn)
-      (names : slice_get (b t).method.refs i ≡ Some ref) (framed : slice_get t.frames i ≡ Some x) where
+      (names : slice_get (b t).method.refs i ≡ Some ref) (typed_here : slice_get t.frames i ≡ Some x) where
     -- ---- the first instruction has a frame, which is kept
 
     no_frame : x ≡ None → i ≢ 0
@@ -51,14 +51,14 @@ module _ (t : Typed) where
         let some : ◌≡◌ {A = Option ℕ} (Some 1) None =
         sym
         (ap (option_and_then (λ (y : Insn). row_failing t.frames (place_at (b t).old (b t).own (b t).class (b t).method i y) (frame_of t.frames i))) there
-        ∙ ap (row_failing t.frames (place_at (b t).old (b t).own (b t).class (b t).method i insn)) (frame_told i x framed ∙ is)
+        ∙ ap (row_failing t.frames (place_at (b t).old (b t).own (b t).class (b t).method i insn)) (frame_told i x typed_here ∙ is)
         ∙ ap (λ (c : Bool). cond c (Some 1) None) (eq-eqb i 0 first))
         ∙ row in
         absurd cc
 
     not_high : (f : FrameType) → x ≡ Some f → i ≡ 0 → length f.stack ≡ 0
     not_high f is first =
-        let row = row_of t i insn ref f there names (frame_told i x framed ∙ is) in
+        let row = row_of t i insn ref f there names (frame_told i x typed_here ∙ is) in
         let entry = row.entry (eq-eqb i 0 first) in
         let p : InsnPlace = old t i insn ref in
         let few = and_parts (nat_le (length (entry_locals p)) (b t).method.max_locals) _ entry in
@@ -112,18 +112,18 @@ module _ (t : Typed) where
       at : m ≡ moved t i
       at = omega (arith, of.moved_is (b t) i (slice_get_within (b t).method.insns i insn there))
 
-      framed_so : frame_of (woven t) m ≡ option_map (frame_renamed (moved t)) (low (b t).method.max_stack x)
-      framed_so = frames.frame_alone (b t) t.frames i insn ref x there names framed bare (omega (arith, single))
+      typed_so : frame_of (woven t) m ≡ option_map (frame_renamed (moved t)) (low (b t).method.max_stack x)
+      typed_so = frames.frame_alone (b t) t.frames i insn ref x there names typed_here bare (omega (arith, single))
 
       client_row : (f : FrameType) → x ≡ Some f → length f.stack ≤ (b t).method.max_stack → Met m
       client_row f is few =
-          let row = row_of t i insn ref f there names (frame_told i x framed ∙ is) in
+          let row = row_of t i insn ref f there names (frame_told i x typed_here ∙ is) in
           let kept = kept_at t i m insn ref there (λ new. at) in
           let p : InsnPlace = old t i insn ref in
           let q : InsnPlace = here t m (aim t insn) ref in
           row_here t m (aim t insn) ref (Some (again t f)) (insn_there (of.weaves (b t)) i 0 insn ref Call there names call)
           (ref_there (of.weaves (b t)) i 0 ref Call names call)
-          (framed_so ∙ ap (λ (y : Option FrameType). option_map (frame_renamed (moved t)) (low (b t).method.max_stack y)) is
+          (typed_so ∙ ap (λ (y : Option FrameType). option_map (frame_renamed (moved t)) (low (b t).method.max_stack y)) is
           ∙ ap (option_map (frame_renamed (moved t))) (low_is t f few))
           (row_met (woven t) q (again t f)
           (record {
@@ -141,7 +141,7 @@ module _ (t : Typed) where
           }))
 
       alone_row : (y : Option FrameType) → low (b t).method.max_stack x ≡ y → Met m
-      alone_row None lost = unreached 0 (omega (arith, single)) lost (framed_so ∙ ap (option_map (frame_renamed (moved t))) lost)
+      alone_row None lost = unreached 0 (omega (arith, single)) lost (typed_so ∙ ap (option_map (frame_renamed (moved t))) lost)
       alone_row (Some f) kept = by x refl kept
         where
           by : (y : Option FrameType) → x ≡ y → low (b t).method.max_stack y ≡ Some f → Met m
@@ -157,7 +157,7 @@ module _ (t : Typed) where
   blocked_row : (i callee k : ℕ) (insn : Insn) (x : Option FrameType) → slice_get (b t).method.insns i ≡ Some insn
       → slice_get (b t).method.refs i ≡ Some (target.ApiMethod callee) → slice_get t.frames i ≡ Some x → has_clauses (b t).policy callee ≡ true
       → k < length (of.part (b t) (target.ApiMethod callee)) → Met (of.front (b t) i + k)
-  blocked_row i callee k insn x there names framed has less = by x refl
+  blocked_row i callee k insn x there names typed_here has less = by x refl
     where
       long : k < length (items_of (b t).policy (b t).mode (of.base (b t)) callee)
       long = omega (arith, less, part_length (b t).policy (b t).mode (of.base (b t)) callee has)
@@ -165,9 +165,9 @@ module _ (t : Typed) where
       lost_row : low (b t).method.max_stack x ≡ None → Met (of.front (b t) i + k)
       lost_row lost =
           let item = slice_there (items_of (b t).policy (b t).mode (of.base (b t)) callee) k long in
-          unreached i insn (target.ApiMethod callee) x there names framed k less lost
-          (frames.frame_item (b t) t.frames i callee insn x there names framed has k item.0 item.1
-          ∙ ap (λ (y : Option FrameType). item_framed (clauses_of (b t).policy callee) (moved t)
+          unreached i insn (target.ApiMethod callee) x there names typed_here k less lost
+          (frames.frame_item (b t) t.frames i callee insn x there names typed_here has k item.0 item.1
+          ∙ ap (λ (y : Option FrameType). item_typed (clauses_of (b t).policy callee) (moved t)
           (insn_place (of.client (b t)) i insn (target.ApiMethod callee)) y item.0) lost)
 
       kept_row : (f : FrameType) → x ≡ Some f → length f.stack ≤ (b t).method.max_stack → Met (of.front (b t) i + k)
@@ -181,8 +181,8 @@ module _ (t : Typed) where
             names = names;
             has = has;
             types = f;
-            framed = framed ∙ ap Some is;
-            row = row_of t i insn ref f there names (frame_told i x framed ∙ is);
+            typed_here = typed_here ∙ ap Some is;
+            row = row_of t i insn ref f there names (frame_told i x typed_here ∙ is);
             few = few;
           } in
           block_row t c k long
@@ -200,18 +200,18 @@ module _ (t : Typed) where
   row_there : (i k : ℕ) (insn : Insn) (ref : Target) (x : Option FrameType) → slice_get (b t).method.insns i ≡ Some insn
       → slice_get (b t).method.refs i ≡ Some ref → slice_get t.frames i ≡ Some x → k < length (of.part (b t) ref)
       → (c : Bool) → has_block (b t).policy ref ≡ c → Met (of.front (b t) i + k)
-  row_there i k insn ref x there names framed less false bare =
-      let first : k ≡ 0 = omega (arith, less, single i insn ref x there names framed bare) in
-      rw first (alone_row i insn ref x there names framed bare (low (b t).method.max_stack x) refl)
-  row_there i k insn (target.ApiMethod callee) x there names framed less true has = blocked_row i callee k insn x there names framed has less
-  row_there i k insn target.None x there names framed less true has = absurd cc
-  row_there i k insn (target.Builtin j) x there names framed less true has = absurd cc
-  row_there i k insn (target.Method c m) x there names framed less true has = absurd cc
-  row_there i k insn (target.Field c f) x there names framed less true has = absurd cc
-  row_there i k insn (target.ApiField j) x there names framed less true has = absurd cc
-  row_there i k insn (target.ClassName name) x there names framed less true has = absurd cc
-  row_there i k insn (target.Number n) x there names framed less true has = absurd cc
-  row_there i k insn (target.Literal j) x there names framed less true has = absurd cc
+  row_there i k insn ref x there names typed_here less false bare =
+      let first : k ≡ 0 = omega (arith, less, single i insn ref x there names typed_here bare) in
+      rw first (alone_row i insn ref x there names typed_here bare (low (b t).method.max_stack x) refl)
+  row_there i k insn (target.ApiMethod callee) x there names typed_here less true has = blocked_row i callee k insn x there names typed_here has less
+  row_there i k insn target.None x there names typed_here less true has = absurd cc
+  row_there i k insn (target.Builtin j) x there names typed_here less true has = absurd cc
+  row_there i k insn (target.Method c m) x there names typed_here less true has = absurd cc
+  row_there i k insn (target.Field c f) x there names typed_here less true has = absurd cc
+  row_there i k insn (target.ApiField j) x there names typed_here less true has = absurd cc
+  row_there i k insn (target.ClassName name) x there names typed_here less true has = absurd cc
+  row_there i k insn (target.Number n) x there names typed_here less true has = absurd cc
+  row_there i k insn (target.Literal j) x there names typed_here less true has = absurd cc
 
   -- The rules are met at each instruction of the woven method.
   pub all_met : (at : ℕ) → at < length (b t).made.insns → Met at

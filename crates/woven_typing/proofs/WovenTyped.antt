@@ -25,7 +25,7 @@ use Rattle.block_template.specs.declared.item.Role.TheVariants as roles
 use Rattle.block_template.specs.Blocks.{Clauses, clauses_of, has_block, plan_of}
 use Rattle.block_template.specs.Frames.{Around, frame_at}
 use Rattle.class_weaving.specs.Outcome.{IsWovenClass, IsWovenMethod}
-use Rattle.woven_typing.specs.Framing.{around_of, client_of, front_in, frames_woven, item_framed, items_of, low, insn_place, typing_of}
+use Rattle.woven_typing.specs.Framing.{around_of, client_of, front_in, frames_woven, item_typed, items_of, low, insn_place, typing_of}
 use Rattle.woven_typing.specs.Renaming.{frame_renamed}
 use Rattle.woven_typing.specs.WovenTyping.{BlocksAreReachedSo, BlocksAreTold, ClientsAreTold, IsGiven, IsInsnAt, IsToldAs, WovenIsTyped, front, is_reached, kept_frame}
 use Rattle.class_weaving.proofs.Bodies.{fronts_are}
@@ -63,7 +63,7 @@ told_count (x ∷ methods) told (suc index) m shape e some =
           let is : map length told ≡ length x.insns ∷ map (λ (z : Method). length z.insns) (coded methods) =
           shape ∙ ap (λ (b : Bool). map (λ (z : Method). length z.insns) (cond b (x ∷ coded methods) (coded methods))) code in
           let place : length (coded (x ∷ take index methods)) ≡ suc (length (coded (take index methods))) = ap (λ (b : Bool). length (cond b (x ∷ coded (take index methods)) (coded (take index methods)))) code in
-          ap (λ (i : ℕ). length (list_at told i)) place ∙ behind told is (λ later shape2. told_count methods later index m shape2 e some)
+          ap (λ (i : ℕ). length (list_at told i)) place ∙ following told is (λ later shape2. told_count methods later index m shape2 e some)
       | inr bare ↦
           let is : map length told ≡ map (λ (z : Method). length z.insns) (coded methods) =
           shape ∙ ap (λ (b : Bool). map (λ (z : Method). length z.insns) (cond b (x ∷ coded methods) (coded methods))) bare in
@@ -71,11 +71,11 @@ told_count (x ∷ methods) told (suc index) m shape e some =
           ap (λ (i : ℕ). length (list_at told i)) place ∙ told_count methods told index m is e some
     ]
   where
-    behind : (told : List Frames) → map length told ≡ length x.insns ∷ map (λ (z : Method). length z.insns) (coded methods)
+    following : (told : List Frames) → map length told ≡ length x.insns ∷ map (λ (z : Method). length z.insns) (coded methods)
         → ((later : List Frames) → map length later ≡ map (λ (z : Method). length z.insns) (coded methods) → length (list_at later (length (coded (take index methods)))) ≡ length m.insns)
         → length (list_at told (suc (length (coded (take index methods))))) ≡ length m.insns
-    behind [] is later = absurd cc
-    behind (fs ∷ told) is later = later told cc
+    following [] is later = absurd cc
+    following (fs ∷ told) is later = later told cc
 
 -- the shape of what is told of a class
 pub class_told : (classes : List LinkedClass) (told : List (List Frames)) (own : ℕ) (c : LinkedClass)
@@ -121,10 +121,10 @@ module _ (old new : Program) (policy : Policy) (mode : Mode) (g : IsGiven old ne
         | inr fails ↦
             let past : length g.woven.own ≤ own = grind (arith, nat_tests) in
             let last : own ≡ length g.woven.own + (own - length g.woven.own) = omega (arith, past) in
-            let behind : slice_get (g.woven.state ∷ []) (own - length g.woven.own) ≡ Some other =
+            let following : slice_get (g.woven.state ∷ []) (own - length g.woven.own) ≡ Some other =
             sym (get_right g.woven.own (g.woven.state ∷ []) (own - length g.woven.own))
             ∙ ap (slice_get (g.woven.own ++ g.woven.state ∷ [])) (sym last) ∙ at in
-            let state : g.woven.state ≡ other = only g.woven.state other (own - length g.woven.own) behind in
+            let state : g.woven.state ≡ other = only g.woven.state other (own - length g.woven.own) following in
             let none : ◌≡◌ {A = Option Method} None (Some made) =
             ap (λ (ms : List Method). slice_get ms index) (sym g.woven.last.methods)
             ∙ ap (λ (c : LinkedClass). slice_get c.methods index) state ∙ f in
@@ -217,7 +217,7 @@ module _ (old new : Program) (policy : Policy) (mode : Mode) (typing : Typing) (
       (of.front (body_of old new policy mode g own index class other method made there.class_there there.method_there of_class of_method) at + k) ≡ frame)
       → IsToldAs new (typing_of old policy mode typing) own index (front policy mode method at + k) frame
   unfolding body_of
-  is_told k frame framed =
+  is_told k frame typed_here =
       let own_class = each_on (IsWovenClass (plan_of policy mode) (length old.classes)) old.classes g.woven.own own class g.woven.classes there.class_there in
       let own_method = each_on (IsWovenMethod (plan_of policy mode) (length old.classes) own_class.0.file.pool) class.methods own_class.0.methods index
       method own_class.2.methods there.method_there in
@@ -232,7 +232,7 @@ module _ (old new : Program) (policy : Policy) (mode : Mode) (typing : Typing) (
       ap (λ (fs : Frames). frame_of fs (front policy mode method at + k))
       (frames_are old new policy mode g typing own index class other method there.class_there own_class.1 there.method_there code)
       ∙ ap (λ (n : ℕ). frame_of (frames_woven (client_of old policy mode own class method) told) (n + k)) (fronts_are (of.weaves b) at (omega (arith, inside)))
-      ∙ framed other made own_class.2 own_method.2 in
+      ∙ typed_here other made own_class.2 own_method.2 in
       record {
         class = other;
         there = new_there;
@@ -273,7 +273,7 @@ module _ (old new : Program) (policy : Policy) (mode : Mode) (typing : Typing) (
     (k : ℕ) (item : Item) (e : slice_get (items_of policy mode method.max_locals callee) k ≡ Some item) where
   abbrev its_frame : Option FrameType
   its_frame =
-      item_framed (clauses_of policy callee) (front_in (client_of old policy mode own class method))
+      item_typed (clauses_of policy callee) (front_in (client_of old policy mode own class method))
       (insn_place (client_of old policy mode own class method) at insn (target.ApiMethod callee)) (kept_frame typing own class index method at) item
 
   item_told : IsToldAs new (typing_of old policy mode typing) own index (front policy mode method at + k) its_frame
@@ -284,7 +284,7 @@ module _ (old new : Program) (policy : Policy) (mode : Mode) (typing : Typing) (
       (λ other made of_class of_method.
       let b : Body = body_of old new policy mode g own index class other method made there.class_there there.method_there of_class of_method in
       frames.frame_item b (frames_in class.methods (frames_told typing own) index) at callee insn x.0 there.insn_there there.ref_there x.1 has k item e
-      ∙ ap (λ (f : Option FrameType). item_framed (clauses_of policy callee) (front_in (client_of old policy mode own class method))
+      ∙ ap (λ (f : Option FrameType). item_typed (clauses_of policy callee) (front_in (client_of old policy mode own class method))
       (insn_place (client_of old policy mode own class method) at insn (target.ApiMethod callee)) f item)
       (kept_is old new policy mode typing g shape own index at class method insn (target.ApiMethod callee) there))
 
@@ -305,7 +305,7 @@ module _ (old new : Program) (policy : Policy) (mode : Mode) (typing : Typing) (
   reached_by these near roles.Unreached = refl
 
   some_by : (o : Option FrameType)
-      → is_some (item_framed (clauses_of policy callee) (front_in (client_of old policy mode own class method))
+      → is_some (item_typed (clauses_of policy callee) (front_in (client_of old policy mode own class method))
       (insn_place (client_of old policy mode own class method) at insn (target.ApiMethod callee)) o item)
       ≡ (is_some o && is_reached item.role)
   some_by None = refl

@@ -1,6 +1,6 @@
 pub mod Renaming
 pub mod Telling
-pub mod Behind
+pub mod Following
 pub mod Pushed
 pub mod Framing
 pub mod WovenTyping

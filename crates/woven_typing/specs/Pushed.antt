@@ -13,7 +13,7 @@ types_pushed pushes.Class = types.Ref (codes "java/lang/Class") ∷ []
 types_pushed pushes.Null = types.Null ∷ []
 types_pushed pushes.Number = types.Int ∷ []
 
--- the clauses of the method of a call, and the types before it and behind it
+-- the clauses of the method of a call, and the types before it and after it
 pub record CallTypes : Type 0 where
   pub clauses : Clauses
   pub around : Around

@@ -4,7 +4,7 @@ use Rattle.std.specs.List.{AllByRecursion}
 use Rattle.api_listing.specs.declared.types.ListedMethod.{ListedMethod}
 use Rattle.api_listing.specs.declared.types.Listing.{Listing}
 use Rattle.api_listing.specs.BuiltIn.{throwable}
-use Rattle.api_listing.specs.Listing.{SpellsListing}
+use Rattle.api_listing.specs.Listing.{EncodesListing}
 use Rattle.cert_format.specs.declared.typing.VType.{VType}
 use Rattle.cert_format.specs.declared.typing.VType.TheVariants as types
 use Rattle.bytecode_model.specs.declared.program.Program.{Program}
@@ -57,7 +57,7 @@ TellsKinds listing policy = AllByRecursion (ClauseTells listing) policy.clauses
 -- So it is of each policy that was read over a listing.
 abbrev pub PoliciesTell : Type 0
 PoliciesTell =
-    (text : List ℕ) (listing : Listing) (tree : PolicyTree) → SpellsListing text listing → TreeTellsKinds listing tree
+    (text : List ℕ) (listing : Listing) (tree : PolicyTree) → EncodesListing text listing → TreeTellsKinds listing tree
     → TreeTellsResults listing tree → TellsKinds listing (built tree)
 
 -- ---- what is thrown
@@ -68,4 +68,4 @@ KnowsThrowable program = is_below program throwable throwable ≡ true
 
 -- So it is of each program with a listing that was read.
 abbrev pub ListingsKnowThrowable : Type 0
-ListingsKnowThrowable = (text : List ℕ) (program : Program) → SpellsListing text program.listing → KnowsThrowable program
+ListingsKnowThrowable = (text : List ℕ) (program : Program) → EncodesListing text program.listing → KnowsThrowable program

@@ -25,7 +25,7 @@ use Rattle.block_template.specs.declared.item.Role.TheVariants as roles
 use Rattle.block_template.specs.Blocks.{clauses_of, has_block, plan_of}
 use Rattle.class_weaving.specs.Outcome.{IsWoven}
 use Rattle.class_weaving.specs.Woven.{sites_of}
-use Rattle.woven_typing.specs.Framing.{client_of, front_in, item_framed, items_of, low, insn_place, typing_of}
+use Rattle.woven_typing.specs.Framing.{client_of, front_in, item_typed, items_of, low, insn_place, typing_of}
 use Rattle.woven_typing.specs.Renaming.{frame_renamed}
 use Rattle.woven_typing.specs.Telling.{KnowsThrowable, TellsKinds}
 
@@ -94,7 +94,7 @@ BlocksAreTold =
     → IsInsnAt old own index at class method insn (target.ApiMethod callee) → has_clauses policy callee ≡ true
     → (k : ℕ) (item : Item) → slice_get (items_of policy mode method.max_locals callee) k ≡ Some item
     → IsToldAs new (typing_of old policy mode typing) own index (front policy mode method at + k)
-    (item_framed (clauses_of policy callee) (front_in (client_of old policy mode own class method))
+    (item_typed (clauses_of policy callee) (front_in (client_of old policy mode own class method))
     (insn_place (client_of old policy mode own class method) at insn (target.ApiMethod callee)) (kept_frame typing own class index method at) item)
 
 -- It is reached exactly where the client's instruction is, and the role is.

@@ -9,20 +9,20 @@ ghost use Rattle.block_template.specs.declared.item.Item.{Item as SpecItem};
 ghost use Rattle.block_template.specs.Frames.{frame_at};
 ghost use Rattle.woven_typing.specs.Renaming.{frame_renamed};
 ghost use Rattle.woven_typing.specs.Framing.{
-  alone_framed,
+  alone_typed,
   around_of,
-  block_framed,
+  block_typed,
   client_of,
   front_in,
   frames_woven,
-  insn_framed,
+  insn_typed,
   items_of,
   low,
-  parts_framed,
+  parts_typed,
   insn_place,
 };
 
-use crate::behind::frame_behind;
+use crate::following::frame_after;
 use crate::renaming::{Fronts, frame_renamed};
 use crate::roles::{CallTypes, Names};
 use block_template::{Item, PolicyItems, clauses_of};
@@ -185,9 +185,9 @@ impl<'a> Client<'a> {
           around = around_of (front_in self.now) place.now frame.now;
         }) }
     {
-        let behind = frame_behind(alloc, place, frame)?;
+        let following = frame_after(alloc, place, frame)?;
         let before = self.renamed(alloc, frame)?;
-        let after = self.renamed(alloc, &behind)?;
+        let after = self.renamed(alloc, &following)?;
         Ok(CallTypes {
             names: self.weaving.names,
             clauses: clauses_of(self.weaving.items.policy(), callee),
@@ -207,7 +207,7 @@ fn put_alone(
     client: &Client,
     frame: Option<&FrameType>,
 ) -> Result<(), NoMemory>
-    ensures { OnOk result (out.new ≡ out.old ++ alone_framed (front_in client.now) (option_copied frame.entry)) }
+    ensures { OnOk result (out.new ≡ out.old ++ alone_typed (front_in client.now) (option_copied frame.entry)) }
 {
     match frame {
         None => out.push(None),
@@ -255,7 +255,7 @@ fn put_block(
 ) -> Result<(), NoMemory>
     requires { items.now ≡ items_of client.now.policy client.now.mode 0 callee }
     ensures { OnOk result (out.new ≡ out.old
-        ++ block_framed client.now.policy client.now.mode (front_in client.now) place.now callee (option_copied frame.entry)) }
+        ++ block_typed client.now.policy client.now.mode (front_in client.now) place.now callee (option_copied frame.entry)) }
 {
     match frame {
         None => put_none(out, items),
@@ -292,7 +292,7 @@ fn put_insn(
     target: &Target,
     frame: &Option<FrameType>,
 ) -> Result<(), NoMemory>
-    ensures { OnOk result (out.new ≡ out.old ++ insn_framed client.now at insn.now target.now frame.now) }
+    ensures { OnOk result (out.new ≡ out.old ++ insn_typed client.now at insn.now target.now frame.now) }
 {
     let kept = low(client.method.max_stack, frame);
     match target {
@@ -310,7 +310,7 @@ fn put_insn(
 // ---- a method
 
 /// The frames of these instructions, from the index 0 on.
-fn parts_framed(
+fn parts_typed(
     alloc: Global,
     client: &Client,
     insns: &[Insn],
@@ -318,7 +318,7 @@ fn parts_framed(
     frames: &[Option<FrameType>],
 ) -> Result<Frames, NoMemory>
     requires { length insns.now < 2 ^ 32 }
-    ensures { IfOk result (λ made. made ≡ parts_framed client.now 0 insns.now refs.now frames.now) }
+    ensures { IfOk result (λ made. made ≡ parts_typed client.now 0 insns.now refs.now frames.now) }
 {
     let mut out = List::with_room(alloc, client.fronts.end())?;
     put_parts(alloc, &mut out, client, insns, refs, frames)?;
@@ -335,7 +335,7 @@ fn put_parts(
     frames: &[Option<FrameType>],
 ) -> Result<(), NoMemory>
     requires { length insns.now < 2 ^ 32 }
-    ensures { OnOk result (out.new ≡ out.old ++ parts_framed client.now 0 insns.now refs.now frames.now) }
+    ensures { OnOk result (out.new ≡ out.old ++ parts_typed client.now 0 insns.now refs.now frames.now) }
 {
     let mut at: u32 = 0;
     let mut insns = insns;
@@ -367,7 +367,7 @@ pub fn frames_woven(
     ensures { IfOk result (λ made. made ≡ frames_woven client.now frames.now) }
 {
     let method = client.method;
-    parts_framed(
+    parts_typed(
         alloc,
         client,
         method.insns.as_slice(),

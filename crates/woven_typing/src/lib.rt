@@ -5,7 +5,7 @@
 //! modes.
 #![tactic(auto)]
 
-mod behind;
+mod following;
 mod framing;
 mod laws;
 mod renaming;

@@ -42,7 +42,7 @@ fn growth(last: u32, count: usize) -> u32
 }
 
 /// Where what stands at the index stands now. An index in a typing may be any of 32 bits: that those of a typed method stand in
-/// its code is not among what is known of typings, so one far behind the code is answered as want of memory.
+/// its code is not among what is known of typings, so one far after the code is answered as want of memory.
 fn moved(fronts: &Fronts, at: u32) -> Result<u32, NoMemory>
     ensures { IfOk result (λ to. to ≡ moved_by fronts.now.list fronts.now.count at) }
 {

@@ -182,7 +182,7 @@ fn put_tops(out: &mut List<VType>, n: usize) -> Result<(), NoMemory>
     Ok(())
 }
 
-fn behind(types: &[VType], n: usize) -> &[VType]
+fn following(types: &[VType], n: usize) -> &[VType]
     ensures { result.now ≡ drop n types.now }
 {
     if n <= types.len() { &types[n..] } else { &[] }
@@ -236,7 +236,7 @@ fn stack_caught(alloc: Global, names: &Names, more: usize) -> Result<List<VType>
 }
 
 /// The frame of these locals, and of a copy of these operands, which takes so many more without being moved.
-fn framed(
+fn typed_here(
     alloc: Global,
     locals: List<VType>,
     operands: &[VType],
@@ -251,7 +251,7 @@ fn framed(
 
 // ---- a call
 
-/// What the types of a block are told of: the clauses of the method that is called, the types before the call and behind
+/// What the types of a block are told of: the clauses of the method that is called, the types before the call and after
 /// it, and where the client's locals end.
 #[derive(Drop)]
 pub struct CallTypes<'a> {
@@ -282,7 +282,7 @@ impl<'a> CallTypes<'a> {
         let (_, kept) = split_top(self.before.stack.as_slice(), count);
         let mut made = locals_padded(alloc, self.base, self.before.locals.as_slice(), count)?;
         put_tops(&mut made, left)?;
-        put_types(&mut made, behind(kept, left))?;
+        put_types(&mut made, following(kept, left))?;
         Ok(made)
     }
 
@@ -301,18 +301,18 @@ impl<'a> CallTypes<'a> {
     {
         let (below, _) = split_top(self.before.stack.as_slice(), taken);
         let saved = self.saved_locals(alloc, left)?;
-        framed(alloc, saved, below, more)
+        typed_here(alloc, saved, below, more)
     }
 
     /// Where the result is kept, and is on the stack no more.
-    fn behind_call(&self, alloc: Global, more: usize) -> Result<FrameType, NoMemory>
+    fn after_call(&self, alloc: Global, more: usize) -> Result<FrameType, NoMemory>
         ensures { IfOk result (λ made. made ≡ phase_frame self.now.clauses self.now.around After) }
     {
         let count = if keeps_result(&self.clauses) { 1 } else { 0 };
         let (below, top) = split_top(self.after.stack.as_slice(), count);
         let mut locals = locals_padded(alloc, self.base, self.after.locals.as_slice(), count)?;
         put_types(&mut locals, top)?;
-        framed(alloc, locals, below, more)
+        typed_here(alloc, locals, below, more)
     }
 
     /// Where the call gave its result, or its block is left.
@@ -323,7 +323,7 @@ impl<'a> CallTypes<'a> {
         }) }
     {
         let locals = locals_padded(alloc, self.base, self.after.locals.as_slice(), 0)?;
-        framed(alloc, locals, self.after.stack.as_slice(), 0)
+        typed_here(alloc, locals, self.after.stack.as_slice(), 0)
     }
 
     /// Where the call threw.
@@ -342,7 +342,7 @@ impl<'a> CallTypes<'a> {
     {
         match phase {
             Phase::Before => self.without(alloc, 0, kept_arguments(&self.clauses), more),
-            Phase::After => self.behind_call(alloc, more),
+            Phase::After => self.after_call(alloc, more),
             Phase::Exceptional => self.thrown(alloc, more),
         }
     }
@@ -419,7 +419,7 @@ impl<'a> CallTypes<'a> {
         }) }
     {
         let saved = self.saved_locals(alloc, 0)?;
-        framed(alloc, saved, self.before.stack.as_slice(), 0)
+        typed_here(alloc, saved, self.before.stack.as_slice(), 0)
     }
 
     /// Where so many of the arguments are kept, or stand on the stack again.
@@ -460,7 +460,7 @@ impl<'a> CallTypes<'a> {
             Role::Load { loaded, .. } => self.among(alloc, 0, loaded),
             Role::Call { .. } => self.at_call(alloc),
             Role::Keep { .. } => self.given(alloc),
-            Role::Give => self.behind_call(alloc, 0),
+            Role::Give => self.after_call(alloc, 0),
             Role::Leave => self.given(alloc),
             Role::Rethrow => self.thrown(alloc, 0),
             Role::Unreached => return Ok(None),

@@ -6,24 +6,24 @@ ghost use Rattle.bytecode_model.specs.Sound.{IsSound, IsSoundClass, IsSoundMetho
 ghost use Rattle.conspec_automaton.specs.Sound.{IsPolicy};
 ghost use Rattle.bytecode_model.specs.Typed.{list_at};
 ghost use Rattle.woven_typing.specs.Framing.{
-  classes_framed,
+  classes_typed,
   client_of,
   frames_woven,
-  methods_framed,
+  methods_typed,
   typing_of,
 };
 
 use crate::framing::{Client, Frames, Weaving, frames_woven};
 use crate::roles::Names;
 use block_template::PolicyItems;
-use bytecode_model::{LinkedClass, Method, Program, behind_first, list_at};
+use bytecode_model::{LinkedClass, Method, Program, after_first, list_at};
 use cert_format::{Mode, Typing};
 use conspec_automaton::Policy;
 use mon_base::{List, NoMemory};
 use std::alloc::Global;
 
 /// The frames of a method with its blocks, where the first of these are its own.
-fn method_framed(
+fn method_typed(
     alloc: Global,
     weaving: &Weaving,
     own: u32,
@@ -41,7 +41,7 @@ fn method_framed(
 }
 
 /// Those of the methods with code.
-fn methods_framed(
+fn methods_typed(
     alloc: Global,
     weaving: &Weaving,
     own: u32,
@@ -51,7 +51,7 @@ fn methods_framed(
 ) -> Result<List<Frames>, NoMemory>
     requires { AllByRecursion IsSoundMethod methods.now }
     ensures { IfOk result (λ made. made
-        ≡ methods_framed weaving.now.program.now weaving.now.items.now.policy weaving.now.items.now.mode
+        ≡ methods_typed weaving.now.program.now weaving.now.items.now.policy weaving.now.items.now.mode
         own class.now methods.now told.now) }
 {
     let mut made = List::with_room(alloc, told.len())?;
@@ -71,16 +71,16 @@ fn put_methods(
 ) -> Result<(), NoMemory>
     requires { AllByRecursion IsSoundMethod methods.now }
     ensures { OnOk result (made.new ≡ made.old
-        ++ methods_framed weaving.now.program.now weaving.now.items.now.policy weaving.now.items.now.mode
+        ++ methods_typed weaving.now.program.now weaving.now.items.now.policy weaving.now.items.now.mode
         own class.now methods.now told.now) }
 {
     let mut methods = methods;
     let mut told = told;
     while let [method, later @ ..] = methods {
         if !method.insns.is_empty() {
-            let one = method_framed(alloc, weaving, own, class, method, told)?;
+            let one = method_typed(alloc, weaving, own, class, method, told)?;
             made.push(one)?;
-            told = behind_first(told);
+            told = after_first(told);
         }
         methods = later;
     }
@@ -88,7 +88,7 @@ fn put_methods(
 }
 
 /// Those of the classes, of which the first has the index 0.
-fn classes_framed(
+fn classes_typed(
     alloc: Global,
     weaving: &Weaving,
     classes: &[LinkedClass],
@@ -97,7 +97,7 @@ fn classes_framed(
     requires few { length classes.now ≤ 1001 }
     requires sound { AllByRecursion IsSoundClass classes.now }
     ensures { IfOk result (λ made. made
-        ≡ classes_framed weaving.now.program.now weaving.now.items.now.policy weaving.now.items.now.mode
+        ≡ classes_typed weaving.now.program.now weaving.now.items.now.policy weaving.now.items.now.mode
         0 classes.now told.now) }
 {
     let mut made = List::with_room(alloc, classes.len().saturating_add(1))?;
@@ -105,7 +105,7 @@ fn classes_framed(
     Ok(made)
 }
 
-/// Appends those of the classes, of which the first has the index 0, and behind them that of `conspec/State`.
+/// Appends those of the classes, of which the first has the index 0, and after them that of `conspec/State`.
 fn put_classes(
     alloc: Global,
     made: &mut List<List<Frames>>,
@@ -116,7 +116,7 @@ fn put_classes(
     requires few { length classes.now ≤ 1001 }
     requires sound { AllByRecursion IsSoundClass classes.now }
     ensures { OnOk result (made.new ≡ made.old
-        ++ classes_framed weaving.now.program.now weaving.now.items.now.policy weaving.now.items.now.mode
+        ++ classes_typed weaving.now.program.now weaving.now.items.now.policy weaving.now.items.now.mode
         0 classes.now told.now) }
 {
     let mut own: u32 = 0;
@@ -124,11 +124,11 @@ fn put_classes(
     let mut told = told;
     while let [class, later @ ..] = classes {
         let methods = class.methods.as_slice();
-        let one = methods_framed(alloc, weaving, own, class, methods, list_at(told, 0))?;
+        let one = methods_typed(alloc, weaving, own, class, methods, list_at(told, 0))?;
         made.push(one)?;
         own += 1;
         classes = later;
-        told = behind_first(told);
+        told = after_first(told);
     }
     made.push(List::new(alloc))
 }
@@ -152,7 +152,7 @@ pub fn typing_of(
         items: &items,
         names: &names,
     };
-    let frames = classes_framed(
+    let frames = classes_typed(
         alloc,
         &weaving,
         program.classes.as_slice(),

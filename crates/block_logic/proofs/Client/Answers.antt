@@ -1,4 +1,4 @@
--- Answers to a call without a clause: the caller goes on behind it, or catches what is thrown, in the client's code.
+-- Answers to a call without a clause: the caller goes on after it, or catches what is thrown, in the client's code.
 use Rattle.std.proofs.Common.{◌≡◌, ℕ, false, List, [], ◌∷◌, length, Option, Some, None, refl, ap}
 use Rattle.std.specs.Prelude.{◌==◌, IfSome, find, is_some, option_map, slice_get}
 use Rattle.std.specs.List.{list_any}

@@ -39,7 +39,7 @@ use Rattle.block_logic.specs.Operands.{has_clause}
 use Rattle.block_logic.proofs.Client.Answers.{without_clause}
 use Rattle.block_logic.proofs.Client.Begins.{RunsClean, begun_client}
 use Rattle.block_logic.proofs.Client.Changes.{Good, GoodIf, Keeps, after_free, changes, ends_good, enters_good, throws_new_good, went_on}
-use Rattle.block_logic.proofs.Client.Frames.{Laws, goes_behind, moved_frame}
+use Rattle.block_logic.proofs.Client.Frames.{Laws, goes_after, moved_frame}
 use Rattle.block_logic.proofs.Client.Passing.{PassesClean, aimed_clean, changed_clean, own_or_target, run_clean, some_of, started_clean, taken_clean, target_clean, there_is}
 use Rattle.block_logic.proofs.Client.Throws.{below_catching}
 use Rattle.block_logic.proofs.Client.Values.{IsCleanHeap, kept_heap}
@@ -71,7 +71,7 @@ module _ (program : Program) (policy : Policy) (annotations : Annotations) (laws
         let items : List Value = results ++ c.passed.beneath in
         went_on program policy annotations laws shared world c.thread (after c.frame items) c.below k
         (after_free program policy annotations c.frame items c.below frame.well
-        (goes_behind program policy annotations laws c.frame frame)
+        (goes_after program policy annotations laws c.frame frame)
         (all_append (IsClean program) results c.passed.beneath clean passes.beneath) below)
 
     goes_good : Makes (goes_past shared c [])

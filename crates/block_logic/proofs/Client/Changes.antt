@@ -40,7 +40,7 @@ use Rattle.guest_model.proofs.Options.{IfThere, all_append, if_mapped, if_some, 
 use Rattle.block_logic.specs.Fitting.{AreBelow, AreClientFrames, ArePassed, IsClient, held_locks, state_of}
 use Rattle.block_logic.specs.Meaning.{AreClean, IsClean, IsFrame}
 use Rattle.block_logic.proofs.Client.Begins.{begun_frames, clean_list, ended_client, lock_clean, rests_client}
-use Rattle.block_logic.proofs.Client.Frames.{FreeAt, Laws, goes_behind, went_free}
+use Rattle.block_logic.proofs.Client.Frames.{FreeAt, Laws, goes_after, went_free}
 use Rattle.block_logic.proofs.Client.Monitors.{all_given_up_stay, entered_stays}
 use Rattle.block_logic.proofs.Client.Throws.{AreCatching, all_locks_clean, locks_clean, thrown_client, unwound_client}
 use Rattle.block_logic.proofs.Client.Values.{KeepsLock, kept_monitors, kept_object}
@@ -176,5 +176,5 @@ module _ (program : Program) (policy : Policy) (annotations : Annotations) where
         if_mapped (Good shared) (λ (f : Frame). with_event (goes world thread (f ∷ below)) event) (after caller items)
         (λ f e. event_good event (goes world thread (f ∷ below))
         (goes_good world thread (f ∷ below) k
-        (after_free caller items below waits.0.well (goes_behind program policy annotations laws caller waits.0)
+        (after_free caller items below waits.0.well (goes_after program policy annotations laws caller waits.0)
         (all_append (IsClean program) (option_to_list result) caller.stack.items (clean_list program result clean) waits.0.clean) waits.1 f e)) unclaused)

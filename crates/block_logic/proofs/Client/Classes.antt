@@ -30,7 +30,7 @@ use Rattle.block_logic.specs.State.{class_fault, has_no_more, has_none, state_at
 -- what stands at this place of a list that begins at place `from`
 pub record StandsAt {X : Type 0} (test : X → Bool) (from : ℕ) (xs : List X) (at : ℕ) : Type 0 where
   pub item : X
-  pub behind : from ≤ at
+  pub following : from ≤ at
   pub there : slice_get xs (at - from) ≡ Some item
   pub passes : test item ≡ true
 
@@ -42,11 +42,11 @@ one_stands test from x xs at later h = by (test x) refl h where
   by true is h =
       let same : from ≡ at = some_is from at h in
       let first : at - from ≡ 0 = omega (arith, same) in
-      record { item = x; behind = omega (arith, same); there = rw first refl; passes = is }
+      record { item = x; following = omega (arith, same); there = rw first refl; passes = is }
   by false is h =
       let s = later h in
-      let next : at - from ≡ suc (at - (from + 1)) = omega (arith, s.behind) in
-      record { item = s.item; behind = omega (arith, s.behind); there = rw next s.there; passes = s.passes }
+      let next : at - from ≡ suc (at - (from + 1)) = omega (arith, s.following) in
+      record { item = s.item; following = omega (arith, s.following); there = rw next s.there; passes = s.passes }
 
 pub stands : {X : Type 0} (test : X → Bool) (from : ℕ) (xs : List X) (at : ℕ) → position_from test from xs ≡ Some at → StandsAt test from xs at
 stands test from [] at h = absurd cc
@@ -76,9 +76,9 @@ comes_first test from (x ∷ xs) at zero y h there passes =
 comes_first test from (x ∷ xs) at (suc i) y h there passes =
     one_first test from x xs at i y h passes (λ later. comes_first test (from + 1) xs at i y later there passes)
 
-pub get_behind : {A : Type 0} (xs ys : List A) (i : ℕ) → slice_get (xs ++ ys) (length xs + i) ≡ slice_get ys i
-get_behind [] ys i = let same : 0 + i ≡ i = omega arith in rw same refl
-get_behind (x ∷ xs) ys i = let same : suc (length xs) + i ≡ suc (length xs + i) = omega arith in rw same (get_behind xs ys i)
+pub get_after : {A : Type 0} (xs ys : List A) (i : ℕ) → slice_get (xs ++ ys) (length xs + i) ≡ slice_get ys i
+get_after [] ys i = let same : 0 + i ≡ i = omega arith in rw same refl
+get_after (x ∷ xs) ys i = let same : suc (length xs) + i ≡ suc (length xs + i) = omega arith in rw same (get_after xs ys i)
 
 same_name : (a b : Name) → bytes_eq a b ≡ true → a ≡ b
 same_name a b e = (bytes_eq-Decides a b).0 e
@@ -123,7 +123,7 @@ module _ (program : Program) where
   given_at : (class : ℕ) (c : LinkedClass) → slice_get program.classes class ≡ Some c
       → slice_get (classes_of program) (length program.listing.classes + class) ≡ Some (head_of c.file)
   given_at class c there =
-      get_behind program.listing.classes (map (λ (x : LinkedClass). head_of x.file) program.classes) class
+      get_after program.listing.classes (map (λ (x : LinkedClass). head_of x.file) program.classes) class
       ∙ slice_get-map (λ (x : LinkedClass). head_of x.file) program.classes class ∙ ap (option_map (λ (x : LinkedClass). head_of x.file)) there
 
   module _ (policy : Policy) (annotations : Annotations) (o : IsObeying program policy annotations) where

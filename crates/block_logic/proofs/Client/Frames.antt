@@ -15,7 +15,7 @@ use Rattle.insn_codec.specs.Control.{jump_targets}
 use Rattle.insn_codec.specs.Fits.{IsInsn}
 use Rattle.insn_codec.specs.Opcodes.{goes_on}
 use Rattle.insn_codec.specs.Shapes.{shape_of}
-use Rattle.insn_codec.specs.Spelling.{opcode_of}
+use Rattle.insn_codec.specs.Encoding.{opcode_of}
 use Rattle.insn_codec.specs.Table.{ends}
 use Rattle.insn_codec.proofs.Table.{goes_on_alike}
 use Rattle.bytecode_model.specs.declared.program.Handler.{Handler}
@@ -36,7 +36,7 @@ use Rattle.block_logic.specs.Meaning.{AreClean, IsBelow, IsFrame, note_at, note_
 use Rattle.block_logic.specs.Obeying.{IsObeying}
 use Rattle.block_logic.specs.Operands.{calls, pushes_state, variable_named}
 use Rattle.block_logic.specs.Rows.{Asked, Open, Row, Taking, Rules, free_row, leads}
-use Rattle.block_logic.specs.Standing.{is_open}
+use Rattle.block_logic.specs.Weakening.{is_open}
 use Rattle.block_logic.proofs.Ruled.{BeginsOpen, LeadsTo, OpensFree, RulesHold}
 
 -- ---- shapes
@@ -49,7 +49,7 @@ call_shape : (shape : Shape) → calls shape ≡ true → (how : How) × (shape 
 call_shape (shapes.Heap what) e = call_of what e
 call_shape other e = absurd cc
 
--- control goes on behind a call, which pushes no constant
+-- control goes on after a call, which pushes no constant
 call_stays : (shape : Shape) → calls shape ≡ true → ends shape ≡ false
 call_stays shape e = ap ends (call_shape shape e).1
 
@@ -112,7 +112,7 @@ module _ (program : Program) (policy : Policy) (annotations : Annotations) where
         let m = and_then_of (λ (of : Method). insn_in of frame.at) (method_at program frame.class frame.method) next e in
         laws.obeys.insns frame.class frame.method frame.at next.0 next.1 (record { of = m.0; there = m.1; is = m.2 })
 
-    -- control goes on behind an instruction that does not end
+    -- control goes on after an instruction that does not end
     pub may_go_on : (frame : Frame) (next : Insn × Target) → insn_at program frame ≡ Some next → ends (shape_of next.0) ≡ false
         → goes_on (opcode_of next.0) ≡ true
     may_go_on frame next e stays = goes_on_alike next.0 (insn_is frame next e) ∙ ap not stays
@@ -138,7 +138,7 @@ module _ (program : Program) (policy : Policy) (annotations : Annotations) where
     pub waits_free : (frame : Frame) (b : IsBelow program policy annotations frame) → GoesFree frame (b.insn, b.ref)
     waits_free frame b = goes_free frame (b.insn, b.ref) b.there b.free (call_pushes (shape_of b.insn) b.ref b.call)
 
-    pub goes_behind : (frame : Frame) (b : IsBelow program policy annotations frame) → FreeAt frame (frame.at + 1)
-    goes_behind frame b =
+    pub goes_after : (frame : Frame) (b : IsBelow program policy annotations frame) → FreeAt frame (frame.at + 1)
+    goes_after frame b =
         let g = waits_free frame b in
         g.past (may_go_on frame (b.insn, b.ref) b.there (call_stays (shape_of b.insn) b.call))

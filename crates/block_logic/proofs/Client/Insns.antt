@@ -18,7 +18,7 @@ use Rattle.insn_codec.specs.Control.{jump_targets, next_of}
 use Rattle.insn_codec.specs.Effect.{Moved, effect}
 use Rattle.insn_codec.specs.Opcodes.{goes_on}
 use Rattle.insn_codec.specs.Shapes.{shape_of}
-use Rattle.insn_codec.specs.Spelling.{opcode_of}
+use Rattle.insn_codec.specs.Encoding.{opcode_of}
 use Rattle.insn_codec.specs.Table.{ends, is_heap}
 use Rattle.insn_codec.proofs.Table.{goes_to_successor}
 use Rattle.bytecode_model.specs.declared.program.Program.{Program}
@@ -50,10 +50,10 @@ use Rattle.guest_model.specs.Stepping.{
   left_with,
   returns,
   throws_top,
-  works,
+  operates,
 }
-use Rattle.guest_model.specs.Working.{worked}
-use Rattle.guest_model.proofs.Comings.{Comes, work_comes}
+use Rattle.guest_model.specs.HeapOperations.{heap_result}
+use Rattle.guest_model.proofs.HeapResults.{Comes, result_comes}
 use Rattle.guest_model.proofs.Effects.{effect_keeps}
 use Rattle.guest_model.proofs.Options.{IfThere, all_drop, all_get, and_then_of, if_either, if_mapped, if_none, if_some, if_then, is_there}
 use Rattle.block_logic.specs.Fitting.{AreBelow, AreClientFrames, IsCleanObject, held_locks, state_of}
@@ -67,7 +67,7 @@ use Rattle.block_logic.proofs.Client.Frames.{FreeAt, GoesFree, Laws, insn_is, ma
 use Rattle.block_logic.proofs.Client.Monitors.{all_given_up_stay, entered_stays, left_stays}
 use Rattle.block_logic.proofs.Client.Throws.{AreCatching}
 use Rattle.block_logic.proofs.Client.Values.{KeepsLock, clean_kept, names_clean}
-use Rattle.block_logic.proofs.Client.Works.{clean_lasts, names_apart}
+use Rattle.block_logic.proofs.Client.Operates.{clean_lasts, names_apart}
 
 -- ---- constants
 
@@ -116,7 +116,7 @@ module _ (program : Program) (policy : Policy) (annotations : Annotations) (laws
   acts_good world f k there = went_on program policy annotations laws shared world a.thread f a.below k there
 
   module _ (next : Insn × Target) (there : insn_at program a.frame ≡ Some next) (g : GoesFree program policy annotations a.frame next) where
-    -- ---- throwing, and going on behind the instruction
+    -- ---- throwing, and going on after the instruction
 
     frames_catch : AreCatching program policy annotations (a.frame ∷ a.below)
     frames_catch = (record { well = well; caught = g.caught }, below)
@@ -138,15 +138,15 @@ module _ (program : Program) (policy : Policy) (annotations : Annotations) (laws
       next_free : FreeAt program policy annotations a.frame (a.frame.at + 1)
       next_free = g.past (may_go_on program policy annotations laws a.frame next there stays)
 
-      goes_behind_good : (world : World) (items : List Value) → Stays world → AreClean program items → Makes (acts_on world a (after a.frame items))
-      goes_behind_good world items k all =
+      goes_after_good : (world : World) (items : List Value) → Stays world → AreClean program items → Makes (acts_on world a (after a.frame items))
+      goes_after_good world items k all =
           acts_good world (after a.frame items) k (after_free program policy annotations a.frame items a.below well next_free all below)
 
       -- with other monitors, and one operand less
       goes_less : (held : List Monitor) → held_locks program held ≡ held_locks program machine.monitors
           → Makes (acts_on (with_monitors shared held) a (after a.frame (drop 1 a.frame.stack.items)))
       goes_less held same =
-          goes_behind_good (with_monitors shared held) (drop 1 a.frame.stack.items)
+          goes_after_good (with_monitors shared held) (drop 1 a.frame.stack.items)
           (with_held program policy annotations laws shared shared held kept same)
           (all_drop (IsClean program) 1 a.frame.stack.items clean)
 
@@ -154,17 +154,17 @@ module _ (program : Program) (policy : Policy) (annotations : Annotations) (laws
 
       comes_good : (made : Result (World × List Value) Name) → Comes (IsClean program) (KeepsLock program (state_of program policy annotations) shared) made
           → Makes (comes_to program shared a made)
-      comes_good (Ok made) comes = goes_behind_good made.0 made.1 comes.0 comes.1
+      comes_good (Ok made) comes = goes_after_good made.0 made.1 comes.0 comes.1
       comes_good (Err class) comes = throws_here shared class kept
 
-      works_good : (what : Heap) → (what ≡ heap.Constant → IfThere (IsClean program) (constant_value program next.1))
-          → variable_named (state_of program policy annotations) next.1 ≡ None → Makes (works program shared a what next.1)
-      works_good what names alone =
+      operates_good : (what : Heap) → (what ≡ heap.Constant → IfThere (IsClean program) (constant_value program next.1))
+          → variable_named (state_of program policy annotations) next.1 ≡ None → Makes (operates program shared a what next.1)
+      operates_good what names alone =
           let state : ℕ = state_of program policy annotations in
-          if_then IsGood _ (worked program shared what next.1 a.frame.stack.items)
+          if_then IsGood _ (heap_result program shared what next.1 a.frame.stack.items)
           (λ made e. comes_good made
           (is_there (Comes (IsClean program) (KeepsLock program state shared)) _ made
-          (work_comes (IsClean program) (IsCleanObject program) (KeepsLock program state shared) (λ class. class ≢ state)
+          (result_comes (IsClean program) (IsCleanObject program) (KeepsLock program state shared) (λ class. class ≢ state)
           (clean_lasts program state shared) program shared kept a.frame.stack.items clean what next.1 names
           (names_apart state next.1 alone)) e))
 
@@ -253,8 +253,8 @@ module _ (program : Program) (policy : Policy) (annotations : Annotations) (laws
           let constant : shape_of next.0 ≡ shapes.Heap heap.Constant = shape ∙ ap shapes.Heap is in
           constant_clean program next.1 (sym (ap (λ (s : Shape). pushes_state s next.1) constant) ∙ apart)
 
-      works_so : (what : Heap) → shape_of next.0 ≡ shapes.Heap what → ends (shapes.Heap what) ≡ false → Makes (works program shared a what next.1)
-      works_so what shape stays = works_good (ap ends shape ∙ stays) what (names what shape) alone
+      operates_so : (what : Heap) → shape_of next.0 ≡ shapes.Heap what → ends (shapes.Heap what) ≡ false → Makes (operates program shared a what next.1)
+      operates_so what shape stays = operates_good (ap ends shape ∙ stays) what (names what shape) alone
 
       heap_good : (what : Heap) → shape_of next.0 ≡ shapes.Heap what → Makes (heap_stepped program machine a what next.1)
       heap_good (heap.Call how) shape = call_good how shape
@@ -265,20 +265,20 @@ module _ (program : Program) (policy : Policy) (annotations : Annotations) (laws
       heap_good heap.Exit shape =
           if_then IsGood _ (slice_get a.frame.stack.items 0) (λ v e. leaves_good (ap ends shape) v (all_get (IsClean program) a.frame.stack.items 0 v clean e))
       heap_good (heap.Return kind) shape = returns_good kind
-      heap_good heap.Constant shape = works_so heap.Constant shape refl
-      heap_good (heap.ReadItem item) shape = works_so (heap.ReadItem item) shape refl
-      heap_good (heap.WriteItem item) shape = works_so (heap.WriteItem item) shape refl
-      heap_good (heap.Divide remainder) shape = works_so (heap.Divide remainder) shape refl
-      heap_good heap.ReadStatic shape = works_so heap.ReadStatic shape refl
-      heap_good heap.WriteStatic shape = works_so heap.WriteStatic shape refl
-      heap_good heap.ReadField shape = works_so heap.ReadField shape refl
-      heap_good heap.WriteField shape = works_so heap.WriteField shape refl
-      heap_good heap.New shape = works_so heap.New shape refl
-      heap_good (heap.NewArray kind) shape = works_so (heap.NewArray kind) shape refl
-      heap_good heap.NewArrayOf shape = works_so heap.NewArrayOf shape refl
-      heap_good heap.Length shape = works_so heap.Length shape refl
-      heap_good heap.Cast shape = works_so heap.Cast shape refl
-      heap_good heap.IsInstance shape = works_so heap.IsInstance shape refl
+      heap_good heap.Constant shape = operates_so heap.Constant shape refl
+      heap_good (heap.ReadItem item) shape = operates_so (heap.ReadItem item) shape refl
+      heap_good (heap.WriteItem item) shape = operates_so (heap.WriteItem item) shape refl
+      heap_good (heap.Divide remainder) shape = operates_so (heap.Divide remainder) shape refl
+      heap_good heap.ReadStatic shape = operates_so heap.ReadStatic shape refl
+      heap_good heap.WriteStatic shape = operates_so heap.WriteStatic shape refl
+      heap_good heap.ReadField shape = operates_so heap.ReadField shape refl
+      heap_good heap.WriteField shape = operates_so heap.WriteField shape refl
+      heap_good heap.New shape = operates_so heap.New shape refl
+      heap_good (heap.NewArray kind) shape = operates_so (heap.NewArray kind) shape refl
+      heap_good heap.NewArrayOf shape = operates_so heap.NewArrayOf shape refl
+      heap_good heap.Length shape = operates_so heap.Length shape refl
+      heap_good heap.Cast shape = operates_so heap.Cast shape refl
+      heap_good heap.IsInstance shape = operates_so heap.IsInstance shape refl
 
       pub shape_good : (shape : Shape) → shape_of next.0 ≡ shape
           → GoodIf program policy annotations (world_of machine)

@@ -44,9 +44,9 @@ module _ (program : Program) where
   no_lock m others clean = rw clean refl
 
   -- the same monitor in front
-  behind : (m : Monitor) (rest others : List Monitor) → held_locks program rest ≡ held_locks program others
+  following : (m : Monitor) (rest others : List Monitor) → held_locks program rest ≡ held_locks program others
       → held_locks program (m ∷ rest) ≡ held_locks program (m ∷ others)
-  behind m rest others same = ap (λ (ms : List Monitor). cond (are_one m.on (lock_of program)) (m ∷ ms) ms) same
+  following m rest others same = ap (λ (ms : List Monitor). cond (are_one m.on (lock_of program)) (m ∷ ms) ms) same
 
   module _ (thread : ℕ) (on : Value) (clean : IsClean program on) where
     its : (m : Monitor) → are_one m.on on ≡ true → IsClean program m.on
@@ -71,7 +71,7 @@ module _ (program : Program) where
       by true one e later = more_stays m others held one e
       by false one e later =
           let l = map_of (λ (rest : List Monitor). m ∷ rest) (entered others thread on) held e in
-          ap (held_locks program) (sym l.2) ∙ behind m l.0 others (later l.0 l.1)
+          ap (held_locks program) (sym l.2) ∙ following m l.0 others (later l.0 l.1)
 
     less_stays : (m : Monitor) (others : List Monitor) → IsClean program m.on → held_locks program (held_once_less m others) ≡ held_locks program others
     less_stays m others own = by (m.count == 1) where
@@ -96,7 +96,7 @@ module _ (program : Program) where
       by true one e later = left_front m others held one e
       by false one e later =
           let l = map_of (λ (rest : List Monitor). m ∷ rest) (left others thread on) held e in
-          ap (held_locks program) (sym l.2) ∙ behind m l.0 others (later l.0 l.1)
+          ap (held_locks program) (sym l.2) ∙ following m l.0 others (later l.0 l.1)
 
     pub given_up_stays : (monitors : List Monitor) → held_locks program (given_up monitors thread on) ≡ held_locks program monitors
     given_up_stays monitors = by (left monitors thread on) refl where

@@ -1,4 +1,4 @@
--- A step of a thread that does not hold the lock: its instruction is the client's, or pushes the lock's class, behind which the lock is taken.
+-- A step of a thread that does not hold the lock: its instruction is the client's, or pushes the lock's class, after which the lock is taken.
 use Rattle.std.proofs.Common.{◌≡◌, ℕ, ◌+◌, Bool, true, false, cond, List, [], ◌∷◌, length, Option, Some, None, Result, Ok, refl, sym, ap, subst, ◌∙◌, inl, inr}
 use Rattle.std.specs.Prelude.{is_some, nat_lt, not}
 use Rattle.std.specs.Option.{option_map_or}
@@ -28,8 +28,8 @@ use Rattle.guest_model.specs.declared.machine.Machine.{Machine}
 use Rattle.guest_model.specs.Changes.{Change, World, world_of}
 use Rattle.guest_model.specs.Parts.{constant_value}
 use Rattle.guest_model.specs.Places.{class_index}
-use Rattle.guest_model.specs.Stepping.{Acting, acts_on, comes_to, heap_in, heap_stepped, insn_stepped, works}
-use Rattle.guest_model.specs.Working.{worked}
+use Rattle.guest_model.specs.Stepping.{Acting, acts_on, comes_to, heap_in, heap_stepped, insn_stepped, operates}
+use Rattle.guest_model.specs.HeapOperations.{heap_result}
 use Rattle.guest_model.proofs.Options.{if_then, is_there, map_of, some_is, unless_of}
 use Rattle.block_logic.specs.Accepted.{rules_of}
 use Rattle.block_logic.specs.Fitting.{AreClientFrames, state_of}
@@ -37,7 +37,7 @@ use Rattle.block_logic.specs.Meaning.{AreClean, IsAbove, IsFree, lock_of}
 use Rattle.block_logic.specs.Obeying.{IsObeying}
 use Rattle.block_logic.specs.Operands.{calls, has_clause, is_state_name, loads_constant, pushes_state, state_name, variable_named}
 use Rattle.block_logic.specs.Rows.{Open, Row, Rules, Taking, free_row, leads}
-use Rattle.block_logic.specs.Standing.{takes_for_call}
+use Rattle.block_logic.specs.Weakening.{takes_for_call}
 use Rattle.block_logic.proofs.Client.Changes.{Good, GoodIf, Keeps}
 use Rattle.block_logic.proofs.Client.Frames.{Laws, goes_free, may_go_on, moved_frame}
 use Rattle.block_logic.proofs.Client.Insns.{acts_good, shape_good}
@@ -97,9 +97,9 @@ module _ (program : Program) (policy : Policy) where
           subst (LeadsTo program policy annotations a.frame (a.frame.at + 1)) takes
           (ruled.past (may_go_on program policy annotations laws a.frame next acts.there (ap ends shape)))
 
-      takes_behind : (v : Value) → v ≡ lock_of program → (f : Frame) → after a.frame (v ∷ a.frame.stack.items) ≡ Some f
+      takes_after : (v : Value) → v ≡ lock_of program → (f : Frame) → after a.frame (v ∷ a.frame.stack.items) ≡ Some f
           → AreClientFrames program policy annotations (f ∷ a.below)
-      takes_behind v is f e =
+      takes_after v is f e =
           let items : List Value = v ∷ a.frame.stack.items in
           let to : Frame = moved_to a.frame (a.frame.at + 1) a.frame.locals items in
           let above : IsAbove program (lock_of program ∷ []) items =
@@ -110,22 +110,22 @@ module _ (program : Program) (policy : Policy) where
             acts.below,
           )
 
-      lock_pushed : Makes (works program shared a heap.Constant (target.ClassName state_name))
+      lock_pushed : Makes (operates program shared a heap.Constant (target.ClassName state_name))
       lock_pushed =
           let items : List Value = a.frame.stack.items in
-          if_then IsGood (comes_to program shared a) (worked program shared heap.Constant (target.ClassName state_name) items)
+          if_then IsGood (comes_to program shared a) (heap_result program shared heap.Constant (target.ClassName state_name) items)
           (λ made e.
           let m = map_of (λ (v : Value). Ok (shared, v ∷ items)) (constant_value program (target.ClassName state_name)) made e in
           let c = map_of values.Class (class_index program state_name) m.0 m.1 in
           let lock : m.0 ≡ lock_of program = sym c.2 ∙ lock_is c.0 c.1 in
           subst (λ (r : Result (World × List Value) Name). Makes (comes_to program shared a r)) m.2
           (acts_good program policy annotations laws machine kept a acts.well clean acts.below shared
-          (after a.frame (m.0 ∷ items)) kept (takes_behind m.0 lock)))
+          (after a.frame (m.0 ∷ items)) kept (takes_after m.0 lock)))
 
       pushes_lock : next.1 ≡ target.ClassName state_name → Makes (insn_stepped program machine a next)
       pushes_lock ref =
           subst (λ (s : Shape). Makes (option_map_or (λ (what : Heap). heap_stepped program machine a what next.1) (heap_in s) (acts_on shared a (frame_stepped next.0 a.frame))))
-          (sym shape) (subst (λ (r : Target). Makes (works program shared a heap.Constant r)) (sym ref) lock_pushed)
+          (sym shape) (subst (λ (r : Target). Makes (operates program shared a heap.Constant r)) (sym ref) lock_pushed)
 
     taken_good : pushes_state (shape_of next.0) next.1 ≡ true → Makes (insn_stepped program machine a next)
     taken_good pushes =

@@ -22,7 +22,7 @@ use Rattle.block_logic.specs.Agreement.{Clear, Part, Settles}
 use Rattle.block_logic.specs.Meaning.{AreClean, AreState, IsAbove, Means, lock_of}
 use Rattle.block_logic.specs.Obeying.{IsObeying}
 use Rattle.block_logic.specs.Rows.{Asked, Given, Open}
-use Rattle.block_logic.proofs.Owner.Going.{IsShared, block_frame, client_frame, frame_moved, gives_free, gives_on, goes_behind, goes_in, lands_loose}
+use Rattle.block_logic.proofs.Owner.Going.{IsShared, block_frame, client_frame, frame_moved, gives_free, gives_on, goes_after, goes_in, lands_loose}
 use Rattle.block_logic.proofs.Owner.Lock.{lock_left}
 use Rattle.block_logic.proofs.Owner.Moves.{Goes, leaves_lock}
 use Rattle.block_logic.proofs.Owner.Rows.{Asks}
@@ -49,10 +49,10 @@ module _ (program : Program) (policy : Policy) (annotations : Annotations) where
     abbrev Changes : Type 0
     Changes = ChangesBlock program policy annotations mine (world_of machine) a.number recorded part change
 
-    -- what is asked of the instruction behind
-    pub leads_behind : (asked : Asked) → ends (shape_of next.0) ≡ false → h.ruled.r.past ≡ asked → LeadsTo program policy annotations a.frame (a.frame.at + 1) asked
-    leads_behind asked stays past =
-        subst (LeadsTo program policy annotations a.frame (a.frame.at + 1)) past (h.ruled.past (goes_behind program policy annotations o a.frame next h.acts.there stays))
+    -- what is asked of the instruction after
+    pub leads_after : (asked : Asked) → ends (shape_of next.0) ≡ false → h.ruled.r.past ≡ asked → LeadsTo program policy annotations a.frame (a.frame.at + 1) asked
+    leads_after asked stays past =
+        subst (LeadsTo program policy annotations a.frame (a.frame.at + 1)) past (h.ruled.past (goes_after program policy annotations o a.frame next h.acts.there stays))
 
     -- what it shares, as it is
     shared : IsShared program policy annotations o mine a.number fields (world_of machine) (world_of machine)
@@ -69,12 +69,12 @@ module _ (program : Program) (policy : Policy) (annotations : Annotations) where
         mine part None tt shared lands lands.settles
         (lands_loose program policy annotations o mine recorded fields (moved_to a.frame to locals items) part part None loose (λ other. tt) lands))
 
-    -- to the instruction behind
-    pub goes_with_behind : OwnLoose mine part → (items : List Value) (given : Note) → ends (shape_of next.0) ≡ false → Asks h.ruled.r (Given given)
+    -- to the instruction after
+    pub goes_with_after : OwnLoose mine part → (items : List Value) (given : Note) → ends (shape_of next.0) ≡ false → Asks h.ruled.r (Given given)
         → Goes program machine a change (world_of machine) (a.frame.at + 1) a.frame.locals items
         → Means program policy annotations.held mine recorded fields (moved_to a.frame (a.frame.at + 1) a.frame.locals items) given part → Changes
-    goes_with_behind loose items given stays asks g means =
-        goes_with loose (a.frame.at + 1) a.frame.locals items given h.acts.well.locals (leads_behind (Given given) stays asks.past) g means
+    goes_with_after loose items given stays asks g means =
+        goes_with loose (a.frame.at + 1) a.frame.locals items given h.acts.well.locals (leads_after (Given given) stays asks.past) g means
 
   module _ (o : IsObeying program policy annotations) (machine : Machine) (a : Acting) (next : Insn × Target) (change : Change) (note : Note) (fields : List Value)
       (h : ActsIn true machine a next change note fields) (recorded : Values) (part : Part) (ranged : in_range policy recorded ≡ true)
@@ -95,7 +95,7 @@ module _ (program : Program) (policy : Policy) (annotations : Annotations) where
     gives_up opens asks now within settles are =
         let left = lock_left program a.number machine.monitors h.locked in
         let g = leaves_lock program machine a change next h.step (lock_of program) left.held is top refl left.given_up in
-        let leads = leads_behind o true machine a next change note fields h recorded part ranged Open (ap ends is) asks.past in
+        let leads = leads_after o true machine a next change note fields h recorded part ranged Open (ap ends is) asks.past in
         subst (ChangesBlock program policy annotations true (world_of machine) a.number recorded part) (sym g.is)
         (gives_free program policy annotations o a.number recorded fields part (world_of machine) (with_monitors (world_of machine) left.held) a.thread
         (moved_to a.frame (a.frame.at + 1) a.frame.locals rest) a.below h.acts.below
@@ -110,7 +110,7 @@ module _ (program : Program) (policy : Policy) (annotations : Annotations) where
     gives_over given asks now due within settles are means =
         let left = lock_left program a.number machine.monitors h.locked in
         let g = leaves_lock program machine a change next h.step (lock_of program) left.held is top refl left.given_up in
-        let leads = leads_behind o true machine a next change note fields h recorded part ranged (Given given) (ap ends is) asks.past in
+        let leads = leads_after o true machine a next change note fields h recorded part ranged (Given given) (ap ends is) asks.past in
         let lands = block_frame program policy annotations o a.frame h.acts.well false now [] due within (a.frame.at + 1) a.frame.locals rest given h.acts.well.locals leads means in
         let same : lands.due ≡ due = (lands.still refl).1 in
         subst (ChangesBlock program policy annotations true (world_of machine) a.number recorded part) (sym g.is)

@@ -1,4 +1,4 @@
--- An answer to a call that was granted: the thread goes on behind its call, or in the handler of what is thrown, and the update is due.
+-- An answer to a call that was granted: the thread goes on after its call, or in the handler of what is thrown, and the update is due.
 use Rattle.std.proofs.Common.{◌≡◌, ℕ, ◌<◌, ◌+◌, Bool, true, false, cond, List, [], ◌∷◌, ◌++◌, length, Option, Some, None, refl, sym, ap, ◌∙◌, subst, inl, inr, lt-ltb, eqb-true}
 use Rattle.std.specs.Prelude.{◌==◌, IfSome, nat_lt, not, is_some, option_and_then, option_map, slice_get}
 use Rattle.std.specs.Option.{option_map_or, option_to_list}
@@ -57,8 +57,8 @@ use Rattle.block_logic.specs.Formed.{FitsRuns}
 use Rattle.block_logic.specs.Meaning.{AreClean, GoesRound, HasResult, HasResultIn, IsClean, IsEventOf, IsOwed, Means}
 use Rattle.block_logic.specs.Obeying.{FitsListing, IsObeying}
 use Rattle.block_logic.specs.Operands.{calls, pushes_state}
-use Rattle.block_logic.specs.Rows.{Given, Open, Row, Rules, granted_row, is_duty, returned as asked_behind, thrown as asked_thrown}
-use Rattle.block_logic.specs.Standing.{in_phase, is_before}
+use Rattle.block_logic.specs.Rows.{Given, Open, Row, Rules, granted_row, is_duty, returned as asked_after, thrown as asked_thrown}
+use Rattle.block_logic.specs.Weakening.{in_phase, is_before}
 use Rattle.block_logic.proofs.Agreement.{clause_or, its_clause, no_clause}
 use Rattle.block_logic.proofs.Owner.Events.{has_its_clause}
 use Rattle.block_logic.proofs.Client.Changes.{throws_new_good}
@@ -66,7 +66,7 @@ use Rattle.block_logic.proofs.Client.Values.{lock_kept}
 use Rattle.block_logic.proofs.Client.Frames.{Laws, opens_free}
 use Rattle.block_logic.proofs.Client.Throws.{AreCatching}
 use Rattle.block_logic.proofs.Owner.Fair.{event_loose}
-use Rattle.block_logic.proofs.Owner.Going.{IsShared, Lands, block_frame, client_changes_block, client_frame, frame_moved, goes_behind, goes_in, goes_open, lands_loose}
+use Rattle.block_logic.proofs.Owner.Going.{IsShared, Lands, block_frame, client_changes_block, client_frame, frame_moved, goes_after, goes_in, goes_open, lands_loose}
 use Rattle.block_logic.proofs.Owner.GrantedRows.{CallsMethod, granted_cases}
 use Rattle.block_logic.proofs.Owner.Passed.{shown_as}
 use Rattle.block_logic.proofs.Ruled.{IsRuled, LeadsTo, RulesHold}
@@ -92,29 +92,29 @@ call_stays : (shape : Shape) → calls shape ≡ true → ends shape ≡ false
 call_stays (shapes.Heap (heap.Call how)) e = refl
 call_stays shape e = absurd cc
 
--- Behind the call an update is due, at a stage by whether the lock is held,
+-- After the call an update is due, at a stage by whether the lock is held,
 abbrev stage_by : Bool → ℕ
 stage_by true = 1
 stage_by false = 0
 
 -- where the lock is held or there is a clause for it.
-abbrev IsDueBehind : Policy → Bool → Site → Type 0
-IsDueBehind policy true site = Unit {0}
-IsDueBehind policy false site = is_some (clause_of policy site) ≡ true
+abbrev IsDueAfter : Policy → Bool → Site → Type 0
+IsDueAfter policy true site = Unit {0}
+IsDueAfter policy false site = is_some (clause_of policy site) ≡ true
 
-behind_due : (rules : Rules) (mine : Bool) (site : Site) → holds_round rules.held site.method ≡ mine → IsDueBehind rules.policy mine (in_phase After site)
-    → asked_behind rules site ≡ Given (notes.Owed (in_phase After site) (stage_by mine) false false)
-behind_due rules true site round due = rw round refl
-behind_due rules false site round due = rw (round, due) refl
+after_due : (rules : Rules) (mine : Bool) (site : Site) → holds_round rules.held site.method ≡ mine → IsDueAfter rules.policy mine (in_phase After site)
+    → asked_after rules site ≡ Given (notes.Owed (in_phase After site) (stage_by mine) false false)
+after_due rules true site round due = rw round refl
+after_due rules false site round due = rw (round, due) refl
 
-behind_open : (rules : Rules) (site : Site) → holds_round rules.held site.method ≡ false → is_some (clause_of rules.policy (in_phase After site)) ≡ false → asked_behind rules site ≡ Open
-behind_open rules site round none = rw (round, none) refl
+after_open : (rules : Rules) (site : Site) → holds_round rules.held site.method ≡ false → is_some (clause_of rules.policy (in_phase After site)) ≡ false → asked_after rules site ≡ Open
+after_open rules site round none = rw (round, none) refl
 
-duty_due : (rules : Rules) (mine : Bool) (site : Site) → holds_round rules.held site.method ≡ mine → IsDueBehind rules.policy mine (in_phase Exceptional site) → is_duty rules site.method ≡ true
+duty_due : (rules : Rules) (mine : Bool) (site : Site) → holds_round rules.held site.method ≡ mine → IsDueAfter rules.policy mine (in_phase Exceptional site) → is_duty rules site.method ≡ true
 duty_due rules true site round due = rw round refl
 duty_due rules false site round due = rw (round, due) refl
 
-thrown_due : (rules : Rules) (mine : Bool) (site : Site) → holds_round rules.held site.method ≡ mine → IsDueBehind rules.policy mine (in_phase Exceptional site)
+thrown_due : (rules : Rules) (mine : Bool) (site : Site) → holds_round rules.held site.method ≡ mine → IsDueAfter rules.policy mine (in_phase Exceptional site)
     → asked_thrown rules site ≡ Given (notes.Owed (in_phase Exceptional site) (stage_by mine) false false)
 thrown_due rules true site round due = rw round refl
 thrown_due rules false site round due = rw (round, due) refl
@@ -190,9 +190,9 @@ gives_something program world result receiver arguments (answers.Throws class) g
 -- ---- what a return comes to
 
 -- A return with a clause is owed.
-abbrev part_behind : Option Clause → Event → Part
-part_behind None e = Clear
-part_behind (Some clause) e = Owed e
+abbrev part_after : Option Clause → Event → Part
+part_after None e = Clear
+part_after (Some clause) e = Owed e
 
 -- it may be recorded at once
 returns_then : (policy : Policy) (recorded now : Values) (due : Part) (e : Event) → is_return e ≡ true → Settles policy recorded (Owed e) now due → Tells policy recorded Clear e now due
@@ -231,17 +231,17 @@ module _ (program : Program) (policy : Policy) (annotations : Annotations) (o : 
 
   -- the update is due
   owes : (site : Site) (e : Event) (at : ℕ) (items : List Value) → site.method ≡ method → is_before site.phase ≡ false → IsEventOf site e → FitsRuns program policy annotations.held e → AreClean program items
-      → ((clause : Clause) → clause_of policy site ≡ Some clause → HasResultIn clause site.phase false site.base frame.locals items e) → IsDueBehind policy mine site
-      → Means program policy annotations.held mine recorded fields (moved_to frame at frame.locals items) (notes.Owed site (stage_by mine) false false) (part_behind (clause_of policy site) e)
-  owes site e at items is behind of fit clean tells due = record {
-    behind = behind;
+      → ((clause : Clause) → clause_of policy site ≡ Some clause → HasResultIn clause site.phase false site.base frame.locals items e) → IsDueAfter policy mine site
+      → Means program policy annotations.held mine recorded fields (moved_to frame at frame.locals items) (notes.Owed site (stage_by mine) false false) (part_after (clause_of policy site) e)
+  owes site e at items is following of fit clean tells due = record {
+    following = following;
     round = goes_round site is;
     variables = c.variables;
     above = record { rest = items; is = refl; clean = clean };
     owed = by mine (clause_of policy site) refl due;
   } where
-    by : (b : Bool) (clause : Option Clause) → clause_of policy site ≡ clause → IsDueBehind policy b site
-        → IsOwed program policy annotations.held b site (stage_by b) clause (part_behind clause e) false frame.locals items
+    by : (b : Bool) (clause : Option Clause) → clause_of policy site ≡ clause → IsDueAfter policy b site
+        → IsOwed program policy annotations.held b site (stage_by b) clause (part_after clause e) false frame.locals items
     by true None there due = refl
     by true (Some clause) there due = record { event = e; is = refl; of = of; formed = fit; told = tells clause there }
     by false None there due = let none : false ≡ true = ap is_some (sym there) ∙ due in absurd cc
@@ -257,21 +257,21 @@ module _ (program : Program) (policy : Policy) (annotations : Annotations) (o : 
   -- the thread goes on in its block
   goes_seen : (world : World) (site : Site) (e : Event) (f : Frame) → site.method ≡ method → IsEventOf site e → is_return e ≡ true → FitsRuns program policy annotations.held e
       → IsShared program policy annotations o mine number fields shared world
-      → Lands program policy annotations o mine recorded fields f (part_behind (clause_of policy site) e)
+      → Lands program policy annotations o mine recorded fields f (part_after (clause_of policy site) e)
       → ChangesBlock program policy annotations mine shared number recorded part (with_event (goes world thread (f ∷ below)) (Some e))
   goes_seen world site e f is of ends fit held lands =
-      goes_in program policy annotations o number recorded fields part shared world thread f below under mine (part_behind (clause_of policy site) e) (Some e)
+      goes_in program policy annotations o number recorded fields part shared world thread f below under mine (part_after (clause_of policy site) e) (Some e)
       (clause_or (IsFit program policy annotations) policy e fit) held lands (rw c.clear (ended (clause_of policy site) refl lands.settles))
-      (lands_loose program policy annotations o mine recorded fields f (part_behind (clause_of policy site) e) part (clause_event policy (Some e)) (λ other. rw c.clear tt) (seen_loose site e is of) lands)
+      (lands_loose program policy annotations o mine recorded fields f (part_after (clause_of policy site) e) part (clause_event policy (Some e)) (λ other. rw c.clear tt) (seen_loose site e is of) lands)
     where
-      ended : (clause : Option Clause) → clause_of policy site ≡ clause → Settles policy recorded (part_behind clause e) lands.now lands.due
+      ended : (clause : Option Clause) → clause_of policy site ≡ clause → Settles policy recorded (part_after clause e) lands.now lands.due
           → Turns policy recorded Clear (clause_event policy (Some e)) lands.now lands.due
       ended None there settles = rw (no_clause policy (Some e) (has_its_clause policy site e of ∙ ap is_some there)) settles
       ended (Some clause) there settles =
           rw (its_clause policy e (has_its_clause policy site e of ∙ ap is_some there)) (returns_then policy recorded lands.now lands.due e ends settles)
 
   -- by whether an update is due
-  due_or_not : (site : Site) {P : Type 0} → (IsDueBehind policy mine site → P) → (mine ≡ false → is_some (clause_of policy site) ≡ false → P) → P
+  due_or_not : (site : Site) {P : Type 0} → (IsDueAfter policy mine site → P) → (mine ≡ false → is_some (clause_of policy site) ≡ false → P) → P
   due_or_not site {P = P} due not_due = by mine refl (is_some (clause_of policy site)) refl where
     by : (b : Bool) → mine ≡ b → (some : Bool) → is_some (clause_of policy site) ≡ some → P
     by true is some there = due (rw is tt)
@@ -323,13 +323,13 @@ module _ (program : Program) (policy : Policy) (annotations : Annotations) (o : 
       by None is = tt
       by (Some v) is = (is, tt)
 
-    behind_call : ends (shape_of c.at_call.insn) ≡ false
-    behind_call = call_stays (shape_of c.at_call.insn) c.at_call.call
+    after_call : ends (shape_of c.at_call.insn) ≡ false
+    after_call = call_stays (shape_of c.at_call.insn) c.at_call.call
 
     leads_past : LeadsTo program policy annotations frame (frame.at + 1) ruled.r.past
-    leads_past = ruled.past (goes_behind program policy annotations o frame (c.at_call.insn, target.ApiMethod method) c.at_call.there behind_call)
+    leads_past = ruled.past (goes_after program policy annotations o frame (c.at_call.insn, target.ApiMethod method) c.at_call.there after_call)
 
-    past_is : ruled.r.past ≡ asked_behind rules c.site
+    past_is : ruled.r.past ≡ asked_after rules c.site
     past_is = ap (λ (r : Row). r.past) row_is.is
 
     of_site : IsEventOf site event
@@ -348,17 +348,17 @@ module _ (program : Program) (policy : Policy) (annotations : Annotations) (o : 
     abbrev Returns : Type 0
     Returns = ChangesBlock program policy annotations mine shared number recorded part (with_event (goes gave.0 thread (moved_to frame (frame.at + 1) frame.locals items ∷ below)) (Some event))
 
-    returns_due : FitsRuns program policy annotations.held event → IsDueBehind policy mine site → Returns
+    returns_due : FitsRuns program policy annotations.held event → IsDueAfter policy mine site → Returns
     returns_due fit due =
-        let asked : ruled.r.past ≡ Given (notes.Owed site (stage_by mine) false false) = past_is ∙ behind_due rules mine c.site round_site due in
+        let asked : ruled.r.past ≡ Given (notes.Owed site (stage_by mine) false false) = past_is ∙ after_due rules mine c.site round_site due in
         let leads : LeadsTo program policy annotations frame (frame.at + 1) (Given (notes.Owed site (stage_by mine) false false)) = subst (LeadsTo program policy annotations frame (frame.at + 1)) asked leads_past in
         goes_seen gave.0 site event (moved_to frame (frame.at + 1) frame.locals items) c.of of_site refl fit world_now
-        (block_frame program policy annotations o frame c.well mine recorded fields (part_behind (clause_of policy site) event) ranged (frame.at + 1) frame.locals items
+        (block_frame program policy annotations o frame c.well mine recorded fields (part_after (clause_of policy site) event) ranged (frame.at + 1) frame.locals items
         (notes.Owed site (stage_by mine) false false) c.well.locals leads (owes site event (frame.at + 1) items c.of refl of_site fit result_clean tells_result due))
 
     returns_open : mine ≡ false → is_some (clause_of policy site) ≡ false → Returns
     returns_open other none =
-        let asked : ruled.r.past ≡ Open = past_is ∙ behind_open rules c.site (round_site ∙ other) none in
+        let asked : ruled.r.past ≡ Open = past_is ∙ after_open rules c.site (round_site ∙ other) none in
         let leads : LeadsTo program policy annotations frame (frame.at + 1) Open = subst (LeadsTo program policy annotations frame (frame.at + 1)) asked leads_past in
         subst (λ (b : Bool). ChangesBlock program policy annotations b shared number recorded part (with_event (goes gave.0 thread (moved_to frame (frame.at + 1) frame.locals items ∷ below)) (Some event))) (sym other)
         (goes_open program policy annotations o number recorded fields part shared gave.0 thread (moved_to frame (frame.at + 1) frame.locals items) below under (Some event) ranged
@@ -398,7 +398,7 @@ module _ (program : Program) (policy : Policy) (annotations : Annotations) (o : 
     thrown_is : ruled.r.thrown ≡ asked_thrown rules c.site
     thrown_is = ap (λ (r : Row). r.thrown) row_is.is
 
-    catches : IsDueBehind policy mine thrown_site → (handler : Handler) × (handler_of program frame class ≡ Some handler)
+    catches : IsDueAfter policy mine thrown_site → (handler : Handler) × (handler_of program frame class ≡ Some handler)
     catches due = ruled.duty method refl c.at_call.call has (subst (λ (m : ℕ). is_duty rules m ≡ true) c.of (duty_due rules mine c.site round_site due)) class
 
     abbrev caught_at : Handler → Frame
@@ -434,14 +434,14 @@ module _ (program : Program) (policy : Policy) (annotations : Annotations) (o : 
     abbrev Throws : Change → Type 0
     Throws change = ChangesBlock program policy annotations mine shared number recorded part change
 
-    throws_due : FitsRuns program policy annotations.held excepted → IsDueBehind policy mine thrown_site → Throws (throws_new program shared number thread (frame ∷ below) class (Some excepted))
+    throws_due : FitsRuns program policy annotations.held excepted → IsDueAfter policy mine thrown_site → Throws (throws_new program shared number thread (frame ∷ below) class (Some excepted))
     throws_due fit due =
         let h = catches due in
         let leads : LeadsTo program policy annotations frame h.0.at (Given (notes.Owed thrown_site (stage_by mine) false false)) =
         subst (LeadsTo program policy annotations frame h.0.at) (thrown_is ∙ thrown_due rules mine c.site round_site due) (ruled.caught class h.0 h.1) in
         subst Throws (sym (throws_caught program shared number thread frame below class excepted (caught_at h.0) (caught_is h.0 h.1)))
         (goes_seen with_thrown thrown_site excepted (caught_at h.0) c.of thrown_of refl fit thrown_world
-        (block_frame program policy annotations o frame c.well mine recorded fields (part_behind (clause_of policy thrown_site) excepted) ranged h.0.at frame.locals (thrown ∷ [])
+        (block_frame program policy annotations o frame c.well mine recorded fields (part_after (clause_of policy thrown_site) excepted) ranged h.0.at frame.locals (thrown ∷ [])
         (notes.Owed thrown_site (stage_by mine) false false) c.well.locals leads (owes thrown_site excepted h.0.at (thrown ∷ []) c.of refl thrown_of fit (refl, tt) (λ clause is. tt) due)))
 
     -- It is caught in the client's code, in this frame or below, or ends the thread.

@@ -44,14 +44,14 @@ use Rattle.block_logic.specs.Meaning.{AreClean, AreTerms, IsAbove, IsTried, Mean
 use Rattle.block_logic.specs.Obeying.{IsObeying}
 use Rattle.block_logic.specs.Operands.{adds, compared, goes, leaves, variable_named, writes_static}
 use Rattle.block_logic.specs.Rows.{Check, Given, all_hold, Open, Row, Rules, asks_atom, check_row, failing, gives, holding_on, is_negation, is_relation, last_but_one, last_term, leads, leaves_done, left, next_atom, only_if, sum_of, sum_on_top, term_pushed, tested, tests, with_terms, without, writes}
-use Rattle.block_logic.specs.Standing.{branches_of, is_before, is_done}
+use Rattle.block_logic.specs.Weakening.{branches_of, is_before, is_done}
 use Rattle.block_logic.specs.Terms.{base_term}
-use Rattle.block_logic.proofs.Owner.Acting.{ActsIn, OwnLoose, gives_over, gives_up, goes_with, goes_with_behind, leads_behind}
+use Rattle.block_logic.proofs.Owner.Acting.{ActsIn, OwnLoose, gives_over, gives_up, goes_with, goes_with_after, leads_after}
 use Rattle.block_logic.proofs.Owner.Going.{block_frame, compares_there, goes_in, goes_there}
 use Rattle.block_logic.proofs.Owner.Moves.{Goes, adds as adds_up, compared_to, compares as compares_tops, jumps, writes_variable}
 use Rattle.block_logic.proofs.Owner.Pushes.{term_is_pushed, variable_is_named}
 use Rattle.block_logic.proofs.Owner.Rows.{Asks, gives_asks, leads_asks, leaves_is, one_row, where_so}
-use Rattle.block_logic.proofs.Owner.Standing.{IsPassed, before_is, granted_by, passed, passed_settles}
+use Rattle.block_logic.proofs.Owner.Weakening.{IsPassed, before_is, granted_by, passed, passed_settles}
 use Rattle.block_logic.proofs.Owner.Terms.{last_is, last_two_are, one_above, one_more, same_terms_are, term_set, top_of}
 use Rattle.block_logic.proofs.Owner.Tests.{AsksAtom, atom_asked, compared_holds, one_more_fails, one_more_holds, relates_not, relates_same, sum_is}
 use Rattle.block_logic.proofs.Owner.Unlocked.{never_unlocked}
@@ -149,7 +149,7 @@ module _ (program : Program) (policy : Policy) (annotations : Annotations) (o : 
       subst (λ (ts : List Term). AreTerms program recorded m.event ts (p.value ∷ m.tops)) (sym (one_more list t))
       (one_above program recorded m.event t p.value (reverse list) m.tops p.stands m.pushed) in
       let above : IsAbove program (p.value ∷ m.tops) items = record { rest = m.above.rest; is = ap (λ (vs : List Value). p.value ∷ vs) m.above.is; clean = m.above.clean } in
-      goes_with_behind program policy annotations o true machine a next change _ fields h recorded part ranged not_other items (notes.Held site failed holding (list ++ t ∷ []) map) p.stays asks p.goes
+      goes_with_after program policy annotations o true machine a next change _ fields h recorded part ranged not_other items (notes.Held site failed holding (list ++ t ∷ []) map) p.stays asks p.goes
       (refl, means_on (a.frame.at + 1) items failed holding (list ++ t ∷ []) map fields (p.value ∷ m.tops) m.tried m.variables terms above)
 
   -- ---- the two topmost terms
@@ -207,7 +207,7 @@ module _ (program : Program) (policy : Policy) (annotations : Annotations) (o : 
       subst (λ (ts : List Term). AreTerms program recorded m.event ts (value ∷ two.below)) (sym (one_more (without 2 list) t))
       (one_above program recorded m.event t value (reverse (without 2 list)) two.below stands two.others) in
       let left : items ≡ value ∷ two.below ++ m.above.rest = ap (λ (vs : List Value). value ∷ drop 2 vs) two.is in
-      goes_with_behind program policy annotations o true machine a next change _ fields h recorded part ranged not_other items (notes.Held site failed holding (without 2 list ++ t ∷ []) map) (ap ends is) asks added.4
+      goes_with_after program policy annotations o true machine a next change _ fields h recorded part ranged not_other items (notes.Held site failed holding (without 2 list ++ t ∷ []) map) (ap ends is) asks added.4
       (refl, means_on (a.frame.at + 1) items failed holding (without 2 list ++ t ∷ []) map fields (value ∷ two.below) m.tried m.variables terms (above_rest (value ∷ two.below) items left))
 
   -- ---- control goes elsewhere
@@ -262,7 +262,7 @@ module _ (program : Program) (policy : Policy) (annotations : Annotations) (o : 
         tells to outcome known leads
         (subst (λ (b : Bool). Goes program machine a change (world_of machine) (cond b to (a.frame.at + 1)) a.frame.locals (drop 2 a.frame.stack.items)) relates g)
     jumps_or_not false outcome known asks y x first second relates g =
-        let leads = leads_behind program policy annotations o true machine a next change _ fields h recorded part ranged (Given (cond outcome (holding_on check) (failing check))) (ap ends is) asks in
+        let leads = leads_after program policy annotations o true machine a next change _ fields h recorded part ranged (Given (cond outcome (holding_on check) (failing check))) (ap ends is) asks in
         tells (a.frame.at + 1) outcome known leads
         (subst (λ (b : Bool). Goes program machine a change (world_of machine) (cond b to (a.frame.at + 1)) a.frame.locals (drop 2 a.frame.stack.items)) relates g)
 
@@ -320,7 +320,7 @@ module _ (program : Program) (policy : Policy) (annotations : Annotations) (o : 
       let given = notes.Held site failed holding (without 1 list) (slice_set map var t) in
       let means = means_on (a.frame.at + 1) items failed holding (without 1 list) (slice_set map var t) now top.below m.tried
       (term_set program recorded m.event map fields var t top.value m.variables top.stands) top.others (above_rest top.below items (ap (drop 1) items_are)) in
-      let leads = leads_behind program policy annotations o true machine a next change _ fields h recorded part ranged (Given given) (ap ends is) asks.past in
+      let leads = leads_after program policy annotations o true machine a next change _ fields h recorded part ranged (Given given) (ap ends is) asks.past in
       let here : slice_get (slice_set machine.statics rules.state now) rules.state ≡ Some now =
       set_there machine.statics rules.state now (slice_get_within machine.statics rules.state fields h.there) in
       let lands = block_frame program policy annotations o a.frame h.acts.well true recorded now part ranged (a.frame.at + 1) a.frame.locals items given h.acts.well.locals leads (refl, means) in
@@ -363,7 +363,7 @@ module _ (program : Program) (policy : Policy) (annotations : Annotations) (o : 
     lets_go_or_not : RulesHold program policy annotations → Changes
     lets_go_or_not rules_hold = elim (cases_Bool (holds_round annotations.held site.method)) [
       | inl held ↦
-          let leads = leads_behind program policy annotations o true machine a next change _ fields h recorded part ranged (Given (notes.Granted site false 0 false)) (ap ends is) asks.past in
+          let leads = leads_after program policy annotations o true machine a next change _ fields h recorded part ranged (Given (notes.Granted site false 0 false)) (ap ends is) asks.past in
           absurd (never_unlocked program policy annotations o rules_hold site held a.frame next 0 h.acts.there (ap ends is) leads)
       | inr round ↦ lets_go round
     ]
@@ -376,10 +376,10 @@ module _ (program : Program) (policy : Policy) (annotations : Annotations) (o : 
         | inl before ↦
             let asked : left site ≡ Given (notes.Granted site false 0 false) = rw before refl in
             lets_go_or_not is only p (before_is site.phase before) (record { past = asks.past ∙ asked; jump = asks.jump ∙ asked; thrown = asks.thrown }) rules_hold
-        | inr behind ↦
-            let asked : left site ≡ Open = rw behind refl in
+        | inr following ↦
+            let asked : left site ≡ Open = rw following refl in
             gives_up program policy annotations o machine a next change _ fields h recorded part ranged is (lock_alone only) opens (record { past = asks.past ∙ asked; jump = asks.jump ∙ asked; thrown = asks.thrown })
-            p.end p.stays (passed_settles program policy annotations o recorded fields a.frame part ranged site.phase p.end m.event behind m.due p.taken) p.variables
+            p.end p.stays (passed_settles program policy annotations o recorded fields a.frame part ranged site.phase p.end m.event following m.due p.taken) p.variables
       ]
 
   -- ---- by its row

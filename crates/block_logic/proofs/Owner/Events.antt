@@ -20,7 +20,7 @@ use Rattle.conspec_automaton.specs.Sound.{IsPolicy}
 use Rattle.conspec_automaton.proofs.Ranges.{next_keeps}
 use Rattle.block_logic.specs.Clauses.{clause_of, is_of_phase}
 use Rattle.block_logic.specs.Meaning.{IsEventOf, IsTried}
-use Rattle.block_logic.specs.Standing.{is_before}
+use Rattle.block_logic.specs.Weakening.{is_before}
 
 -- ---- the clause of an event
 
@@ -57,7 +57,7 @@ clause_found policy site e of = found_same (speaks_of e) _ policy.clauses same w
 pub has_its_clause : (policy : Policy) (site : Site) (e : Event) → IsEventOf site e → has_clause policy e ≡ is_some (clause_of policy site)
 has_its_clause policy site e of = ap is_some (clause_found policy site e of)
 
--- An event of a site before a call is a call, and one behind it a return.
+-- An event of a site before a call is a call, and one after it a return.
 pub is_call : (site : Site) (e : Event) → IsEventOf site e → site.phase ≡ sites.Before → is_return e ≡ false
 is_call site e of before = by e (subst (λ (p : Phase8). is_of_phase p (sight_of e).phase ≡ true) before of.phase) where
   by : (e : Event) → is_of_phase sites.Before (sight_of e).phase ≡ true → is_return e ≡ false
@@ -66,7 +66,7 @@ is_call site e of before = by e (subst (λ (p : Phase8). is_of_phase p (sight_of
   by (events.Except thread method) h = absurd cc
 
 pub is_end : (site : Site) (e : Event) → IsEventOf site e → is_before site.phase ≡ false → is_return e ≡ true
-is_end site e of behind = by e site.phase of.phase behind where
+is_end site e of following = by e site.phase of.phase following where
   by : (e : Event) (phase : Phase8) → is_of_phase phase (sight_of e).phase ≡ true → is_before phase ≡ false → is_return e ≡ true
   by (events.Call thread method arguments) sites.Before h n = absurd cc
   by (events.Call thread method arguments) sites.After h n = absurd cc

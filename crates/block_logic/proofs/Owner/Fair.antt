@@ -20,7 +20,7 @@ use Rattle.block_logic.specs.Annotations.{Annotations, holds_round}
 use Rattle.block_logic.specs.Clauses.{clause_at, clause_of}
 use Rattle.block_logic.specs.Fitting.{AreBlockCall, AreBlockFrames, IsBlockDoing}
 use Rattle.block_logic.specs.Meaning.{IsDue, IsEventOf, IsGranted, IsOwed, IsRefused, Means}
-use Rattle.block_logic.specs.Standing.{in_phase, is_before}
+use Rattle.block_logic.specs.Weakening.{in_phase, is_before}
 use Rattle.block_logic.proofs.Owner.Events.{is_call, is_end, is_of_site}
 use Rattle.block_logic.proofs.Racing.{IsLoose, IsLooseEvent}
 use Rattle.block_logic.proofs.Steps.{IsFair, IsFit}
@@ -37,7 +37,7 @@ module _ (program : Program) (policy : Policy) (annotations : Annotations) where
 
   -- a return of a site
   pub owed_fair : (site : Site) (e : Event) → is_before site.phase ≡ false → IsEventOf site e → IsFit program policy annotations e → Fair (Owed e)
-  owed_fair site e behind of fit = (fit, is_end site e of behind)
+  owed_fair site e following of fit = (fit, is_end site e of following)
 
   held_fair : (phase : Phase8) (site : Site) (e : Event) (part : Part) → site.phase ≡ phase → IsEventOf site e → IsFit program policy annotations e → IsDue phase e part → Fair part
   held_fair Before site e part is of fit due = fair_if part due
@@ -51,14 +51,14 @@ module _ (program : Program) (policy : Policy) (annotations : Annotations) where
 
   owes_fair : (mine : Bool) (site : Site) (stage : ℕ) (clause : Option Clause) (part : Part) (kept : Bool) (locals rest : List Value)
       → is_before site.phase ≡ false → IsOwed program policy annotations.held mine site stage clause part kept locals rest → Fair part
-  owes_fair false site zero None part kept locals rest behind owed = absurd owed
-  owes_fair false site zero (Some clause) part kept locals rest behind p = subst Fair (sym p.is) (owed_fair site p.event behind p.of p.formed)
-  owes_fair false site (suc n) clause part kept locals rest behind owed = absurd owed
-  owes_fair true site zero clause part kept locals rest behind owed = absurd owed
-  owes_fair true site (suc zero) None part kept locals rest behind clear = fair_if part clear
-  owes_fair true site (suc zero) (Some clause) part kept locals rest behind p = subst Fair (sym p.is) (owed_fair site p.event behind p.of p.formed)
-  owes_fair true site (suc (suc zero)) clause part kept locals rest behind clear = fair_if part clear
-  owes_fair true site (suc (suc (suc n))) clause part kept locals rest behind owed = absurd owed
+  owes_fair false site zero None part kept locals rest following owed = absurd owed
+  owes_fair false site zero (Some clause) part kept locals rest following p = subst Fair (sym p.is) (owed_fair site p.event following p.of p.formed)
+  owes_fair false site (suc n) clause part kept locals rest following owed = absurd owed
+  owes_fair true site zero clause part kept locals rest following owed = absurd owed
+  owes_fair true site (suc zero) None part kept locals rest following clear = fair_if part clear
+  owes_fair true site (suc zero) (Some clause) part kept locals rest following p = subst Fair (sym p.is) (owed_fair site p.event following p.of p.formed)
+  owes_fair true site (suc (suc zero)) clause part kept locals rest following clear = fair_if part clear
+  owes_fair true site (suc (suc (suc n))) clause part kept locals rest following owed = absurd owed
 
   refused_fair : (part : Part) → IsRefused program policy annotations.held part → Fair part
   refused_fair Clear r = clear_fair
@@ -72,7 +72,7 @@ module _ (program : Program) (policy : Policy) (annotations : Annotations) where
   means_fair mine recorded fields frame (notes.Held site failed holding list map) part m = held_fair site.phase site m.1.event part refl m.1.of m.1.formed m.1.due
   means_fair mine recorded fields frame (notes.Granted site locked count top) part m = granted_fair site (clause_at policy site.method Before) part frame.locals m.granted
   means_fair mine recorded fields frame (notes.Owed site stage kept top) part m =
-      owes_fair mine site stage (clause_of policy site) part kept frame.locals m.above.rest m.behind m.owed
+      owes_fair mine site stage (clause_of policy site) part kept frame.locals m.above.rest m.following m.owed
   means_fair mine recorded fields frame (notes.Stop site place) part m = refused_fair part m.1.refused
 
   -- ---- what is loose
@@ -141,7 +141,7 @@ module _ (program : Program) (policy : Policy) (annotations : Annotations) where
     means_anywhere frame (notes.Held site failed holding list map) part m = let no = m.0 in absurd cc
     means_anywhere frame (notes.Granted site locked count top) part m =
         record { holds = m.holds; round = m.round; granted = m.granted; variables = tt; few = m.few; loaded = m.loaded; are = m.are; above = m.above }
-    means_anywhere frame (notes.Owed site stage kept top) part m = record { behind = m.behind; round = m.round; variables = tt; above = m.above; owed = m.owed }
+    means_anywhere frame (notes.Owed site stage kept top) part m = record { following = m.following; round = m.round; variables = tt; above = m.above; owed = m.owed }
     means_anywhere frame (notes.Stop site place) part m = let no = m.0 in absurd cc
 
     frames_anywhere : (frames : List Frame) (part : Part) → AreBlockFrames program policy annotations false recorded fields frames part → AreBlockFrames program policy annotations false now fields_now frames part

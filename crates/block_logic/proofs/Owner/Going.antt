@@ -10,7 +10,7 @@ use Rattle.insn_codec.specs.Control.{jump_targets, next_of}
 use Rattle.insn_codec.specs.Fits.{IsInsn}
 use Rattle.insn_codec.specs.Opcodes.{goes_on}
 use Rattle.insn_codec.specs.Shapes.{shape_of}
-use Rattle.insn_codec.specs.Spelling.{opcode_of}
+use Rattle.insn_codec.specs.Encoding.{opcode_of}
 use Rattle.insn_codec.specs.Table.{ends, is_heap}
 use Rattle.insn_codec.proofs.Table.{goes_on_alike, goes_to_successor}
 use Rattle.bytecode_model.specs.declared.program.Method.{Method}
@@ -37,17 +37,17 @@ use Rattle.block_logic.specs.Obeying.{IsObeying}
 use Rattle.block_logic.specs.Rows.{Given, Open}
 use Rattle.block_logic.proofs.Agreement.{no_clause}
 use Rattle.block_logic.proofs.Owner.Fair.{block_anywhere, clear_fair, means_fair, means_loose}
-use Rattle.block_logic.proofs.Owner.Standing.{stands}
+use Rattle.block_logic.proofs.Owner.Weakening.{stands}
 use Rattle.block_logic.proofs.Racing.{IsLoose, IsLooseEvent}
 use Rattle.block_logic.proofs.Ruled.{LeadsTo, OpensFree}
 use Rattle.block_logic.proofs.Steps.{AreLoose, ChangesBlock, ChangesClient, IsFit, LocksAre, Stays, VariablesAre}
 
 -- ---- where control goes
 
-not_behind : (b : Bool) (to : ℕ) → Contains (cond b ((to + 1) ∷ []) []) to → ⊥
-not_behind true to (zero, inside, is) = absurd (omega (arith, is))
-not_behind true to (suc k, inside, is) = absurd (omega (arith, inside))
-not_behind false to c = absurd (omega (arith, c.1))
+not_after : (b : Bool) (to : ℕ) → Contains (cond b ((to + 1) ∷ []) []) to → ⊥
+not_after true to (zero, inside, is) = absurd (omega (arith, is))
+not_after true to (suc k, inside, is) = absurd (omega (arith, inside))
+not_after false to c = absurd (omega (arith, c.1))
 
 jump_there : (insn : Insn) (to : ℕ) (stack : List Value) → IsInsn insn → is_heap (shape_of insn) ≡ false → next_of values_seen insn to stack ≡ to
     → Contains (jump_targets insn) to
@@ -56,7 +56,7 @@ jump_there insn to stack is frame goes =
     let there : Contains (cond (goes_on (opcode_of insn)) ((to + 1) ∷ []) [] ++ jump_targets insn) to =
     subst (λ (n : ℕ). Contains (cond (goes_on (opcode_of insn)) ((to + 1) ∷ []) [] ++ jump_targets insn) n) goes c in
     elim (Contains-append_cases (cond (goes_on (opcode_of insn)) ((to + 1) ∷ []) []) (jump_targets insn) to there) [
-      | inl first ↦ absurd (not_behind (goes_on (opcode_of insn)) to first)
+      | inl first ↦ absurd (not_after (goes_on (opcode_of insn)) to first)
       | inr jump ↦ jump
     ]
 
@@ -67,8 +67,8 @@ module _ (program : Program) (policy : Policy) (annotations : Annotations) (o : 
         let m = and_then_of (λ (method : Method). insn_in method frame.at) (method_at program frame.class frame.method) next there in
         o.insns frame.class frame.method frame.at next.0 next.1 (record { of = m.0; there = m.1; is = m.2 })
 
-    pub goes_behind : ends (shape_of next.0) ≡ false → goes_on (opcode_of next.0) ≡ true
-    goes_behind stays = goes_on_alike next.0 is_insn ∙ ap not stays
+    pub goes_after : ends (shape_of next.0) ≡ false → goes_on (opcode_of next.0) ≡ true
+    goes_after stays = goes_on_alike next.0 is_insn ∙ ap not stays
 
     pub goes_there : (to : ℕ) → shape_of next.0 ≡ shapes.Goto to → Contains (jump_targets next.0) to
     goes_there to is =
@@ -194,7 +194,7 @@ module _ (program : Program) (policy : Policy) (annotations : Annotations) (o : 
       goes = λ on. (clean, inr (record { locks = none; fields = fields; variables = variables; are = are; other = inr (block_anywhere program policy annotations r [] f [] (frame ∷ below) doings.Running due (top, under)) }));
     }
 
-    -- It does not hold the lock, and goes on in the client's code behind a call that has no clause for its end.
+    -- It does not hold the lock, and goes on in the client's code after a call that has no clause for its end.
     pub goes_open : (event : Option Event) → in_range policy recorded ≡ true → IsShared false number fields shared world → part ≡ Clear → clause_event policy event ≡ None
         → IsFrame program frame → IsClientFrame program policy annotations frame
         → ChangesBlock program policy annotations false shared number recorded part (with_event (goes world thread (frame ∷ below)) event)

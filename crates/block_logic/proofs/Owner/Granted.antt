@@ -47,8 +47,8 @@ use Rattle.block_logic.specs.Meaning.{AreClean, IsAbove, IsChecked, IsClean, IsE
 use Rattle.block_logic.specs.Obeying.{FitsListing, IsObeying}
 use Rattle.block_logic.specs.Operands.{calls, has_clause}
 use Rattle.block_logic.specs.Rows.{Given, Row, Rules, calls_of}
-use Rattle.block_logic.specs.Standing.{in_phase}
-use Rattle.block_logic.proofs.Owner.Acting.{ActsIn, OwnLoose, gives_over, goes_with_behind, leads_behind}
+use Rattle.block_logic.specs.Weakening.{in_phase}
+use Rattle.block_logic.proofs.Owner.Acting.{ActsIn, OwnLoose, gives_over, goes_with_after, leads_after}
 use Rattle.block_logic.proofs.Agreement.{clause_or, its_clause, no_clause}
 use Rattle.block_logic.proofs.Owner.Events.{clause_found, has_its_clause}
 use Rattle.block_logic.proofs.Owner.Fair.{block_anywhere, clear_fair, event_loose, means_loose}
@@ -58,7 +58,7 @@ use Rattle.block_logic.proofs.Owner.Moves.{loads as loads_local, on_heap}
 use Rattle.block_logic.proofs.Owner.Passed.{TakesClean, loaded_clean, loaded_many, seen_same, takes_clean}
 use Rattle.block_logic.proofs.Owner.Pushes.{pushes_lock}
 use Rattle.block_logic.proofs.Owner.Rows.{Asks}
-use Rattle.block_logic.proofs.Owner.Standing.{beq_is}
+use Rattle.block_logic.proofs.Owner.Weakening.{beq_is}
 use Rattle.block_logic.proofs.Owner.Unlocked.{never_unlocked}
 use Rattle.block_logic.proofs.Ruled.{RulesHold}
 use Rattle.block_logic.proofs.Racing.{IsLooseEvent}
@@ -160,7 +160,7 @@ module _ (program : Program) (policy : Policy) (annotations : Annotations) (o : 
         let more : map Some (l.0 ∷ m.loaded) ≡ loads site.base a.frame.locals (suc count) = rw (l.1.there, m.are) refl in
         let are : map Some (l.0 ∷ m.loaded) ≡ loads site.base a.frame.locals (count + 1) = rw (add-one count) more in
         let asks : Asks r (Given (notes.Granted site mine (count + 1) false)) = subst (λ (b : Bool). Asks r (Given (notes.Granted site b (count + 1) false))) m.holds c.asks in
-        goes_with_behind program policy annotations o mine machine a next change _ fields h recorded part ranged own_loose items (notes.Granted site mine (count + 1) false) (ap ends c.is) asks l.2
+        goes_with_after program policy annotations o mine machine a next change _ fields h recorded part ranged own_loose items (notes.Granted site mine (count + 1) false) (ap ends c.is) asks l.2
         (granted_on (a.frame.at + 1) items (count + 1) false (l.0 ∷ m.loaded) (omega (arith, c.less)) are
         (record { rest = above.rest; is = ap (λ (vs : List Value). l.0 ∷ vs) above.is; clean = above.clean }))
 
@@ -172,7 +172,7 @@ module _ (program : Program) (policy : Policy) (annotations : Annotations) (o : 
         let above = bare_above c.bare in
         let items = lock_of program ∷ a.frame.stack.items in
         let asks : Asks r (Given (notes.Granted site mine count true)) = subst (λ (b : Bool). Asks r (Given (notes.Granted site b count true))) m.holds c.asks in
-        goes_with_behind program policy annotations o mine machine a next change _ fields h recorded part ranged own_loose items (notes.Granted site mine count true) p.1 asks p.0
+        goes_with_after program policy annotations o mine machine a next change _ fields h recorded part ranged own_loose items (notes.Granted site mine count true) p.1 asks p.0
         (granted_on (a.frame.at + 1) items count true m.loaded m.few m.are
         (record { rest = above.rest; is = ap (λ (vs : List Value). lock_of program ∷ vs) above.is; clean = above.clean }))
 
@@ -338,7 +338,7 @@ module _ (program : Program) (policy : Policy) (annotations : Annotations) (o : 
     leaving : LeavesLock (rules_of program policy annotations) site locked count top (shape_of next.0) next.1 h.ruled.r → Given_up
     leaving c = elim (cases_Bool (holds_round annotations.held site.method)) [
       | inl held ↦
-          let leads = leads_behind program policy annotations o true machine a next change _ fields h recorded part ranged (Given (notes.Granted site false count false)) (ap ends c.is) c.asks.past in
+          let leads = leads_after program policy annotations o true machine a next change _ fields h recorded part ranged (Given (notes.Granted site false count false)) (ap ends c.is) c.asks.past in
           absurd (never_unlocked program policy annotations o rules_hold site held a.frame next count h.acts.there (ap ends c.is) leads)
       | inr round ↦
           let on : IsAbove program (lock_of program ∷ m.loaded) a.frame.stack.items = subst (λ (b : Bool). IsAbove program (lock_on program b ++ m.loaded) a.frame.stack.items) c.on m.above in

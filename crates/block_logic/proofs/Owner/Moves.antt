@@ -30,7 +30,7 @@ use Rattle.guest_model.specs.Changes.{Change, World, goes, with_monitors, with_s
 use Rattle.guest_model.specs.Monitors.{entered, left}
 use Rattle.guest_model.specs.Parts.{constant_value}
 use Rattle.guest_model.specs.Stepping.{Acting, acts_on, comes_to, enters, heap_in, heap_stepped, insn_stepped, leaves}
-use Rattle.guest_model.specs.Working.{worked}
+use Rattle.guest_model.specs.HeapOperations.{heap_result}
 use Rattle.guest_model.proofs.Options.{and_then_of, map_of, some_is, unless_of}
 
 -- an operand of a kind
@@ -54,8 +54,8 @@ module _ (program : Program) (machine : Machine) (a : Acting) (change : Change) 
   pub record Goes (world : World) (to : ℕ) (locals items : List Value) : Type 0 where
     pub is : change ≡ goes world a.thread (moved_to a.frame to locals items ∷ a.below)
 
-  abbrev pub Behind : World → List Value → List Value → Type 0
-  Behind world locals items = Goes world (a.frame.at + 1) locals items
+  abbrev pub Following : World → List Value → List Value → Type 0
+  Following world locals items = Goes world (a.frame.at + 1) locals items
 
   fitted_goes : (world : World) (to : ℕ) (locals items : List Value) → acts_on world a (fitted a.frame to locals items) ≡ Some change → Goes world to locals items
   fitted_goes world to locals items e =
@@ -93,21 +93,21 @@ module _ (program : Program) (machine : Machine) (a : Acting) (change : Change) 
         let same : m ≡ n = some_is m n (sym is ∙ also) in
         subst (λ (p : Moved Value). Goes (world_of machine) to p.0 p.1) same g
 
-    pub pushes_number : (n : ℤ) → shape_of next.0 ≡ shapes.Push n → Behind (world_of machine) a.frame.locals (values.Int n ∷ a.frame.stack.items)
+    pub pushes_number : (n : ℤ) → shape_of next.0 ≡ shapes.Push n → Following (world_of machine) a.frame.locals (values.Int n ∷ a.frame.stack.items)
     pushes_number n is =
         let m = alone (shapes.Push n) is refl in
         left_alone (shapes.Push n) m.0 (a.frame.locals, values.Int n ∷ a.frame.stack.items) (a.frame.at + 1) m.1 refl m.2
 
     pub loads : (kind : ValueKind) (slot : ℕ) → shape_of next.0 ≡ shapes.Load kind slot
-        → (v : Value) × IsOperand kind a.frame.locals slot v × Behind (world_of machine) a.frame.locals (v ∷ a.frame.stack.items)
+        → (v : Value) × IsOperand kind a.frame.locals slot v × Following (world_of machine) a.frame.locals (v ∷ a.frame.stack.items)
     loads kind slot is =
         let m = alone (shapes.Load kind slot) is refl in
         let l = map_of (λ (v : Value). (a.frame.locals, v ∷ a.frame.stack.items)) (operand values_moved kind slot a.frame.locals) m.0 m.1 in
-        (l.0, operand_is kind a.frame.locals slot l.0 l.1, subst (λ (p : Moved Value). Behind (world_of machine) p.0 p.1) (sym l.2) m.2)
+        (l.0, operand_is kind a.frame.locals slot l.0 l.1, subst (λ (p : Moved Value). Following (world_of machine) p.0 p.1) (sym l.2) m.2)
 
     pub stores : (kind : ValueKind) (slot : ℕ) → shape_of next.0 ≡ shapes.Store kind slot
         → (v : Value) × (slice_get a.frame.stack.items 0 ≡ Some v) × (slot < length a.frame.locals)
-        × Behind (world_of machine) (slice_set a.frame.locals slot v) (drop 1 a.frame.stack.items)
+        × Following (world_of machine) (slice_set a.frame.locals slot v) (drop 1 a.frame.stack.items)
     stores kind slot is =
         let m = alone (shapes.Store kind slot) is refl in
         let rest = drop 1 a.frame.stack.items in
@@ -115,18 +115,18 @@ module _ (program : Program) (machine : Machine) (a : Acting) (change : Change) 
         let s = map_of (λ (set : List Value). (set, rest)) (with_local slot v.0 a.frame.locals) m.0 v.2 in
         let c = cond_some (nat_lt slot (length a.frame.locals)) (slice_set a.frame.locals slot v.0) s.0 s.1 in
         let left : m.0 ≡ (slice_set a.frame.locals slot v.0, rest) = sym s.2 ∙ ap (λ (set : List Value). (set, rest)) (sym c.1) in
-        (v.0, (operand_is kind a.frame.stack.items 0 v.0 v.1).there, ltb-true slot (length a.frame.locals) c.0, subst (λ (p : Moved Value). Behind (world_of machine) p.0 p.1) left m.2)
+        (v.0, (operand_is kind a.frame.stack.items 0 v.0 v.1).there, ltb-true slot (length a.frame.locals) c.0, subst (λ (p : Moved Value). Following (world_of machine) p.0 p.1) left m.2)
 
     pub adds : shape_of next.0 ≡ shapes.Two two.Add
         → (y x : Value) × IsOperand kinds.Int a.frame.stack.items 0 y × IsOperand kinds.Int a.frame.stack.items 1 x
-        × Behind (world_of machine) a.frame.locals (values.Int (int_wrapping_add w32 (number_of x) (number_of y)) ∷ drop 2 a.frame.stack.items)
+        × Following (world_of machine) a.frame.locals (values.Int (int_wrapping_add w32 (number_of x) (number_of y)) ∷ drop 2 a.frame.stack.items)
     adds is =
         let m = alone (shapes.Two two.Add) is refl in
         let items = a.frame.stack.items in
         let made : Value → Value → Moved Value = λ y x. (a.frame.locals, values.Int (int_wrapping_add w32 (number_of x) (number_of y)) ∷ drop 2 items) in
         let y = and_then_of (λ (y : Value). option_map (made y) (operand values_moved kinds.Int 1 items)) (operand values_moved kinds.Int 0 items) m.0 m.1 in
         let x = map_of (made y.0) (operand values_moved kinds.Int 1 items) m.0 y.2 in
-        (y.0, x.0, operand_is kinds.Int items 0 y.0 y.1, operand_is kinds.Int items 1 x.0 x.1, subst (λ (p : Moved Value). Behind (world_of machine) p.0 p.1) (sym x.2) m.2)
+        (y.0, x.0, operand_is kinds.Int items 0 y.0 y.1, operand_is kinds.Int items 1 x.0 x.1, subst (λ (p : Moved Value). Following (world_of machine) p.0 p.1) (sym x.2) m.2)
 
     pub jumps : (to : ℕ) → shape_of next.0 ≡ shapes.Goto to → Goes (world_of machine) to a.frame.locals a.frame.stack.items
     jumps to is =
@@ -160,36 +160,36 @@ module _ (program : Program) (machine : Machine) (a : Acting) (change : Change) 
     on_heap what is = rw is at step
 
     pub pushes_constant : shape_of next.0 ≡ shapes.Heap heap.Constant
-        → (v : Value) × (constant_value program next.1 ≡ Some v) × Behind (world_of machine) a.frame.locals (v ∷ a.frame.stack.items)
+        → (v : Value) × (constant_value program next.1 ≡ Some v) × Following (world_of machine) a.frame.locals (v ∷ a.frame.stack.items)
     pushes_constant is = by (constant_value program next.1) refl (on_heap heap.Constant is) where
       by : (o : Option Value) → constant_value program next.1 ≡ o
           → option_and_then (comes_to program (world_of machine) a) (option_map (λ (v : Value). Ok (world_of machine, v ∷ a.frame.stack.items)) o) ≡ Some change
-          → (v : Value) × (constant_value program next.1 ≡ Some v) × Behind (world_of machine) a.frame.locals (v ∷ a.frame.stack.items)
+          → (v : Value) × (constant_value program next.1 ≡ Some v) × Following (world_of machine) a.frame.locals (v ∷ a.frame.stack.items)
       by None is e = absurd cc
       by (Some v) is e = (v, is, fitted_goes (world_of machine) (a.frame.at + 1) a.frame.locals (v ∷ a.frame.stack.items) e)
 
     pub reads_variable : (class field : ℕ) (fields : List Value) → shape_of next.0 ≡ shapes.Heap heap.ReadStatic → next.1 ≡ target.Field class field
         → slice_get machine.statics class ≡ Some fields
-        → (v : Value) × (slice_get fields field ≡ Some v) × Behind (world_of machine) a.frame.locals (v ∷ a.frame.stack.items)
+        → (v : Value) × (slice_get fields field ≡ Some v) × Following (world_of machine) a.frame.locals (v ∷ a.frame.stack.items)
     reads_variable class field fields is names there =
         let e = on_heap heap.ReadStatic is in
-        let named : option_and_then (comes_to program (world_of machine) a) (worked program (world_of machine) heap.ReadStatic (target.Field class field) a.frame.stack.items) ≡ Some change =
+        let named : option_and_then (comes_to program (world_of machine) a) (heap_result program (world_of machine) heap.ReadStatic (target.Field class field) a.frame.stack.items) ≡ Some change =
         rw names at e in
         let read : option_and_then (comes_to program (world_of machine) a) (option_map (λ (v : Value). Ok (world_of machine, v ∷ a.frame.stack.items)) (slice_get fields field)) ≡ Some change =
         rw there at named in
         by (slice_get fields field) refl read where
           by : (o : Option Value) → slice_get fields field ≡ o
               → option_and_then (comes_to program (world_of machine) a) (option_map (λ (v : Value). Ok (world_of machine, v ∷ a.frame.stack.items)) o) ≡ Some change
-              → (v : Value) × (slice_get fields field ≡ Some v) × Behind (world_of machine) a.frame.locals (v ∷ a.frame.stack.items)
+              → (v : Value) × (slice_get fields field ≡ Some v) × Following (world_of machine) a.frame.locals (v ∷ a.frame.stack.items)
           by None is e = absurd cc
           by (Some v) is e = (v, is, fitted_goes (world_of machine) (a.frame.at + 1) a.frame.locals (v ∷ a.frame.stack.items) e)
 
     pub writes_variable : (class field : ℕ) (fields : List Value) (v : Value) → shape_of next.0 ≡ shapes.Heap heap.WriteStatic → next.1 ≡ target.Field class field
         → slice_get machine.statics class ≡ Some fields → slice_get a.frame.stack.items 0 ≡ Some v
-        → Behind (with_statics (world_of machine) (slice_set machine.statics class (slice_set fields field v))) a.frame.locals (drop 1 a.frame.stack.items)
+        → Following (with_statics (world_of machine) (slice_set machine.statics class (slice_set fields field v))) a.frame.locals (drop 1 a.frame.stack.items)
     writes_variable class field fields v is names there top =
         let e = on_heap heap.WriteStatic is in
-        let named : option_and_then (comes_to program (world_of machine) a) (worked program (world_of machine) heap.WriteStatic (target.Field class field) a.frame.stack.items) ≡ Some change =
+        let named : option_and_then (comes_to program (world_of machine) a) (heap_result program (world_of machine) heap.WriteStatic (target.Field class field) a.frame.stack.items) ≡ Some change =
         rw names at e in
         let new = with_statics (world_of machine) (slice_set machine.statics class (slice_set fields field v)) in
         let written : option_and_then (comes_to program (world_of machine) a)
@@ -199,14 +199,14 @@ module _ (program : Program) (machine : Machine) (a : Acting) (change : Change) 
           by : (o : Option Value)
               → option_and_then (comes_to program (world_of machine) a)
               (option_map (λ (w : World). Ok (w, drop 1 a.frame.stack.items)) (option_and_then (λ (old : Value). Some (with_statics (world_of machine) (slice_set machine.statics class (slice_set fields field v)))) o)) ≡ Some change
-              → Behind (with_statics (world_of machine) (slice_set machine.statics class (slice_set fields field v))) a.frame.locals (drop 1 a.frame.stack.items)
+              → Following (with_statics (world_of machine) (slice_set machine.statics class (slice_set fields field v))) a.frame.locals (drop 1 a.frame.stack.items)
           by None e = absurd cc
           by (Some old) e = fitted_goes _ (a.frame.at + 1) a.frame.locals (drop 1 a.frame.stack.items) e
 
     -- ---- monitors
 
     pub enters_lock : (v : Value) (held : List Monitor) → shape_of next.0 ≡ shapes.Heap heap.Enter → slice_get a.frame.stack.items 0 ≡ Some v → is_null v ≡ false
-        → entered machine.monitors a.number v ≡ Some held → Behind (with_monitors (world_of machine) held) a.frame.locals (drop 1 a.frame.stack.items)
+        → entered machine.monitors a.number v ≡ Some held → Following (with_monitors (world_of machine) held) a.frame.locals (drop 1 a.frame.stack.items)
     enters_lock v held is top not_null enter =
         let e = on_heap heap.Enter is in
         let on : enters program (world_of machine) a v ≡ Some change = rw top at e in
@@ -214,7 +214,7 @@ module _ (program : Program) (machine : Machine) (a : Acting) (change : Change) 
         fitted_goes (with_monitors (world_of machine) held) (a.frame.at + 1) a.frame.locals (drop 1 a.frame.stack.items) went
 
     pub leaves_lock : (v : Value) (held : List Monitor) → shape_of next.0 ≡ shapes.Heap heap.Exit → slice_get a.frame.stack.items 0 ≡ Some v → is_null v ≡ false
-        → left machine.monitors a.number v ≡ Some held → Behind (with_monitors (world_of machine) held) a.frame.locals (drop 1 a.frame.stack.items)
+        → left machine.monitors a.number v ≡ Some held → Following (with_monitors (world_of machine) held) a.frame.locals (drop 1 a.frame.stack.items)
     leaves_lock v held is top not_null leave =
         let e = on_heap heap.Exit is in
         let on : leaves program (world_of machine) a v ≡ Some change = rw top at e in

@@ -1,4 +1,4 @@
--- Steps behind a call: its result is kept, and the lock is left once nothing is due any more.
+-- Steps after a call: its result is kept, and the lock is left once nothing is due any more.
 use Rattle.std.proofs.Common.{◌≡◌, ℕ, zero, suc, ◌<◌, ◌+◌, Bool, true, false, List, [], ◌∷◌, ◌++◌, length, drop, Option, Some, None, refl, sym, ap, ◌∙◌, subst, arith, inl, inr, eqb-true, ltb-true}
 use Rattle.std.specs.Prelude.{◌==◌, ◌&&◌, ◌||◌, ◌⊎◌, nat_lt, not, is_some, option_and_then, slice_get, slice_set}
 use Rattle.std.proofs.lemmas.Bool.{and_parts, not-true}
@@ -35,8 +35,8 @@ use Rattle.block_logic.specs.Meaning.{AreClean, HasResult, HasResultIn, IsAbove,
 use Rattle.block_logic.specs.Obeying.{IsObeying}
 use Rattle.block_logic.specs.Operands.{pushes_state, stored}
 use Rattle.block_logic.specs.Rows.{Given, Open, Row, Rules, begins_owed, may_keep, may_leave, may_push, owed_row}
-use Rattle.block_logic.specs.Standing.{is_after}
-use Rattle.block_logic.proofs.Owner.Acting.{ActsIn, OwnLoose, gives_up, goes_with, goes_with_behind, leads_behind}
+use Rattle.block_logic.specs.Weakening.{is_after}
+use Rattle.block_logic.proofs.Owner.Acting.{ActsIn, OwnLoose, gives_up, goes_with, goes_with_after, leads_after}
 use Rattle.block_logic.proofs.Owner.Fair.{means_loose}
 use Rattle.block_logic.proofs.Owner.GrantedRows.{this_slot}
 use Rattle.block_logic.proofs.Owner.Moves.{stores}
@@ -55,7 +55,7 @@ stores_is shape slot e = absurd cc
 module _ (rules : Rules) (site : Site) (stage : ℕ) (kept top : Bool) (shape : Shape) (ref : Target) (r : Row) where
   -- The result is put into its local,
   pub record KeepsResult : Type 0 where
-    pub behind : is_after site.phase ≡ true
+    pub following : is_after site.phase ≡ true
     pub early : nat_lt stage 2 ≡ true
     pub loose : kept ≡ false
     pub bare : top ≡ false
@@ -94,7 +94,7 @@ module _ (rules : Rules) (site : Site) (stage : ℕ) (kept top : Bool) (shape : 
         let x = and_parts (not top) _ v.1 in
         let is = stores_is shape site.base (this_slot (stored shape) site.base p.1) in
         inl (record {
-          behind = q.0;
+          following = q.0;
           early = u.0;
           loose = not-true kept v.0;
           bare = not-true top x.0;
@@ -188,13 +188,13 @@ module _ (program : Program) (policy : Policy) (annotations : Annotations) (o : 
       subst (λ (b : Bool). IsOwed program policy annotations.held mine site stage (clause_of policy site) part b a.frame.locals m.above.rest) c.loose m.owed in
       goes_with program policy annotations o mine machine a next change _ fields h recorded part ranged own_loose (a.frame.at + 1) (slice_set a.frame.locals site.base s.0) items (notes.Owed site stage true false)
       (all_set (IsClean program) a.frame.locals site.base s.0 h.acts.well.locals value)
-      (leads_behind program policy annotations o mine machine a next change _ fields h recorded part ranged (Given (notes.Owed site stage true false)) (ap ends c.is) c.asks.past) s.3
+      (leads_after program policy annotations o mine machine a next change _ fields h recorded part ranged (Given (notes.Owed site stage true false)) (ap ends c.is) c.asks.past) s.3
       (record {
-        behind = m.behind;
+        following = m.following;
         round = m.round;
         variables = m.variables;
         above = record { rest = items; is = refl; clean = all_drop (IsClean program) 1 a.frame.stack.items clean };
-        owed = keeps_owed s.0 items s.2 mine stage (clause_of policy site) c.early c.behind first owed;
+        owed = keeps_owed s.0 items s.2 mine stage (clause_of policy site) c.early c.following first owed;
       })
 
   -- ---- the lock is pushed
@@ -203,9 +203,9 @@ module _ (program : Program) (policy : Policy) (annotations : Annotations) (o : 
   pushing c =
       let p = pushes_lock program policy annotations machine a change next h.step c.pushes in
       let items = lock_of program ∷ a.frame.stack.items in
-      goes_with_behind program policy annotations o mine machine a next change _ fields h recorded part ranged own_loose items (notes.Owed site stage kept true) p.1 c.asks p.0
+      goes_with_after program policy annotations o mine machine a next change _ fields h recorded part ranged own_loose items (notes.Owed site stage kept true) p.1 c.asks p.0
       (record {
-        behind = m.behind;
+        following = m.following;
         round = m.round;
         variables = m.variables;
         above = record { rest = m.above.rest; is = ap (λ (vs : List Value). lock_of program ∷ vs) (bare_above c.bare); clean = m.above.clean };
@@ -237,7 +237,7 @@ module _ (program : Program) (policy : Policy) (annotations : Annotations) (o : 
       gives_up program policy annotations o machine a next change _ fields h recorded part ranged c.is above opens c.asks recorded ranged
       (clear_settles part (nothing_owed stage (clause_of policy site) c.may m.owed)) m.variables
 
-  -- An instruction behind a call, of a thread that holds the lock, changes what it may.
+  -- An instruction after a call, of a thread that holds the lock, changes what it may.
   pub owed_steps : ChangesBlock program policy annotations true (world_of machine) a.number recorded part change
   owed_steps = elim (owed_cases (rules_of program policy annotations) site stage kept top (shape_of next.0) next.1 h.ruled.r h.ruled.has) [
     | inl c ↦ keeping program policy annotations o opens true machine a next change fields recorded part ranged site stage kept top h m c

@@ -32,8 +32,8 @@ use Rattle.guest_model.specs.Parts.{number_in}
 use Rattle.guest_model.specs.Seen.{object_shown, value_shown, values_shown}
 use Rattle.guest_model.proofs.Options.{all_drop, all_get, all_reverse, all_take, map_of, some_is}
 use Rattle.block_logic.specs.Meaning.{AreClean, IsClean, IsEventOf, TellsArguments, TellsOne, loads}
-use Rattle.block_logic.specs.Standing.{in_phase}
-use Rattle.block_logic.proofs.Owner.Standing.{slice_get_there, some_there}
+use Rattle.block_logic.specs.Weakening.{in_phase}
+use Rattle.block_logic.proofs.Owner.Weakening.{slice_get_there, some_there}
 
 -- ---- lists
 
@@ -42,11 +42,11 @@ get_before [] ys i inside = absurd (omega arith)
 get_before (x ∷ xs) ys zero inside = refl
 get_before (x ∷ xs) ys (suc i) inside = get_before xs ys i (omega arith)
 
-get_behind : {X : Type 0} (xs : List X) (x : X) (ys : List X) (n : ℕ) → length xs ≡ n → slice_get (xs ++ x ∷ ys) n ≡ Some x
-get_behind [] x ys zero e = refl
-get_behind [] x ys (suc n) e = absurd (omega arith)
-get_behind (y ∷ xs) x ys zero e = absurd (omega arith)
-get_behind (y ∷ xs) x ys (suc n) e = get_behind xs x ys n (omega arith)
+get_after : {X : Type 0} (xs : List X) (x : X) (ys : List X) (n : ℕ) → length xs ≡ n → slice_get (xs ++ x ∷ ys) n ≡ Some x
+get_after [] x ys zero e = refl
+get_after [] x ys (suc n) e = absurd (omega arith)
+get_after (y ∷ xs) x ys zero e = absurd (omega arith)
+get_after (y ∷ xs) x ys (suc n) e = get_after xs x ys n (omega arith)
 
 same_lists : {X : Type 0} (xs ys : List X) → length xs ≡ length ys → ((i : ℕ) → i < length xs → slice_get xs i ≡ slice_get ys i) → xs ≡ ys
 same_lists [] [] many each = refl
@@ -87,7 +87,7 @@ module _ (program : Program) (base : ℕ) (locals : List Value) where
         | inl before ↦ joined ∙ get_before (reverse loaded) (v ∷ []) i (omega (arith, many)) ∙ loaded_at n loaded i later before
         | inr last ↦
             let here : i ≡ n = omega arith in
-            joined ∙ ap (slice_get (reverse loaded ++ v ∷ [])) here ∙ get_behind (reverse loaded) v [] n many ∙ sym first ∙ ap (λ (k : ℕ). slice_get locals (base + k)) (sym here)
+            joined ∙ ap (slice_get (reverse loaded ++ v ∷ [])) here ∙ get_after (reverse loaded) v [] n many ∙ sym first ∙ ap (λ (k : ℕ). slice_get locals (base + k)) (sym here)
       ]
 
 -- ---- what the library sees

@@ -41,8 +41,8 @@ use Rattle.block_logic.specs.Fitting.{state_of}
 use Rattle.block_logic.specs.Meaning.{AreTerms, TellsArguments, TellsIn, TellsOne, TellsResult, lock_of, term_value}
 use Rattle.block_logic.specs.Operands.{loaded_number, number_named, number_pushed, pushes_state, reads_static, state_name, variable_named}
 use Rattle.block_logic.specs.Rows.{Rules, argument_in, field_term, local_term, result_in, term_pushed}
-use Rattle.block_logic.specs.Standing.{is_after, is_before}
-use Rattle.block_logic.proofs.Owner.Moves.{Behind, loads, pushes_constant, pushes_number, reads_variable}
+use Rattle.block_logic.specs.Weakening.{is_after, is_before}
+use Rattle.block_logic.proofs.Owner.Moves.{Following, loads, pushes_constant, pushes_number, reads_variable}
 use Rattle.block_logic.proofs.Owner.Terms.{term_at}
 use Rattle.conspec_tree.specs.Kinds.{is_number}
 
@@ -147,24 +147,24 @@ module _ (program : Program) (policy : Policy) (annotations : Annotations) (mach
     (step : insn_stepped program machine a next ≡ Some change) where
   -- The instruction pushes the lock.
   pub pushes_lock : pushes_state (shape_of next.0) next.1 ≡ true
-      → Behind program machine a change (world_of machine) a.frame.locals (lock_of program ∷ a.frame.stack.items) × (ends (shape_of next.0) ≡ false)
+      → Following program machine a change (world_of machine) a.frame.locals (lock_of program ∷ a.frame.stack.items) × (ends (shape_of next.0) ≡ false)
   pushes_lock e =
       let s = state_pushed (shape_of next.0) next.1 e in
       let p = pushes_constant program machine a change next step s.0 in
       let named : option_map values.Class (class_index program state_name) ≡ Some p.0 = ap (constant_value program) (sym s.1) ∙ p.1 in
       let c = map_of values.Class (class_index program state_name) p.0 named in
       let lock : lock_of program ≡ p.0 = ap (λ (o : Option ℕ). values.Class (option_map_or (λ (at : ℕ). at) o (length (classes_of program)))) c.1 ∙ c.2 in
-      (subst (λ (v : Value). Behind program machine a change (world_of machine) a.frame.locals (v ∷ a.frame.stack.items)) (sym lock) p.2, ap ends s.0)
+      (subst (λ (v : Value). Following program machine a change (world_of machine) a.frame.locals (v ∷ a.frame.stack.items)) (sym lock) p.2, ap ends s.0)
 
   -- It pushes a number.
   pub pushes_this : (n : ℤ) → number_pushed (shape_of next.0) next.1 ≡ Some n
-      → Behind program machine a change (world_of machine) a.frame.locals (values.Int n ∷ a.frame.stack.items) × (ends (shape_of next.0) ≡ false)
+      → Following program machine a change (world_of machine) a.frame.locals (values.Int n ∷ a.frame.stack.items) × (ends (shape_of next.0) ≡ false)
   pushes_this n e = elim (number_is (shape_of next.0) next.1 n e) [
     | inl is ↦ (pushes_number program machine a change next step n is, ap ends is)
     | inr is ↦
         let p = pushes_constant program machine a change next step is.0 in
         let value : values.Int n ≡ p.0 = some_is (values.Int n) p.0 (ap (constant_value program) (sym is.1) ∙ p.1) in
-        (subst (λ (v : Value). Behind program machine a change (world_of machine) a.frame.locals (v ∷ a.frame.stack.items)) (sym value) p.2, ap ends is.0)
+        (subst (λ (v : Value). Following program machine a change (world_of machine) a.frame.locals (v ∷ a.frame.stack.items)) (sym value) p.2, ap ends is.0)
   ]
 
   module _ (site : Site) (clause : Clause) (map : List Term) (state : Values) (event : Event) (strict : Bool) (told : TellsIn strict clause site.phase site.base a.frame.locals event)
@@ -176,7 +176,7 @@ module _ (program : Program) (policy : Policy) (annotations : Annotations) (mach
     pub record IsPushed (t : Term) : Type 0 where
       pub value : Value
       pub stands : term_value program state event t ≡ Some value
-      pub goes : Behind program machine a change (world_of machine) a.frame.locals (value ∷ a.frame.stack.items)
+      pub goes : Following program machine a change (world_of machine) a.frame.locals (value ∷ a.frame.stack.items)
       pub stays : ends (shape_of next.0) ≡ false
 
     local_pushed : (t : Term) → option_and_then (local_term site clause) (loaded_number (shape_of next.0)) ≡ Some t → IsPushed t

@@ -35,7 +35,7 @@ use Rattle.block_logic.specs.Meaning.{MeansStop}
 use Rattle.block_logic.specs.Obeying.{IsObeying}
 use Rattle.block_logic.specs.Operands.{calls, is_way_out, number_pushed, stops}
 use Rattle.block_logic.proofs.Owner.Fair.{means_fair}
-use Rattle.block_logic.proofs.Owner.Acting.{ActsIn, goes_with_behind}
+use Rattle.block_logic.proofs.Owner.Acting.{ActsIn, goes_with_after}
 use Rattle.block_logic.proofs.Owner.Granted.{how_calls}
 use Rattle.block_logic.proofs.Owner.Moves.{on_heap}
 use Rattle.block_logic.proofs.Owner.Pushes.{pushes_this}
@@ -122,7 +122,7 @@ module _ (program : Program) (policy : Policy) (annotations : Annotations) (o : 
       let w = where_so _ _ h.ruled.r h.ruled.has in
       let value = value_pushed (pos 77) (number_pushed (shape_of next.0) next.1) w.0 in
       let p = pushes_this program policy annotations machine a change next h.step (pos 77) value in
-      goes_with_behind program policy annotations o true machine a next change _ fields h recorded part ranged (λ other. absurd cc) (values.Int (pos 77) ∷ a.frame.stack.items) (notes.Stop site 1) p.1
+      goes_with_after program policy annotations o true machine a next change _ fields h recorded part ranged (λ other. absurd cc) (values.Int (pos 77) ∷ a.frame.stack.items) (notes.Stop site 1) p.1
       (gives_asks (notes.Stop site 1) h.ruled.r w.1) p.0 (refl, record { refused = m.refused; stopping = refl })
   stop_steps (suc zero) h m =
       let w = where_so _ _ h.ruled.r h.ruled.has in

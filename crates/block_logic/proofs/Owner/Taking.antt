@@ -47,15 +47,15 @@ use Rattle.block_logic.specs.Formed.{FitsRuns}
 use Rattle.block_logic.specs.Meaning.{AreClean, AreState, IsAbove, IsDue, IsEventOf, IsGranted, IsOwed, Means, MeansHeld, MeansOwed, TellsArguments, TellsIn, TellsOne, lock_of, lock_on}
 use Rattle.block_logic.specs.Obeying.{IsObeying}
 use Rattle.block_logic.specs.Rows.{Asked, Given, Nothing, begins_owed, note_taken}
-use Rattle.block_logic.specs.Standing.{asks_kept, begun, in_phase, is_before}
+use Rattle.block_logic.specs.Weakening.{asks_kept, begun, in_phase, is_before}
 use Rattle.block_logic.specs.Terms.{as_taken}
 use Rattle.block_logic.proofs.Owner.Events.{clause_found}
-use Rattle.block_logic.proofs.Owner.Going.{block_frame, goes_behind, goes_in}
+use Rattle.block_logic.proofs.Owner.Going.{block_frame, goes_after, goes_in}
 use Rattle.block_logic.proofs.Owner.Lock.{lock_taken, lock_waits}
 use Rattle.block_logic.proofs.Owner.Moves.{enters_lock}
 use Rattle.block_logic.proofs.Owner.Owed.{TakesLock}
 use Rattle.block_logic.proofs.Owner.Rows.{enters_is, gives_asks, where_so}
-use Rattle.block_logic.proofs.Owner.Standing.{before_is, begins_behind, begun_means, beq_is, none_there, some_there}
+use Rattle.block_logic.proofs.Owner.Weakening.{before_is, begins_after, begun_means, beq_is, none_there, some_there}
 use Rattle.block_logic.proofs.Ruled.{IsRuled, LeadsTo, RulesHold}
 use Rattle.block_logic.proofs.Steps.{Acts, ChangesBlock, HasIntsIn, Takes, TakingSteps}
 
@@ -232,7 +232,7 @@ module _ (program : Program) (policy : Policy) (annotations : Annotations) (o : 
         let not_so : None ≡ Some change = sym stuck ∙ step in
         absurd cc
 
-    -- `given` is asked of the instruction behind, and means what is so.
+    -- `given` is asked of the instruction after, and means what is so.
     pub takes_lock : (part : Part) (given : Note) → ruled.r.past ≡ Given given
         → ((recorded : Values) (fields : List Value) → in_range policy recorded ≡ true → AreState fields recorded
         → Means program policy annotations.held true recorded fields (moved_to a.frame (a.frame.at + 1) a.frame.locals rest) given part)
@@ -246,10 +246,10 @@ module _ (program : Program) (policy : Policy) (annotations : Annotations) (o : 
       takes = λ recorded fields free ranged are there.
           let lock = lock_taken program a.number machine.monitors free in
           let g = enters_lock program machine a change next step (lock_of program) lock.held is top_is refl lock.taken in
-          let behind : LeadsTo program policy annotations a.frame (a.frame.at + 1) (Given given) =
+          let following : LeadsTo program policy annotations a.frame (a.frame.at + 1) (Given given) =
           subst (LeadsTo program policy annotations a.frame (a.frame.at + 1)) past
-          (ruled.past (goes_behind program policy annotations o a.frame next acts.there (ap ends is))) in
-          let lands = block_frame program policy annotations o a.frame acts.well true recorded fields part ranged (a.frame.at + 1) a.frame.locals rest given acts.well.locals behind
+          (ruled.past (goes_after program policy annotations o a.frame next acts.there (ap ends is))) in
+          let lands = block_frame program policy annotations o a.frame acts.well true recorded fields part ranged (a.frame.at + 1) a.frame.locals rest given acts.well.locals following
           (means recorded fields ranged are) in
           subst (ChangesBlock program policy annotations true (world_of machine) a.number recorded part) (sym g.is)
           (goes_in program policy annotations o a.number recorded fields part (world_of machine) (with_monitors (world_of machine) lock.held) a.thread
@@ -269,7 +269,7 @@ module _ (program : Program) (policy : Policy) (annotations : Annotations) (o : 
         takes site (before_is site.phase asks.0) recorded fields (moved_to a.frame (a.frame.at + 1) a.frame.locals (drop 1 a.frame.stack.items)) ranged ints are
         (subst (λ (items : List Value). AreClean program (drop 1 items)) (sym free.1.is) free.1.clean))
 
-    -- So does one behind a call whose return is to be recorded.
+    -- So does one after a call whose return is to be recorded.
     pub taking_again : (machine : Machine) (a : Acting) (next : Insn × Target) (change : Change) (site : Site) (stage : ℕ) (kept top : Bool) (part : Part)
         → (acts : Acts program policy annotations machine a next (notes.Owed site stage kept top)) → insn_stepped program machine a next ≡ Some change
         → (m : MeansOwed program policy annotations.held false [] [] a.frame site stage kept top part)
@@ -279,7 +279,7 @@ module _ (program : Program) (policy : Policy) (annotations : Annotations) (o : 
     taking_again machine a next change site stage kept top part acts step m ruled c =
         let above : IsAbove program (lock_of program ∷ []) a.frame.stack.items =
         record { rest = m.above.rest; is = m.above.is ∙ ap (λ (on : Bool). lock_on program on ++ m.above.rest) c.on; clean = m.above.clean } in
-        let asked = begins_given site kept ruled.r.past c.asks.past (ruled.past (goes_behind program policy annotations o a.frame next acts.there (ap ends c.is))) in
+        let asked = begins_given site kept ruled.r.past c.asks.past (ruled.past (goes_after program policy annotations o a.frame next acts.there (ap ends c.is))) in
         takes_lock machine a next change (notes.Owed site stage kept top) acts ruled c.is above step part (begun policy site) asked.0
         (λ recorded fields ranged are. (refl, by stage m.owed asked.1 recorded fields ranged are)) where
           by : (n : ℕ) → IsOwed program policy annotations.held false site n (clause_of policy site) part kept a.frame.locals m.above.rest → kept ≡ asks_kept policy site
@@ -290,6 +290,6 @@ module _ (program : Program) (policy : Policy) (annotations : Annotations) (o : 
                 → MeansHeld program policy annotations.held recorded fields (moved_to a.frame (a.frame.at + 1) a.frame.locals (drop 1 a.frame.stack.items)) site 0 0 [] (as_taken policy) part
             of None there owed = absurd owed
             of (Some clause) there p =
-                begins_behind program policy annotations o recorded fields (moved_to a.frame (a.frame.at + 1) a.frame.locals (drop 1 a.frame.stack.items)) part ranged site kept clause there asks m.behind
+                begins_after program policy annotations o recorded fields (moved_to a.frame (a.frame.at + 1) a.frame.locals (drop 1 a.frame.stack.items)) part ranged site kept clause there asks m.following
                 m.above.rest p are (subst (λ (items : List Value). AreClean program (drop 1 items)) (sym (m.above.is ∙ ap (λ (on : Bool). lock_on program on ++ m.above.rest) c.on)) m.above.clean)
           by (suc n) owed asks recorded fields ranged are = absurd owed

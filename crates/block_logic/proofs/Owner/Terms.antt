@@ -46,10 +46,10 @@ same_terms_are (t ∷ ts) (u ∷ us) e =
 
 -- ---- the ends of lists
 
-behind : {X : Type 0} (xs : List X) (n : ℕ) (x : X) → slice_get xs n ≡ Some x → drop n xs ≡ x ∷ drop (suc n) xs
-behind [] n x there = absurd cc
-behind (y ∷ xs) zero x there = let same : y ≡ x = cc in rw same refl
-behind (y ∷ xs) (suc n) x there = behind xs n x there
+following : {X : Type 0} (xs : List X) (n : ℕ) (x : X) → slice_get xs n ≡ Some x → drop n xs ≡ x ∷ drop (suc n) xs
+following [] n x there = absurd cc
+following (y ∷ xs) zero x there = let same : y ≡ x = cc in rw same refl
+following (y ∷ xs) (suc n) x there = following xs n x there
 
 -- the last one
 pub last_is : (list : List Term) (t : Term) → last_term list ≡ Some t → reverse list ≡ t ∷ reverse (without 1 list)
@@ -57,7 +57,7 @@ last_is list t there =
     let n = length list - 1 in
     let inside : n < length list = slice_get_within list n t there in
     let none : drop (suc n) list ≡ [] = drop_all (suc n) list (omega arith) in
-    let last : drop n list ≡ t ∷ [] = behind list n t there ∙ ap (λ (ts : List Term). t ∷ ts) none in
+    let last : drop n list ≡ t ∷ [] = following list n t there ∙ ap (λ (ts : List Term). t ∷ ts) none in
     let split : list ≡ take n list ++ t ∷ [] = sym (take-append-drop n list) ∙ ap (λ (ts : List Term). take n list ++ ts) last in
     ap reverse split ∙ reverse-append (take n list) (t ∷ [])
 
@@ -71,7 +71,7 @@ last_two_are list x y first second = by (nat_lt 1 (length list)) refl first wher
       let next : suc k ≡ length list - 1 = omega arith in
       let last : slice_get list (suc k) ≡ Some y = rw next second in
       let none : drop (suc (suc k)) list ≡ [] = drop_all (suc (suc k)) list (omega arith) in
-      let two : drop k list ≡ x ∷ y ∷ [] = behind list k x there ∙ ap (λ (ts : List Term). x ∷ ts) (behind list (suc k) y last ∙ ap (λ (ts : List Term). y ∷ ts) none) in
+      let two : drop k list ≡ x ∷ y ∷ [] = following list k x there ∙ ap (λ (ts : List Term). x ∷ ts) (following list (suc k) y last ∙ ap (λ (ts : List Term). y ∷ ts) none) in
       let split : list ≡ take k list ++ x ∷ y ∷ [] = sym (take-append-drop k list) ∙ ap (λ (ts : List Term). take k list ++ ts) two in
       ap reverse split ∙ reverse-append (take k list) (x ∷ y ∷ [])
   by false few there = absurd cc

@@ -34,7 +34,7 @@ use Rattle.guest_model.proofs.Options.{map_of}
 use Rattle.block_logic.specs.Meaning.{IsTried, term_value}
 use Rattle.block_logic.specs.Rows.{asks_atom, is_addend, is_negation, is_relation, last_but_one, last_term, sum_of}
 use Rattle.block_logic.specs.Terms.{base_term, same_term}
-use Rattle.block_logic.proofs.Owner.Standing.{slice_get_there}
+use Rattle.block_logic.proofs.Owner.Weakening.{slice_get_there}
 use Rattle.block_logic.proofs.Owner.Terms.{same_term_is}
 
 -- ---- relations

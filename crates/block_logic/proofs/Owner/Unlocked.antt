@@ -8,7 +8,7 @@ use Rattle.insn_codec.specs.declared.shape.Shape.{Shape}
 use Rattle.insn_codec.specs.Fits.{Ends}
 use Rattle.insn_codec.specs.Opcodes.{goes_on}
 use Rattle.insn_codec.specs.Shapes.{shape_of}
-use Rattle.insn_codec.specs.Spelling.{opcode_of}
+use Rattle.insn_codec.specs.Encoding.{opcode_of}
 use Rattle.insn_codec.specs.Table.{ends}
 use Rattle.bytecode_model.specs.declared.program.LinkedClass.{LinkedClass}
 use Rattle.bytecode_model.specs.declared.program.Method.{Method}
@@ -30,9 +30,9 @@ use Rattle.block_logic.specs.Clauses.{needs}
 use Rattle.block_logic.specs.Meaning.{note_of}
 use Rattle.block_logic.specs.Obeying.{IsObeying}
 use Rattle.block_logic.specs.Rows.{Given, Row, Rules, granted_row}
-use Rattle.block_logic.proofs.Owner.Going.{goes_behind}
+use Rattle.block_logic.proofs.Owner.Going.{goes_after}
 use Rattle.block_logic.proofs.Owner.GrantedRows.{LoadsNext as Loads, granted_cases}
-use Rattle.block_logic.proofs.Owner.Standing.{same_note_is, slice_get_there}
+use Rattle.block_logic.proofs.Owner.Weakening.{same_note_is, slice_get_there}
 use Rattle.block_logic.proofs.Ruled.{LeadsTo, RulesHold}
 
 -- ---- the next instruction
@@ -65,10 +65,10 @@ in_method : (o : Option Method) (m : Method) (at : ℕ) (insn : Insn) (ref : Tar
 in_method o m at insn ref there is names = rw (there, is, names) refl
 
 module _ (program : Program) (policy : Policy) (annotations : Annotations) (o : IsObeying program policy annotations) where
-  -- where control can go on, there is an instruction behind
-  behind_there : (frame : Frame) (next : Insn × Target) (locals items : List Value) → insn_at program frame ≡ Some next → goes_on (opcode_of next.0) ≡ true
+  -- where control can go on, there is an instruction after
+  after_there : (frame : Frame) (next : Insn × Target) (locals items : List Value) → insn_at program frame ≡ Some next → goes_on (opcode_of next.0) ≡ true
       → (after : Insn × Target) × (insn_at program (moved_to frame (frame.at + 1) locals items) ≡ Some after)
-  behind_there frame next locals items there goes =
+  after_there frame next locals items there goes =
       let m = and_then_of (λ (method : Method). insn_in method frame.at) (method_at program frame.class frame.method) next there in
       let c = and_then_of (λ (c : LinkedClass). slice_get c.methods frame.method) (slice_get program.classes frame.class) m.0 m.1 in
       let class = all_get IsSoundClass program.classes frame.class c.0 o.sound.classes c.1 in
@@ -80,7 +80,7 @@ module _ (program : Program) (policy : Policy) (annotations : Annotations) (o : 
       ((insn.0, ref.0), in_method (method_at program frame.class frame.method) m.0 (frame.at + 1) insn.0 ref.0 m.1 insn.1 ref.1)
 
   module _ (rules_hold : RulesHold program policy annotations) (site : Site) (hold : holds_round annotations.held site.method ≡ true) where
-    -- the instruction loads the next argument, and the one behind it is so too
+    -- the instruction loads the next argument, and the one after it is so too
     record LoadsNext (frame : Frame) (count : ℕ) : Type 0 where
       pub less : count < needs policy site.method
       pub next : Insn × Target
@@ -92,12 +92,12 @@ module _ (program : Program) (policy : Policy) (annotations : Annotations) (o : 
     loads_next frame next count there told =
         let ruled = rules_hold frame next (notes.Granted site false count false) there told in
         let l = only_loads (rules_of program policy annotations) site count (shape_of next.0) next.1 ruled.r hold ruled.has in
-        let goes = goes_behind program policy annotations o frame next there (ap ends l.is) in
-        let behind : LeadsTo program policy annotations frame (frame.at + 1) (Given (notes.Granted site false (count + 1) false)) =
+        let goes = goes_after program policy annotations o frame next there (ap ends l.is) in
+        let following : LeadsTo program policy annotations frame (frame.at + 1) (Given (notes.Granted site false (count + 1) false)) =
         subst (LeadsTo program policy annotations frame (frame.at + 1)) l.asks.past (ruled.past goes) in
-        let same = same_note_is (notes.Granted site false (count + 1) false) behind.note behind.meets in
-        let after = behind_there frame next [] [] there goes in
-        record { less = l.less; next = after.0; there = after.1; told = behind.told ∙ ap Some (sym same) }
+        let same = same_note_is (notes.Granted site false (count + 1) false) following.note following.meets in
+        let after = after_there frame next [] [] there goes in
+        record { less = l.less; next = after.0; there = after.1; told = following.told ∙ ap Some (sym same) }
 
     none_granted : (n : ℕ) (frame : Frame) (next : Insn × Target) (count : ℕ) → needs policy site.method ≤ count + n → insn_at program frame ≡ Some next
         → note_of program annotations frame ≡ Some (notes.Granted site false count false) → ⊥
@@ -111,5 +111,5 @@ module _ (program : Program) (policy : Policy) (annotations : Annotations) (o : 
         → LeadsTo program policy annotations frame (frame.at + 1) (Given (notes.Granted site false count false)) → ⊥
     never_unlocked frame next count there stays leads =
         let same = same_note_is (notes.Granted site false count false) leads.note leads.meets in
-        let after = behind_there frame next [] [] there (goes_behind program policy annotations o frame next there stays) in
+        let after = after_there frame next [] [] there (goes_after program policy annotations o frame next there stays) in
         none_granted (needs policy site.method) (moved_to frame (frame.at + 1) [] []) after.0 count (omega arith) after.1 (leads.told ∙ ap Some (sym same))

@@ -9,7 +9,7 @@ use mon_store::{
 use std::alloc::Global;
 use std::test::Fail;
 
-/// Each file's bytes behind its name.
+/// Each file's bytes after its name.
 const FILES: [(&[u8], &[u8]); 2] = [(b"a", b"abc"), (b"long/name", b"0123456789")];
 
 fn push_file(

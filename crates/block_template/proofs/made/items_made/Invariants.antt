@@ -1,4 +1,4 @@
--- The items so far, and behind them those of the methods that the other clauses name.
+-- The items so far, and after them those of the methods that the other clauses name.
 use Rattle.std.proofs.Common.{◌≡◌, ℕ, length}
 use Rattle.std.specs.BTreeMap.{get}
 use Rattle.std.specs.Option.{option_or}

@@ -6,4 +6,4 @@ pub returns-clause-found : goal.returns-clause-found
 returns-clause-found c = is_found c.args.vars c.args.bytes.now c.all.result (λ i. omega (arith, c.type_inv.bytes i)) c.all.ensures
 
 pub returns-clause-only : goal.returns-clause-only
-returns-clause-only c = λ certificate spells. is_only c.args.vars c.args.bytes.now c.all.result certificate c.all.ensures spells
+returns-clause-only c = λ certificate encodes. is_only c.args.vars c.args.bytes.now c.all.result certificate c.all.ensures encodes

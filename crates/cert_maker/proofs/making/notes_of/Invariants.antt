@@ -1,4 +1,4 @@
--- The notes so far, and behind them those of what is left.
+-- The notes so far, and after them those of what is left.
 use Rattle.std.proofs.Common.{◌≡◌, ◌++◌, length}
 use Rattle.cert_maker.specs.Noting.{notes_of}
 use Rattle.cert_maker.proofs.making.notes_of.Given as goal

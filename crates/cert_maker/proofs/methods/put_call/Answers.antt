@@ -10,7 +10,7 @@ use Rattle.block_template.specs.Made.{known_items}
 use Rattle.block_template.proofs.Alike.{told_alike}
 use Rattle.block_template.proofs.Making.{is_known}
 use Rattle.cert_maker.specs.declared.called.Called.{Called}
-use Rattle.cert_maker.specs.Noting.{block_notes, note_of, part_notes, where_framed}
+use Rattle.cert_maker.specs.Noting.{block_notes, note_of, part_notes, where_typed}
 use Rattle.bytecode_model.specs.declared.program.Target.TheVariants as target
 use Rattle.cert_maker.proofs.methods.put_call.Goals as goal
 
@@ -28,8 +28,8 @@ returns-in_ok-put_items-in-Some-clause-notes c =
     let of : Planned = c.args.items.now in
     let block : List Item = c.in-Some.block.now in
     c.in_ok-put_items-in-Some.ensures
-    ∙ ap (λ (p : Policy). c.args.notes.now ++ where_framed (map (λ (i : Item). note_of p c.args.call i.role) block) c.args.frames.now) c.policy.ensures
-    ∙ ap (λ (ns : List Note). c.args.notes.now ++ where_framed ns c.args.frames.now)
+    ∙ ap (λ (p : Policy). c.args.notes.now ++ where_typed (map (λ (i : Item). note_of p c.args.call i.role) block) c.args.frames.now) c.policy.ensures
+    ∙ ap (λ (ns : List Note). c.args.notes.now ++ where_typed ns c.args.frames.now)
     (noted_so of c.args.call block (sym (ap option_copied c.in-Some.is) ∙ c.of.ensures.is))
 
 pub returns-in_ok-put_items-in-Some-clause-count : goal.returns-in_ok-put_items-in-Some-clause-count

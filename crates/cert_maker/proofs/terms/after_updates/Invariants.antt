@@ -1,4 +1,4 @@
--- The terms so far, and behind them those of the variables that are left.
+-- The terms so far, and after them those of the variables that are left.
 use Rattle.std.proofs.Common.{◌≡◌, ◌+◌, ◌++◌, length}
 use Rattle.block_logic.specs.Terms.{after_updates, variables_after}
 use Rattle.cert_maker.proofs.terms.after_updates.Given as goal

@@ -1,4 +1,4 @@
--- The terms so far, and behind them those of the operands that are left.
+-- The terms so far, and after them those of the operands that are left.
 use Rattle.std.proofs.Common.{◌≡◌, ◌++◌, length, map}
 use Rattle.std.specs.List.{AllByRecursion}
 use Rattle.cert_maker.specs.Noting.{operand_term}

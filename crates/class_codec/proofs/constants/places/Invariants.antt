@@ -1,7 +1,7 @@
 use Rattle.std.proofs.Common.{◌≡◌, ◌+◌, ◌-◌, true, length}
 use Rattle.std.specs.List.{flat_map}
 use Rattle.mon_base.proofs.Loop.{with_front}
-use Rattle.class_codec.specs.Spelling.{constant}
+use Rattle.class_codec.specs.Encoding.{constant}
 use Rattle.class_codec.specs.Reading.{places_at}
 use Rattle.class_codec.proofs.constants.places.Given as goal
 

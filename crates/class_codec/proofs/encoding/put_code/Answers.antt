@@ -1,6 +1,6 @@
 use Rattle.std.proofs.Common.{◌≡◌, ℕ, List, ◌++◌, ◌∙◌, OnOk, subst}
 use Rattle.mon_base.specs.Widths.{u2}
-use Rattle.class_codec.specs.Spelling.{block}
+use Rattle.class_codec.specs.Encoding.{block}
 use Rattle.class_codec.proofs.encoding.put_code.Goals as goal
 
 pub returns : goal.returns

@@ -1,6 +1,6 @@
 use Rattle.std.proofs.Common.{◌≡◌, ◌+◌, length}
 use Rattle.std.specs.List.{flat_map}
-use Rattle.class_codec.specs.Spelling.{constant}
+use Rattle.class_codec.specs.Encoding.{constant}
 use Rattle.class_codec.specs.Reading.{all_checked}
 use Rattle.class_codec.proofs.indices.check_all.Given as goal
 

@@ -13,7 +13,7 @@ returns-clause-shared c =
       known = λ name above found.
           subst (λ l. IsShared owners classes l name above) (sym c.in_ok-add_list.ensures)
           (shared_kept owners classes lists (filter (may_own owners) c.as_slice-2.result.now ∷ []) name above (c.requires.known name above found));
-      quiet = c.requires.quiet;
+      memberless = c.requires.memberless;
     }
 
 pub returns-clause-is : goal.returns-clause-is

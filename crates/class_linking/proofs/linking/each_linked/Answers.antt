@@ -4,7 +4,7 @@ use Rattle.mon_base.proofs.Lists.{front_is}
 use Rattle.bytecode_model.proofs.Lists.{others_fit, none_left, all_push}
 use Rattle.class_linking.proofs.Loop.{goes_on, ends, is_done}
 use Rattle.std.specs.List.{AllByRecursion}
-use Rattle.class_codec.specs.Fits.{CanSpell}
+use Rattle.class_codec.specs.Fits.{IsEncodable}
 use Rattle.class_linking.specs.Linking.{methods_linked}
 use Rattle.bytecode_model.specs.Sound.{IsSoundMethod}
 use Rattle.class_linking.proofs.linking.each_linked.Goals as goal
@@ -16,7 +16,7 @@ loop-left-preserved c =
       c.loop-left.invariant.0 + 1,
       record {
         so_far = rw c.in_ok-push.ensures.items (goes_on one c.loop-left.classes.items _ _ _ c.in_ok-methods.methods c.loop-left.invariant.0 _ split c.in_ok-methods.ensures.answers c.loop-left.invariant.1.so_far);
-        fit = (others_fit CanSpell c.loop-left.left.now _ _ split c.loop-left.invariant.1.fit).1;
+        fit = (others_fit IsEncodable c.loop-left.left.now _ _ split c.loop-left.invariant.1.fit).1;
         sound = all_push (AllByRecursion IsSoundMethod) c.loop-left.classes.items _ _ c.in_ok-push.ensures.items c.loop-left.invariant.1.sound c.in_ok-methods.ensures.sound;
       },
     )
@@ -36,4 +36,4 @@ returns-clause-answers c =
 pub methods_linked-requires : goal.methods_linked-requires
 methods_linked-requires c =
     let split = front_is c.loop-left.left.now c.file-item.result c.in-len1-up.len_at_least c.file-item.is in
-    (others_fit CanSpell c.loop-left.left.now _ _ split c.loop-left.invariant.1.fit).0
+    (others_fit IsEncodable c.loop-left.left.now _ _ split c.loop-left.invariant.1.fit).0

@@ -1,7 +1,7 @@
 use Rattle.std.proofs.Common.{◌≡◌, ℕ, List, length}
 use Rattle.std.specs.List.{AllByRecursion}
 use Rattle.class_codec.specs.declared.tree.ClassFile.{ClassFile}
-use Rattle.class_codec.specs.Fits.{CanSpell}
+use Rattle.class_codec.specs.Fits.{IsEncodable}
 use Rattle.api_listing.specs.declared.types.Listing.{Listing}
 use Rattle.bytecode_model.specs.declared.program.Method.{Method}
 use Rattle.class_linking.specs.Fault.{linked_from}
@@ -13,7 +13,7 @@ use Rattle.class_linking.proofs.linking.each_linked.Given as goal
 -- these classes are made of the files before the others, which stand from `at` on
 pub record IsAt (files : List ClassFile) (listing : Listing) (some : List ClassFile) (classes : List (List Method)) (left : List ClassFile) (at : ℕ) : Type 0 where
   pub so_far : with_front classes (linked_from (λ i. methods_linked files listing) at left) ≡ linked_from (λ i. methods_linked files listing) 0 some
-  pub fit : AllByRecursion CanSpell left
+  pub fit : AllByRecursion IsEncodable left
   pub sound : AllByRecursion (AllByRecursion IsSoundMethod) classes
 
 abbrev pub invariant-loop-left : goal.invariant-loop-left

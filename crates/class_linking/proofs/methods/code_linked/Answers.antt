@@ -1,5 +1,5 @@
 use Rattle.std.proofs.Common.{◌≡◌, ◌∙◌, Ok, ap, sym, subst, length}
-use Rattle.insn_codec.specs.Spelling.{starts_of}
+use Rattle.insn_codec.specs.Encoding.{starts_of}
 use Rattle.bytecode_model.specs.Heads.{head_of}
 use Rattle.class_linking.specs.Operands.{operands_linked}
 use Rattle.class_linking.specs.Handlers.{handlers_linked}

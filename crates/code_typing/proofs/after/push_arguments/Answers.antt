@@ -13,7 +13,7 @@ returns-in_default c =
 pub loop-preserved : goal.loop-preserved
 loop-preserved c =
     let step = types_some 255 c.loop.counter c.loop.text.now _ c.loop-test.true (sym c.in-Some.ensures) in
-    let later = map type_described (types_at (255 - (c.loop.counter + 1)) c.in-Some.behind.now) in
+    let later = map type_described (types_at (255 - (c.loop.counter + 1)) c.in-Some.following.now) in
     ap (λ (l : List VType). l ++ later) c.in_ok-push.ensures.ok
     ∙ ap (λ (t : VType). (c.loop.out ++ t ∷ []) ++ later) (c.in_ok-argument.ensures ∙ c.type_described.ensures)
     ∙ append_assoc c.loop.out (type_described c.in-Some.desc.now ∷ []) later

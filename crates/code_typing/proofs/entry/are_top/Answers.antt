@@ -12,5 +12,5 @@ loop-left-preserved c =
     let first = c.first-item.result in
     let split = front_is left first c.in-len1-up.len_at_least c.first-item.is in
     let count = rest_length left first _ split in
-    let fits = sym c.lent_fits.ensures ∙ c.if-not-lent_fits.false in
+    let fits = sym c.borrowed_fits.ensures ∙ c.if-not-borrowed_fits.false in
     (one_fits program (type_at []) c.loop-left.j left first _ split fits ∙ c.loop-left.invariant.0, omega (arith, count, c.loop-left.invariant.1))

@@ -14,5 +14,5 @@ loop-from-preserved c =
     let first = c.first-item.result in
     let split = front_is from c.t-item.result c.in-len1-up.len_at_least c.t-item.is in
     let parts = front_is to first c.in-len1-up-to.len_at_least c.first-item.is in
-    let fits = ap (λ (t : VType). assignable program t first) (sym c.change_told.ensures) ∙ sym c.lent_fits.ensures ∙ c.if-not-lent_fits.false in
+    let fits = ap (λ (t : VType). assignable program t first) (sym c.change_told.ensures) ∙ sym c.borrowed_fits.ensures ∙ c.if-not-borrowed_fits.false in
     one_fits program (change_told c.args.change) from to c.t-item.result first _ _ split parts fits ∙ c.loop-from.invariant

@@ -14,5 +14,5 @@ loop-left-preserved c =
     let first = c.first-item.result in
     let split = front_is left first c.in-len1-up.len_at_least c.first-item.is in
     let count = rest_length left first _ split in
-    let fits = ap (λ (t : VType). assignable program t first) (sym c.local_caught.ensures) ∙ sym c.lent_fits.ensures ∙ c.if-not-lent_fits.false in
+    let fits = ap (λ (t : VType). assignable program t first) (sym c.local_caught.ensures) ∙ sym c.borrowed_fits.ensures ∙ c.if-not-borrowed_fits.false in
     (one_fits program (local_caught c.args.locals.now) c.loop-left.j left first _ split fits ∙ c.loop-left.invariant.0, omega (arith, count, c.loop-left.invariant.1))

@@ -10,7 +10,7 @@ loop-preserved c =
     let program = c.args.program.now in
     let types = c.loop.types.now in
     let step = types_some 255 c.loop.counter c.loop.text.now _ c.loop-test.true (sym c.in-Some.ensures) in
-    sym (ap (λ (t : List Descriptor). all_met (map (to_described program) t) types) step ∙ met_some program c.in-Some.desc.now (types_at (255 - (c.loop.counter + 1)) c.in-Some.behind.now) types _ (sym c.in-Some-behind_met.ensures)) ∙ c.loop.invariant
+    sym (ap (λ (t : List Descriptor). all_met (map (to_described program) t) types) step ∙ met_some program c.in-Some.desc.now (types_at (255 - (c.loop.counter + 1)) c.in-Some.following.now) types _ (sym c.in-Some-after_met.ensures)) ∙ c.loop.invariant
 
 pub returns-in_default : goal.returns-in_default
 returns-in_default c =
@@ -18,12 +18,12 @@ returns-in_default c =
     ∙ sym (ap (λ (t : List Descriptor). all_met (map (to_described c.args.program.now) t) c.loop.types.now) (types_end (255 - c.loop.counter) c.loop.text.now (sym c.in_default.ensures)))
     ∙ c.loop.invariant
 
-pub returns-in_default-behind_met : goal.returns-in_default-behind_met
-returns-in_default-behind_met c =
+pub returns-in_default-after_met : goal.returns-in_default-after_met
+returns-in_default-after_met c =
     let program = c.args.program.now in
     let types = c.loop.types.now in
     let step = types_some 255 c.loop.counter c.loop.text.now _ c.loop-test.true (sym c.in-Some.ensures) in
-    sym (ap (λ (t : List Descriptor). all_met (map (to_described program) t) types) step ∙ met_none program c.in-Some.desc.now (types_at (255 - (c.loop.counter + 1)) c.in-Some.behind.now) types (sym c.in_default-behind_met.ensures)) ∙ c.loop.invariant
+    sym (ap (λ (t : List Descriptor). all_met (map (to_described program) t) types) step ∙ met_none program c.in-Some.desc.now (types_at (255 - (c.loop.counter + 1)) c.in-Some.following.now) types (sym c.in_default-after_met.ensures)) ∙ c.loop.invariant
 
 pub returns : goal.returns
 returns c =

@@ -5,4 +5,4 @@ use Rattle.bytecode_model.specs.Assigning.{assignable}
 use Rattle.code_typing.proofs.wanted.to_class.Goals as goal
 
 pub returns : goal.returns
-returns c = c.fits_class.ensures ∙ ap (λ (t : VType). assignable c.args.program.now t (Ref c.args.name.now)) c.lend.ensures
+returns c = c.fits_class.ensures ∙ ap (λ (t : VType). assignable c.args.program.now t (Ref c.args.name.now)) c.borrow.ensures

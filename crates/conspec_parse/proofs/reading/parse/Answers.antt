@@ -12,7 +12,7 @@ returns-clause-found c =
 pub returns-clause-only : goal.returns-clause-only
 returns-clause-only c =
     let read = rw (c.as_slice.ensures, c.as_slice-2.ensures, c.in_ok-tokens.ensures) at c.policy_at.ensures in
-    λ t spelled. answers c.policy_at.result _ t read (policy_again c.args.text.now c.args.listing.now t spelled)
+    λ t encoded. answers c.policy_at.result _ t read (policy_again c.args.text.now c.args.listing.now t encoded)
 
 pub returns-clause-sound : goal.returns-clause-sound
 returns-clause-sound c =

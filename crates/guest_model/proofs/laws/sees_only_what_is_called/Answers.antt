@@ -1,4 +1,4 @@
-use Rattle.guest_model.proofs.Standing.{sees_only_called}
+use Rattle.guest_model.proofs.ClosedPlaces.{sees_only_called}
 use Rattle.guest_model.proofs.laws.sees_only_what_is_called.Goals as goal
 
 pub returns : goal.returns

@@ -1,6 +1,6 @@
 use Rattle.std.proofs.Common.{◌+◌, ◌-◌, ◌++◌, length, sym, ap, arith, ◌∙◌}
 use Rattle.std.specs.Prelude.{reverse}
-use Rattle.guest_tables.proofs.ObjectFields.{gathered, nil_behind, up_none}
+use Rattle.guest_tables.proofs.ObjectFields.{gathered, nil_after, up_none}
 use Rattle.guest_tables.proofs.layout.fields_up.Goals as goal
 
 pub loop-preserved : goal.loop-preserved
@@ -12,4 +12,4 @@ loop-preserved c =
 
 pub returns-in-None : goal.returns-in-None
 returns-in-None c =
-    nil_behind c.loop.fields.items ∙ ap (λ xs. c.loop.fields.items ++ reverse xs) (sym (up_none c.args.guest.now _ c.loop.at.now (sym c.in-None.ensures))) ∙ c.loop.invariant
+    nil_after c.loop.fields.items ∙ ap (λ xs. c.loop.fields.items ++ reverse xs) (sym (up_none c.args.guest.now _ c.loop.at.now (sym c.in-None.ensures))) ∙ c.loop.invariant

@@ -8,7 +8,7 @@ use Rattle.cert_checker.specs.Secure.{Secure}
 use Rattle.cert_format.specs.declared.certificate.Certificate.{Certificate}
 use Rattle.cert_format.specs.declared.certificate.Mode.{Mode}
 use Rattle.cert_format.specs.declared.certificate.Mode.TheVariants as modes
-use Rattle.cert_format.specs.Fits.{CanSpell}
+use Rattle.cert_format.specs.Fits.{IsEncodable}
 use Rattle.output_files.specs.Outputs.{is_written, outputs_of}
 use Rattle.std.specs.Prelude.{IfOk, true, length}
 use Rattle.cert_maker.specs.Told.{FitsTyping}
@@ -77,10 +77,10 @@ returns-clause-rewoven c =
     let is : c.in_ok-program.certificate ≡ certificate_for given program = told_so c.args.given program c.args.typing c.requires.typing c.in_ok-program.certificate c.in_ok-program.ensures.certificate in
     let back = subst (λ (p : Program). unlinked p ≡ c.args.made.files) (sym same) expected.back in
     let sound = subst IsSound (sym same) expected.linked.sound in
-    let spells = subst (λ (p : Program). FitsTyping (certificate_for given p).typing → is_written (certificate_for given p) ≡ true → CanSpell (length given.policy.vars) (certificate_for given p)) (sym same) expected.spells in
+    let encodes = subst (λ (p : Program). FitsTyping (certificate_for given p).typing → is_written (certificate_for given p) ≡ true → IsEncodable (length given.policy.vars) (certificate_for given p)) (sym same) expected.encodes in
     known_rewoven c.args.main.now c.args.folder.now given c.args.made program links back sound
     (allowed_here c)
-    (spells (subst (λ (x : Certificate). FitsTyping x.typing) is c.in_ok-program.ensures.fits)) c.judged-ready.result
+    (encodes (subst (λ (x : Certificate). FitsTyping x.typing) is c.in_ok-program.ensures.fits)) c.judged-ready.result
     (subst (λ (m : Mode). IfOk c.judged-ready.result (λ (ready : Ready). Secure m program given.policy)) (ap (λ (x : Certificate). x.mode) is) c.judged-ready.ensures.secure)
     (subst (λ (x : Certificate). IfOk c.judged-ready.result (λ (ready : Ready). judged program given.policy x ≡ Ok ready.accepted)) is c.judged-ready.ensures.verdict)
     (subst (λ (x : Certificate). IfOk c.judged-ready.result (λ (ready : Ready). is_written x ≡ true)) is c.judged-ready.ensures.written)

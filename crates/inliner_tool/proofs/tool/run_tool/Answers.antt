@@ -3,7 +3,7 @@ use Rattle.input_files.specs.Forms.{Count, since}
 use Rattle.mon_store.specs.Store.{Files}
 use Rattle.inliner_tool.specs.declared.tool.Status.TheVariants as statuses
 use Rattle.command_words.specs.Words.{named_by}
-use Rattle.inliner_tool.specs.Replies.{usage_spelled}
+use Rattle.inliner_tool.specs.Replies.{usage_encoded}
 use Rattle.inliner_tool.specs.Seen.{Seen}
 use Rattle.inliner_tool.specs.Steps.{outcome_step}
 use Rattle.inliner_tool.specs.Writing.{CarriesOut}
@@ -25,45 +25,45 @@ pub returns-in-Ok-clause-inlined : goal.returns-in-Ok-clause-inlined
 returns-in-Ok-clause-inlined g c = λ named is done. c.in-Ok.ensures.inlined named (is_inline c.args.words.now (named_by c.in-Some.command) c.in-Some.ensures.found named is)
 
 pub returns-in_default-clause-headline : goal.returns-in_default-clause-headline
-returns-in_default-clause-headline g c = λ named is done. absurd (puts_no _ _ _ _ statuses.Usage c.put.result (c.put.ensures.puts usage_spelled c.usage_spelled.ensures) (λ e. absurd cc) done)
+returns-in_default-clause-headline g c = λ named is done. absurd (puts_no _ _ _ _ statuses.Usage c.put.result (c.put.ensures.puts usage_encoded c.usage_encoded.ensures) (λ e. absurd cc) done)
 
 pub returns-in_default-clause-accepted : goal.returns-in_default-clause-accepted
-returns-in_default-clause-accepted g c = λ named is done. absurd (puts_no _ _ _ _ statuses.Usage c.put.result (c.put.ensures.puts usage_spelled c.usage_spelled.ensures) (λ e. absurd cc) done)
+returns-in_default-clause-accepted g c = λ named is done. absurd (puts_no _ _ _ _ statuses.Usage c.put.result (c.put.ensures.puts usage_encoded c.usage_encoded.ensures) (λ e. absurd cc) done)
 
 pub returns-in_default-clause-runs : goal.returns-in_default-clause-runs
-returns-in_default-clause-runs g c = λ named is done. absurd (puts_no _ _ _ _ statuses.Usage c.put.result (c.put.ensures.puts usage_spelled c.usage_spelled.ensures) (λ e. absurd cc) done)
+returns-in_default-clause-runs g c = λ named is done. absurd (puts_no _ _ _ _ statuses.Usage c.put.result (c.put.ensures.puts usage_encoded c.usage_encoded.ensures) (λ e. absurd cc) done)
 
 pub returns-in_default-clause-replay_runs : goal.returns-in_default-clause-replay_runs
-returns-in_default-clause-replay_runs g c = λ named is done. absurd (puts_no _ _ _ _ statuses.Usage c.put.result (c.put.ensures.puts usage_spelled c.usage_spelled.ensures) (λ e. absurd cc) done)
+returns-in_default-clause-replay_runs g c = λ named is done. absurd (puts_no _ _ _ _ statuses.Usage c.put.result (c.put.ensures.puts usage_encoded c.usage_encoded.ensures) (λ e. absurd cc) done)
 
 pub returns-in_default-clause-inlined : goal.returns-in_default-clause-inlined
-returns-in_default-clause-inlined g c = λ named is done. absurd (puts_no _ _ _ _ statuses.Usage c.put.result (c.put.ensures.puts usage_spelled c.usage_spelled.ensures) (λ e. absurd cc) done)
+returns-in_default-clause-inlined g c = λ named is done. absurd (puts_no _ _ _ _ statuses.Usage c.put.result (c.put.ensures.puts usage_encoded c.usage_encoded.ensures) (λ e. absurd cc) done)
 
 pub returns-in-Err-Refused-clause-headline : goal.returns-in-Err-Refused-clause-headline
-returns-in-Err-Refused-clause-headline g c = λ named is done. absurd (puts_no _ _ _ _ _ c.put-in-Err-Refused.result (c.put-in-Err-Refused.ensures.puts _ c.refusal_spelled.ensures) c.refusal_status.ensures.no done)
+returns-in-Err-Refused-clause-headline g c = λ named is done. absurd (puts_no _ _ _ _ _ c.put-in-Err-Refused.result (c.put-in-Err-Refused.ensures.puts _ c.refusal_encoded.ensures) c.refusal_status.ensures.no done)
 
 pub returns-in-Err-Refused-clause-accepted : goal.returns-in-Err-Refused-clause-accepted
-returns-in-Err-Refused-clause-accepted g c = λ named is done. absurd (puts_no _ _ _ _ _ c.put-in-Err-Refused.result (c.put-in-Err-Refused.ensures.puts _ c.refusal_spelled.ensures) c.refusal_status.ensures.no done)
+returns-in-Err-Refused-clause-accepted g c = λ named is done. absurd (puts_no _ _ _ _ _ c.put-in-Err-Refused.result (c.put-in-Err-Refused.ensures.puts _ c.refusal_encoded.ensures) c.refusal_status.ensures.no done)
 
 pub returns-in-Err-Refused-clause-runs : goal.returns-in-Err-Refused-clause-runs
-returns-in-Err-Refused-clause-runs g c = λ named is done. absurd (puts_no _ _ _ _ _ c.put-in-Err-Refused.result (c.put-in-Err-Refused.ensures.puts _ c.refusal_spelled.ensures) c.refusal_status.ensures.no done)
+returns-in-Err-Refused-clause-runs g c = λ named is done. absurd (puts_no _ _ _ _ _ c.put-in-Err-Refused.result (c.put-in-Err-Refused.ensures.puts _ c.refusal_encoded.ensures) c.refusal_status.ensures.no done)
 
 pub returns-in-Err-Refused-clause-replay_runs : goal.returns-in-Err-Refused-clause-replay_runs
-returns-in-Err-Refused-clause-replay_runs g c = λ named is done. absurd (puts_no _ _ _ _ _ c.put-in-Err-Refused.result (c.put-in-Err-Refused.ensures.puts _ c.refusal_spelled.ensures) c.refusal_status.ensures.no done)
+returns-in-Err-Refused-clause-replay_runs g c = λ named is done. absurd (puts_no _ _ _ _ _ c.put-in-Err-Refused.result (c.put-in-Err-Refused.ensures.puts _ c.refusal_encoded.ensures) c.refusal_status.ensures.no done)
 
 pub returns-in-Err-Refused-clause-inlined : goal.returns-in-Err-Refused-clause-inlined
-returns-in-Err-Refused-clause-inlined g c = λ named is done. absurd (puts_no _ _ _ _ _ c.put-in-Err-Refused.result (c.put-in-Err-Refused.ensures.puts _ c.refusal_spelled.ensures) c.refusal_status.ensures.no done)
+returns-in-Err-Refused-clause-inlined g c = λ named is done. absurd (puts_no _ _ _ _ _ c.put-in-Err-Refused.result (c.put-in-Err-Refused.ensures.puts _ c.refusal_encoded.ensures) c.refusal_status.ensures.no done)
 
 pub returns-in_default-clause-answer : goal.returns-in_default-clause-answer
 returns-in_default-clause-answer g c =
     let files : Files = g.S.Store.files c.args.store.now in
     let count : Count = since (g.S.Store.faults c.args.store.now) (g.S.Store.faults c.args.store.now) (g.S.Store.last c.args.store.now) in
     usage_replied (record { old = files; new = files; count = count }) c.args.words.now (g.K.Sink.text c.args.out.now) (g.K.Sink.text c.put.new.out) _ c.in_default.ensures.none refl c.put.result
-    (c.put.ensures.puts usage_spelled c.usage_spelled.ensures)
+    (c.put.ensures.puts usage_encoded c.usage_encoded.ensures)
 
 pub returns-in_default-clause-decides : goal.returns-in_default-clause-decides
-returns-in_default-clause-decides g c = λ contents told quiet sink other.
-    let puts = puts_plain _ _ _ _ statuses.Usage c.put.result (c.put.ensures.puts usage_spelled c.usage_spelled.ensures) sink other in
+returns-in_default-clause-decides g c = λ contents told no_rise sink other.
+    let puts = puts_plain _ _ _ _ statuses.Usage c.put.result (c.put.ensures.puts usage_encoded c.usage_encoded.ensures) sink other in
     usage_decides contents c.args.words.now c.in_default.ensures.none _ _ c.put.result puts.0 puts.1
 
 pub returns-in-Ok-clause-answer : goal.returns-in-Ok-clause-answer
@@ -75,18 +75,18 @@ returns-in-Ok-clause-answer g c =
     let named = named_by c.in-Some.command in
     outcome_replied seen c.args.words.now (g.K.Sink.text c.args.out.now) (g.K.Sink.text c.put-in-Ok.new.out) _ named c.in-Some.ensures.found (Ok c.in-Ok.answer)
     (c.in-Ok.ensures.carries)
-    c.answer_status.result c.answer_status.ensures.kind c.answer_status.ensures.is c.put-in-Ok.result (c.put-in-Ok.ensures.puts _ c.answer_spelled.ensures)
+    c.answer_status.result c.answer_status.ensures.kind c.answer_status.ensures.is c.put-in-Ok.result (c.put-in-Ok.ensures.puts _ c.answer_encoded.ensures)
 
 pub returns-in-Ok-clause-decides : goal.returns-in-Ok-clause-decides
-returns-in-Ok-clause-decides g c = λ contents told quiet sink other.
+returns-in-Ok-clause-decides g c = λ contents told no_rise sink other.
     let files : Files = g.S.Store.files c.args.store.now in
     let new : Files = g.S.Store.files c.carry_out.new.store in
     let count : Count = since (g.S.Store.faults c.args.store.now) (g.S.Store.faults c.carry_out.new.store) (g.S.Store.last c.carry_out.new.store) in
     let seen : Seen = record { old = files; new = new; count = count } in
     let named = named_by c.in-Some.command in
-    let puts = puts_plain _ _ _ _ c.answer_status.result c.put-in-Ok.result (c.put-in-Ok.ensures.puts _ c.answer_spelled.ensures) sink other in
+    let puts = puts_plain _ _ _ _ c.answer_status.result c.put-in-Ok.result (c.put-in-Ok.ensures.puts _ c.answer_encoded.ensures) sink other in
     let carries : CarriesOut seen named (outcome_step (Ok c.in-Ok.answer)) = c.in-Ok.ensures.carries in
-    outcome_decides c.told_files_are_read.ensures contents count quiet c.args.words.now new named c.in-Some.ensures.found (Ok c.in-Ok.answer)
+    outcome_decides c.told_files_are_read.ensures contents count no_rise c.args.words.now new named c.in-Some.ensures.found (Ok c.in-Ok.answer)
     (subst (λ (f : Files). CarriesOut (record { old = f; new = new; count = count }) named (outcome_step (Ok c.in-Ok.answer))) told carries)
     _ _ c.put-in-Ok.result (puts.0 ∙ c.answer_status.ensures.is) puts.1
 
@@ -99,17 +99,17 @@ returns-in-Err-Refused-clause-answer g c =
     let named = named_by c.in-Some.command in
     outcome_replied seen c.args.words.now (g.K.Sink.text c.args.out.now) (g.K.Sink.text c.put-in-Err-Refused.new.out) _ named c.in-Some.ensures.found (Err c.in-Err-Refused.refusal)
     (refused_so (CarriesOut seen named) c.in-Err-Refused.field-0 c.in-Err-Refused.refusal c.in-Err-Refused.field-0-is c.in-Err-Refused.ensures.carries)
-    c.refusal_status.result c.refusal_status.ensures.kind c.refusal_status.ensures.is c.put-in-Err-Refused.result (c.put-in-Err-Refused.ensures.puts _ c.refusal_spelled.ensures)
+    c.refusal_status.result c.refusal_status.ensures.kind c.refusal_status.ensures.is c.put-in-Err-Refused.result (c.put-in-Err-Refused.ensures.puts _ c.refusal_encoded.ensures)
 
 pub returns-in-Err-Refused-clause-decides : goal.returns-in-Err-Refused-clause-decides
-returns-in-Err-Refused-clause-decides g c = λ contents told quiet sink other.
+returns-in-Err-Refused-clause-decides g c = λ contents told no_rise sink other.
     let files : Files = g.S.Store.files c.args.store.now in
     let new : Files = g.S.Store.files c.carry_out.new.store in
     let count : Count = since (g.S.Store.faults c.args.store.now) (g.S.Store.faults c.carry_out.new.store) (g.S.Store.last c.carry_out.new.store) in
     let seen : Seen = record { old = files; new = new; count = count } in
     let named = named_by c.in-Some.command in
-    let puts = puts_plain _ _ _ _ c.refusal_status.result c.put-in-Err-Refused.result (c.put-in-Err-Refused.ensures.puts _ c.refusal_spelled.ensures) sink other in
+    let puts = puts_plain _ _ _ _ c.refusal_status.result c.put-in-Err-Refused.result (c.put-in-Err-Refused.ensures.puts _ c.refusal_encoded.ensures) sink other in
     let carries : CarriesOut seen named (outcome_step (Err c.in-Err-Refused.refusal)) = refused_so (CarriesOut seen named) c.in-Err-Refused.field-0 c.in-Err-Refused.refusal c.in-Err-Refused.field-0-is c.in-Err-Refused.ensures.carries in
-    outcome_decides c.told_files_are_read.ensures contents count quiet c.args.words.now new named c.in-Some.ensures.found (Err c.in-Err-Refused.refusal)
+    outcome_decides c.told_files_are_read.ensures contents count no_rise c.args.words.now new named c.in-Some.ensures.found (Err c.in-Err-Refused.refusal)
     (subst (λ (f : Files). CarriesOut (record { old = f; new = new; count = count }) named (outcome_step (Err c.in-Err-Refused.refusal))) told carries)
     _ _ c.put-in-Err-Refused.result (puts.0 ∙ c.refusal_status.ensures.is) puts.1

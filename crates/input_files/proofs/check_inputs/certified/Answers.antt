@@ -5,7 +5,7 @@ use Rattle.command_words.specs.Words.{NamedCheck, check_named}
 use Rattle.input_files.specs.Named.{ReadsClasses}
 use Rattle.input_files.specs.Kinds.{certificate_form}
 use Rattle.input_files.proofs.ReadFiles.{counted}
-use Rattle.input_files.proofs.Reading.{behind_stops}
+use Rattle.input_files.proofs.Reading.{after_stops}
 use Rattle.input_files.proofs.check_inputs.certified.Goals as goal
 
 pub returns-in_err-classes-clause-read : goal.returns-in_err-classes-clause-read
@@ -18,4 +18,4 @@ returns-in_err-classes-clause-read g c =
     let last : List ℕ = g.S.Store.last c.classes_of.new.store in
     let stop = c.in_err-classes.field-0.0 in
     let reads = subst (λ (fs : Files). ReadsClasses fs (counted begun now last) named.classes (Err stop)) c.in_ok-certificate.ensures.files c.in_err-classes.ensures.read in
-    rw (p.1, p.2) (behind_stops files (certificate_form c.args.vars) named.certificate named.classes (g.S.Store.faults c.args.store.now) begun now last stop c.in_ok-certificate.ensures.faults c.in_ok-certificate.certificate c.in_ok-certificate.ensures.form reads)
+    rw (p.1, p.2) (after_stops files (certificate_form c.args.vars) named.certificate named.classes (g.S.Store.faults c.args.store.now) begun now last stop c.in_ok-certificate.ensures.faults c.in_ok-certificate.certificate c.in_ok-certificate.ensures.form reads)

@@ -2,7 +2,7 @@ use Rattle.std.proofs.Common.{◌≡◌, ◌∷◌, ◌∙◌, List, ℕ, length
 use Rattle.std.proofs.lemmas.Result.{err_from_is_err_and}
 use Rattle.mon_store.specs.Store.{Files, HasFile}
 use Rattle.class_codec.specs.declared.tree.ClassFile.{ClassFile}
-use Rattle.class_codec.specs.Fits.{CanSpell, SpellsClass}
+use Rattle.class_codec.specs.Fits.{IsEncodable, EncodesClass}
 use Rattle.input_files.specs.declared.files.Stop.{Stop}
 use Rattle.input_files.specs.Forms.{IsRead, ReadsForm}
 use Rattle.input_files.specs.Kinds.{class_form}
@@ -40,11 +40,11 @@ loop-rest-preserved g c =
     subst (λ (l : List (List ℕ)). HaveRead files c.args.names.now c.loop-rest.files.items c.loop-rest.total l) apart c.loop-rest.invariant.read in
     let one : IsRead files name class_form (Ok (record { file = class; len = len })) =
     subst (λ (fs : Files). IsRead fs name class_form (Ok (record { file = class; len = len }))) c.loop-rest.invariant.files c.in_ok-class.ensures.form in
-    let spells : HasFile files name (λ bytes. SpellsClass bytes class) =
-    subst (λ (fs : Files). HasFile fs name (λ bytes. SpellsClass bytes class)) c.loop-rest.invariant.files c.in_ok-class.ensures.spells in
+    let encodes : HasFile files name (λ bytes. EncodesClass bytes class) =
+    subst (λ (fs : Files). HasFile fs name (λ bytes. EncodesClass bytes class)) c.loop-rest.invariant.files c.in_ok-class.ensures.encodes in
     record {
-      read = rw (c.in_ok-push.ensures.items, c.saturating_add-total.ensures) (one_read files c.args.names.now c.loop-rest.files.items c.loop-rest.total name later class len had one spells);
-      fits = sound_pushed CanSpell c.loop-rest.files.items c.push.new.self.items class c.in_ok-push.ensures.items c.loop-rest.invariant.fits c.in_ok-class.ensures.fits;
+      read = rw (c.in_ok-push.ensures.items, c.saturating_add-total.ensures) (one_read files c.args.names.now c.loop-rest.files.items c.loop-rest.total name later class len had one encodes);
+      fits = sound_pushed IsEncodable c.loop-rest.files.items c.push.new.self.items class c.in_ok-push.ensures.items c.loop-rest.invariant.fits c.in_ok-class.ensures.fits;
       files = c.class_of.ensures.files ∙ c.loop-rest.invariant.files;
       faults = omega (arith, c.class_of.ensures.faults, c.loop-rest.invariant.faults);
     }

@@ -1,5 +1,5 @@
 use Rattle.std.proofs.Common.{arith}
-use Rattle.insn_codec.specs.Spelling.{len_from}
+use Rattle.insn_codec.specs.Encoding.{len_from}
 use Rattle.insn_codec.specs.Targets.{marks_from}
 use Rattle.insn_codec.proofs.Standing.{fits_size, size-some, len_step, marks_step, marks_done}
 use Rattle.insn_codec.proofs.layout.marks.Goals as goal

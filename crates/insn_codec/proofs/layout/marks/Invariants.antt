@@ -1,5 +1,5 @@
 use Rattle.std.proofs.Common.{◌≡◌, ◌≤◌, ◌+◌, ◌++◌, length}
-use Rattle.insn_codec.specs.Spelling.{len_from}
+use Rattle.insn_codec.specs.Encoding.{len_from}
 use Rattle.insn_codec.specs.Targets.{marks_from}
 use Rattle.insn_codec.proofs.layout.marks.Given as goal
 

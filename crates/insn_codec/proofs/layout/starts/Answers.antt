@@ -1,5 +1,5 @@
 use Rattle.std.proofs.Common.{◌∙◌, arith}
-use Rattle.insn_codec.specs.Spelling.{len_from, starts_of}
+use Rattle.insn_codec.specs.Encoding.{len_from, starts_of}
 use Rattle.insn_codec.proofs.Standing.{fits_size, len_step, starts_step, starts_done}
 use Rattle.insn_codec.proofs.layout.starts.Goals as goal
 

@@ -1,5 +1,5 @@
 use Rattle.std.proofs.Common.{◌≡◌, ◌+◌, ◌++◌, length}
-use Rattle.insn_codec.specs.Spelling.{starts_from, starts_of, len_from}
+use Rattle.insn_codec.specs.Encoding.{starts_from, starts_of, len_from}
 use Rattle.insn_codec.proofs.layout.starts.Given as goal
 
 abbrev pub invariant-loop-left : goal.invariant-loop-left

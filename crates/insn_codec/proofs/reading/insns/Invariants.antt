@@ -1,6 +1,6 @@
 use Rattle.std.proofs.Common.{◌≡◌, ◌≤◌, ◌-◌, length}
 use Rattle.mon_base.proofs.Loop.{with_front}
-use Rattle.insn_codec.specs.Spelling.{len_from}
+use Rattle.insn_codec.specs.Encoding.{len_from}
 use Rattle.insn_codec.specs.Reading.{end_of, insns_at}
 use Rattle.insn_codec.specs.Targets.{finds}
 use Rattle.insn_codec.proofs.reading.insns.Given as goal

@@ -1,5 +1,5 @@
 use Rattle.std.proofs.Common.{arith}
-use Rattle.insn_codec.specs.Spelling.{len_from}
+use Rattle.insn_codec.specs.Encoding.{len_from}
 use Rattle.insn_codec.proofs.Standing.{fits_size, len_step, len_done}
 use Rattle.insn_codec.proofs.writing.len_of.Goals as goal
 

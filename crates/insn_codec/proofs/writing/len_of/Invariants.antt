@@ -1,5 +1,5 @@
 use Rattle.std.proofs.Common.{◌≡◌, ◌+◌, length}
-use Rattle.insn_codec.specs.Spelling.{len_from}
+use Rattle.insn_codec.specs.Encoding.{len_from}
 use Rattle.insn_codec.proofs.writing.len_of.Given as goal
 
 abbrev pub invariant-loop-left : goal.invariant-loop-left

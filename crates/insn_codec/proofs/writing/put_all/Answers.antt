@@ -1,6 +1,6 @@
 use Rattle.std.proofs.Common.{◌++◌, arith}
 use Rattle.std.proofs.lemmas.Result.{err_from_is_err_and}
-use Rattle.insn_codec.specs.Spelling.{len_from, bytes_from}
+use Rattle.insn_codec.specs.Encoding.{len_from, bytes_from}
 use Rattle.insn_codec.specs.Writing.{reach_from}
 use Rattle.insn_codec.proofs.Putting.{reach_ends, reach_on, bytes_on, reach_done, bytes_done, first_fits, others_fit}
 use Rattle.insn_codec.proofs.Standing.{fits_size, len_step}

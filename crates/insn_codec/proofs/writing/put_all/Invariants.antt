@@ -1,6 +1,6 @@
 use Rattle.std.proofs.Common.{◌≡◌, ◌+◌, ◌++◌, length}
 use Rattle.std.specs.List.{AllByRecursion}
-use Rattle.insn_codec.specs.Spelling.{len_from, bytes_from}
+use Rattle.insn_codec.specs.Encoding.{len_from, bytes_from}
 use Rattle.insn_codec.specs.Fits.{IsInsn}
 use Rattle.insn_codec.specs.Writing.{reach_from}
 use Rattle.insn_codec.proofs.writing.put_all.Given as goal

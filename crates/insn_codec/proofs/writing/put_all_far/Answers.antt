@@ -1,7 +1,7 @@
 use Rattle.std.proofs.lemmas.Result.{err_from_is_err_and}
 use Rattle.std.proofs.Common.{◌++◌}
 use Rattle.std.specs.List.{flat_map}
-use Rattle.insn_codec.specs.Spelling.{i4, offset}
+use Rattle.insn_codec.specs.Encoding.{i4, offset}
 use Rattle.insn_codec.specs.Writing.{all_far}
 use Rattle.insn_codec.proofs.Putting.{far_ends, far_on, offsets_on, far_done, offsets_done}
 use Rattle.insn_codec.proofs.writing.put_all_far.Goals as goal

@@ -1,6 +1,6 @@
 use Rattle.std.proofs.Common.{◌≡◌, ◌++◌, length}
 use Rattle.std.specs.List.{flat_map}
-use Rattle.insn_codec.specs.Spelling.{i4, offset}
+use Rattle.insn_codec.specs.Encoding.{i4, offset}
 use Rattle.insn_codec.specs.Writing.{all_far}
 use Rattle.insn_codec.proofs.writing.put_all_far.Given as goal
 

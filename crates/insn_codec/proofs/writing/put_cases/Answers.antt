@@ -3,7 +3,7 @@ use Rattle.std.proofs.lemmas.Int.{to_z-of_z}
 use Rattle.std.proofs.Common.{ℕ, ℤ, pos, List, get_or, FitsSigned, rules, ◌<◌, length, ◌++◌, ap, ◌∙◌, arith}
 use Rattle.std.proofs.lemmas.Result.{err_from_is_err_and}
 use Rattle.std.specs.List.{flat_map}
-use Rattle.insn_codec.specs.Spelling.{i4, offset, case, cases}
+use Rattle.insn_codec.specs.Encoding.{i4, offset, case, cases}
 use Rattle.insn_codec.specs.Writing.{all_far}
 use Rattle.insn_codec.proofs.Putting.{case_ends, case_far, cases_on, cases_far_done, cases_done}
 use Rattle.insn_codec.proofs.writing.put_cases.Goals as goal

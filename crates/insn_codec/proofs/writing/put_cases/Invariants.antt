@@ -1,6 +1,6 @@
 use Rattle.std.proofs.Common.{◌≡◌, ◌++◌, drop}
 use Rattle.std.specs.List.{flat_map}
-use Rattle.insn_codec.specs.Spelling.{case, cases}
+use Rattle.insn_codec.specs.Encoding.{case, cases}
 use Rattle.insn_codec.specs.Writing.{all_far}
 use Rattle.insn_codec.proofs.writing.put_cases.Given as goal
 

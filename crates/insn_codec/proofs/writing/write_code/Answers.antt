@@ -9,4 +9,4 @@ pub returns-clause-length : goal.returns-clause-length
 returns-clause-length c = λ long. told_long c.args.insns.now c.written.result c.written.ensures long
 
 pub returns-clause-back : goal.returns-clause-back
-returns-clause-back c = λ bytes spells short. is_back c.args.insns.now c.written.result bytes c.written.ensures spells short
+returns-clause-back c = λ bytes encodes short. is_back c.args.insns.now c.written.result bytes c.written.ensures encodes short

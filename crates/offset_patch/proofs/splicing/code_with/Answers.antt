@@ -1,7 +1,7 @@
 use Rattle.std.proofs.Common.{ℕ, List, sym, ap, subst, ◌∙◌, arith}
 use Rattle.std.specs.List.{AllByRecursion}
 use Rattle.mon_base.specs.Widths.{IsU2}
-use Rattle.insn_codec.specs.Spelling.{len_from}
+use Rattle.insn_codec.specs.Encoding.{len_from}
 use Rattle.offset_patch.proofs.Putting.{starts_two}
 use Rattle.offset_patch.proofs.splicing.code_with.Goals as goal
 

@@ -39,7 +39,7 @@ returns-clause-unfit c =
     → first_unfit (program_sizes c.args.program.now (plan_in planned)) ≡ Some fault) in
     subst Unfit c.new-plan.ensures.is c.weave.ensures.unfit
 
-pub returns-clause-spells : goal.returns-clause-spells
-returns-clause-spells c =
+pub returns-clause-encodes : goal.returns-clause-encodes
+returns-clause-encodes c =
     let Fit : List Var → Type 0 = AllByRecursion (λ (v : Var). FitsSigned w32 v.first) in
-    c.weave.ensures.spells (subst Fit (sym c.as_slice.ensures) (firsts_fit c.args.policy.now c.requires.policy))
+    c.weave.ensures.encodes (subst Fit (sym c.as_slice.ensures) (firsts_fit c.args.policy.now c.requires.policy))

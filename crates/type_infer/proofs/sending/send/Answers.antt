@@ -19,37 +19,37 @@ returns-in_default-clause-sends c ready =
     let scope = c.args.body.now in
     let place = c.args.place.now in
     let none = sym c.place.ensures ∙ c.in_default.is in
-    sends_nothing scope (c.laws_hold.ensures scope.program ready.order) place _ _ c.args.work.now
+    sends_nothing scope (c.laws_hold.ensures scope.program ready.order) place _ _ c.args.worklist.now
     (λ may to among. absurd (successor_there scope ready place.at place c.args.to c.requires.place (may c.args.to (among_first c.args.to [])) none))
 
 pub returns-in_default-frame-clause-sends : goal.returns-in_default-frame-clause-sends
 returns-in_default-frame-clause-sends c ready =
     let scope = c.args.body.now in
-    let work = c.args.work.now in
+    let worklist = c.args.worklist.now in
     let place = c.args.place.now in
     let laws = c.laws_hold.ensures scope.program ready.order in
     let at : c.place-2.inside.at ≡ place.at = ap (λ (p : InsnPlace). p.at) c.place-2.view_is in
-    let none : frame_of work.frames place.at ≡ None = ap (frame_of work.frames) (sym at) ∙ sym c.frame.ensures ∙ ap option_copied c.in_default-frame.is in
-    sends_nothing scope laws place _ _ work (λ may to among. unreached scope laws place to left_by work none)
+    let none : frame_of worklist.frames place.at ≡ None = ap (frame_of worklist.frames) (sym at) ∙ sym c.frame.ensures ∙ ap option_copied c.in_default-frame.is in
+    sends_nothing scope laws place _ _ worklist (λ may to among. unreached scope laws place to left_by worklist none)
 
 pub returns-clause-sends : goal.returns-clause-sends
 returns-clause-sends c ready =
     let scope = c.args.body.now in
-    let work = c.args.work.now in
+    let worklist = c.args.worklist.now in
     let place = c.args.place.now in
     let low = c.in-Some-frame.frame.now in
     let told = c.in_ok-new.new in
     let at : c.place-2.inside.at ≡ place.at = ap (λ (p : InsnPlace). p.at) c.place-2.view_is in
-    let is : frame_of work.frames place.at ≡ Some low = ap (frame_of work.frames) (sym at) ∙ sym c.frame.ensures ∙ ap option_copied c.in-Some-frame.is in
+    let is : frame_of worklist.frames place.at ≡ Some low = ap (frame_of worklist.frames) (sym at) ∙ sym c.frame.ensures ∙ ap option_copied c.in-Some-frame.is in
     let placed : place_of scope c.args.to ≡ Some c.in-Some.there = sym c.place.ensures ∙ c.in-Some.is in
     let kept = λ (order : IsInOrder place.program). subst (λ (o : Option FrameType). IsKept place.program o told) c.frame-2.ensures (c.in_ok-new.ensures.kept order) in
-    subst (λ (s : State). SendsTo scope place (c.args.to ∷ []) work s) (sym c.put.ensures)
-    (left_sends scope (c.laws_hold.ensures scope.program ready.order) place work c.requires.place low is c.requires.frames c.requires.marks c.in-Some.there told c.args.to placed kept
+    subst (λ (s : State). SendsTo scope place (c.args.to ∷ []) worklist s) (sym c.put.ensures)
+    (left_sends scope (c.laws_hold.ensures scope.program ready.order) place worklist c.requires.place low is c.requires.frames c.requires.marks c.in-Some.there told c.args.to placed kept
     (rw c.frame-2.ensures at c.in_ok-new.ensures.raised))
 
 pub returns-clause-each : goal.returns-clause-each
 returns-clause-each c =
-    let count = put_count c.args.work.now c.args.to c.in_ok-new.new in
+    let count = put_count c.args.worklist.now c.args.to c.in_ok-new.new in
     record {
       frames = ap (λ (s : State). length s.frames) c.put.ensures ∙ count.0 ∙ c.requires.frames;
       marks = ap (λ (s : State). length s.marks) c.put.ensures ∙ count.1 ∙ c.requires.marks;

@@ -9,7 +9,7 @@ loop-to-init c =
     let scope = c.args.body.now in
     record {
       each = search rules;
-      sends = λ ready. sends_nowhere scope (c.laws_hold.ensures scope.program ready.order) c.args.place.now c.args.work.now;
+      sends = λ ready. sends_nowhere scope (c.laws_hold.ensures scope.program ready.order) c.args.place.now c.args.worklist.now;
     }
 
 pub loop-to-preserved : goal.loop-to-preserved
@@ -22,12 +22,12 @@ loop-to-preserved c =
     record {
       each = c.in_ok-send.ensures.each;
       sends = λ ready.
-          subst (λ (xs : List ℕ). SendsTo scope place xs c.args.work.now c.send.new.work) (sym (take_more targets c.loop-to.to-index 0 (omega arith)))
-          (sends_over scope (c.laws_hold.ensures scope.program ready.order) place before (this ∷ []) c.args.work.now c.loop-to.work c.send.new.work (c.loop-to.invariant.sends ready)
+          subst (λ (xs : List ℕ). SendsTo scope place xs c.args.worklist.now c.send.new.worklist) (sym (take_more targets c.loop-to.to-index 0 (omega arith)))
+          (sends_over scope (c.laws_hold.ensures scope.program ready.order) place before (this ∷ []) c.args.worklist.now c.loop-to.worklist c.send.new.worklist (c.loop-to.invariant.sends ready)
           (c.in_ok-send.ensures.sends ready));
     }
 
 pub returns-clause-sends : goal.returns-clause-sends
 returns-clause-sends c ready =
-    subst (λ (xs : List ℕ). SendsTo c.args.body.now c.args.place.now xs c.args.work.now c.loop-to.work) (take_all c.loop-to.to-index c.args.targets.now (omega arith))
+    subst (λ (xs : List ℕ). SendsTo c.args.body.now c.args.place.now xs c.args.worklist.now c.loop-to.worklist) (take_all c.loop-to.to-index c.args.targets.now (omega arith))
     (c.loop-to.invariant.sends ready)

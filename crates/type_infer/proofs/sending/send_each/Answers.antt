@@ -7,5 +7,5 @@ pub returns-clause-sends : goal.returns-clause-sends
 returns-clause-sends c =
     let scope = c.args.body.now in
     on_ok c.send_all.result
-    (λ later ready. sends_over scope (c.laws_hold.ensures scope.program ready.order) c.args.place.now (c.args.first ∷ []) c.args.others.now c.args.work.now c.send.new.work
-    c.send_all.new.work (c.in_ok-send.ensures.sends ready) (later ready)) c.send_all.ensures.sends
+    (λ later ready. sends_over scope (c.laws_hold.ensures scope.program ready.order) c.args.place.now (c.args.first ∷ []) c.args.others.now c.args.worklist.now c.send.new.worklist
+    c.send_all.new.worklist (c.in_ok-send.ensures.sends ready) (later ready)) c.send_all.ensures.sends

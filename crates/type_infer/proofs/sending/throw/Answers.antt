@@ -21,45 +21,45 @@ returns-then-not-covers-clause-sends c ready =
     let handler = c.args.handler.now in
     let at : c.place.inside.at ≡ place.at = ap (λ (p : InsnPlace). p.at) c.place.view_is in
     let not_covered : covers place.at handler ≡ false = ap (λ (n : ℕ). covers n handler) (sym at) ∙ sym c.covers.ensures ∙ c.if-not-covers.true in
-    sends_nothing scope (c.laws_hold.ensures scope.program ready.order) place _ _ c.args.work.now (λ among covered. absurd (false≢true (sym not_covered ∙ covered)))
+    sends_nothing scope (c.laws_hold.ensures scope.program ready.order) place _ _ c.args.worklist.now (λ among covered. absurd (false≢true (sym not_covered ∙ covered)))
 
 pub returns-in_default-clause-sends : goal.returns-in_default-clause-sends
 returns-in_default-clause-sends c ready =
     let scope = c.args.body.now in
-    sends_nothing scope (c.laws_hold.ensures scope.program ready.order) c.args.place.now _ _ c.args.work.now
+    sends_nothing scope (c.laws_hold.ensures scope.program ready.order) c.args.place.now _ _ c.args.worklist.now
     (λ among covered. absurd (handler_there scope ready c.args.handler.now among (sym c.place-2.ensures ∙ c.in_default.is)))
 
 pub returns-in_default-frame-clause-sends : goal.returns-in_default-frame-clause-sends
 returns-in_default-frame-clause-sends c ready =
     let scope = c.args.body.now in
-    let work = c.args.work.now in
+    let worklist = c.args.worklist.now in
     let place = c.args.place.now in
     let handler = c.args.handler.now in
     let laws = c.laws_hold.ensures scope.program ready.order in
     let at : c.place.inside.at ≡ place.at = ap (λ (p : InsnPlace). p.at) c.place.view_is in
-    let none : frame_of work.frames place.at ≡ None = ap (frame_of work.frames) (sym at) ∙ sym c.frame.ensures ∙ ap option_copied c.in_default-frame.is in
-    sends_nothing scope laws place _ _ work (λ among covered. unreached scope laws place handler.at (thrown_to handler) work none)
+    let none : frame_of worklist.frames place.at ≡ None = ap (frame_of worklist.frames) (sym at) ∙ sym c.frame.ensures ∙ ap option_copied c.in_default-frame.is in
+    sends_nothing scope laws place _ _ worklist (λ among covered. unreached scope laws place handler.at (thrown_to handler) worklist none)
 
 pub returns-clause-sends : goal.returns-clause-sends
 returns-clause-sends c ready =
     let scope = c.args.body.now in
-    let work = c.args.work.now in
+    let worklist = c.args.worklist.now in
     let place = c.args.place.now in
     let handler = c.args.handler.now in
     let low = c.in-Some-frame.frame.now in
     let told = c.in_ok-new.new in
     let at : c.place.inside.at ≡ place.at = ap (λ (p : InsnPlace). p.at) c.place.view_is in
-    let is : frame_of work.frames place.at ≡ Some low = ap (frame_of work.frames) (sym at) ∙ sym c.frame.ensures ∙ ap option_copied c.in-Some-frame.is in
+    let is : frame_of worklist.frames place.at ≡ Some low = ap (frame_of worklist.frames) (sym at) ∙ sym c.frame.ensures ∙ ap option_copied c.in-Some-frame.is in
     let placed : place_of scope handler.at ≡ Some c.in-Some.there = sym c.place-2.ensures ∙ c.in-Some.is in
     let kept = λ (order : IsInOrder place.program). subst (λ (o : Option FrameType). IsKept place.program o told) c.frame-2.ensures (c.in_ok-new.ensures.kept order) in
     let covered : covers place.at handler ≡ true = ap (λ (n : ℕ). covers n handler) (sym at) ∙ sym c.covers.ensures ∙ c.if-not-covers.false in
-    subst (λ (s : State). ThrowsTo scope place handler work s) (sym c.put.ensures)
-    (thrown_sends scope (c.laws_hold.ensures scope.program ready.order) place work c.requires.place low is c.requires.frames c.requires.marks c.in-Some.there told handler placed kept
+    subst (λ (s : State). ThrowsTo scope place handler worklist s) (sym c.put.ensures)
+    (thrown_sends scope (c.laws_hold.ensures scope.program ready.order) place worklist c.requires.place low is c.requires.frames c.requires.marks c.in-Some.there told handler placed kept
     (rw c.frame-2.ensures at c.in_ok-new.ensures.raised) covered)
 
 pub returns-clause-each : goal.returns-clause-each
 returns-clause-each c =
-    let count = put_count c.args.work.now c.args.handler.now.at c.in_ok-new.new in
+    let count = put_count c.args.worklist.now c.args.handler.now.at c.in_ok-new.new in
     record {
       frames = ap (λ (s : State). length s.frames) c.put.ensures ∙ count.0 ∙ c.requires.frames;
       marks = ap (λ (s : State). length s.marks) c.put.ensures ∙ count.1 ∙ c.requires.marks;

@@ -30,9 +30,9 @@ pub loop-handler-preserved : goal.loop-handler-preserved
 loop-handler-preserved c =
     let scope = c.args.body.now in
     let place = c.args.place.now in
-    let old = c.args.work.now in
-    let middle = c.loop-handler.work in
-    let new = c.throw.new.work in
+    let old = c.args.worklist.now in
+    let middle = c.loop-handler.worklist in
+    let new = c.throw.new.worklist in
     let handlers = scope.method.handlers in
     let this = c.in-Some.handler.now in
     let later = c.next.new.self in

@@ -17,9 +17,9 @@ returns-in_default-clause-holds c limit above met =
     let scope = c.args.body.now in
     let laws = c.laws_hold.ensures scope.program met.ready.order in
     let count : c.len.result ≡ length scope.method.insns = c.len.ensures ∙ ap (λ (s : Scope). length s.method.insns) c.body.view_is in
-    let is : c.in_ok-work.work ≡ nothing scope laws =
-    state_is c.in_ok-work.work (replicate (length scope.method.insns) None) (replicate (length scope.method.insns) false)
-    (c.in_ok-work.ensures.frames ∙ ap (λ (n : ℕ). replicate n None) count) (c.in_ok-work.ensures.marks ∙ ap (λ (n : ℕ). replicate n false) count) in
+    let is : c.in_ok-worklist.worklist ≡ nothing scope laws =
+    state_is c.in_ok-worklist.worklist (replicate (length scope.method.insns) None) (replicate (length scope.method.insns) false)
+    (c.in_ok-worklist.ensures.frames ∙ ap (λ (n : ℕ). replicate n None) count) (c.in_ok-worklist.ensures.marks ∙ ap (λ (n : ℕ). replicate n false) count) in
     let none : place_of scope 0 ≡ None = sym c.place.ensures ∙ c.in_default.is in
     subst (Holds scope limit above) (sym is) (nothing_holds scope laws limit above none)
 
@@ -30,9 +30,9 @@ returns-clause-holds c limit above met =
     let first = c.in_ok-first.first in
     let laws = c.laws_hold.ensures scope.program met.ready.order in
     let count : c.len.result ≡ length scope.method.insns = c.len.ensures ∙ ap (λ (s : Scope). length s.method.insns) c.body.view_is in
-    let is : c.in_ok-work.work ≡ nothing scope laws =
-    state_is c.in_ok-work.work (replicate (length scope.method.insns) None) (replicate (length scope.method.insns) false)
-    (c.in_ok-work.ensures.frames ∙ ap (λ (n : ℕ). replicate n None) count) (c.in_ok-work.ensures.marks ∙ ap (λ (n : ℕ). replicate n false) count) in
+    let is : c.in_ok-worklist.worklist ≡ nothing scope laws =
+    state_is c.in_ok-worklist.worklist (replicate (length scope.method.insns) None) (replicate (length scope.method.insns) false)
+    (c.in_ok-worklist.ensures.frames ∙ ap (λ (n : ℕ). replicate n None) count) (c.in_ok-worklist.ensures.marks ∙ ap (λ (n : ℕ). replicate n false) count) in
     let there : place_of scope 0 ≡ Some place = sym c.place.ensures ∙ c.in-Some.is in
     let entry = entered scope laws limit above place met there in
     let locals : c.in_ok-locals.locals ≡ entry_locals place = c.in_ok-locals.ensures in
@@ -48,36 +48,36 @@ returns-clause-holds c limit above met =
 
 pub returns-clause-frames : goal.returns-clause-frames
 returns-clause-frames c =
-    ap (λ (s : State). length s.frames) c.put.ensures ∙ (put_count c.in_ok-work.work 0 c.in_ok-first.first).0
-    ∙ ap length c.in_ok-work.ensures.frames ∙ length-replicate c.len.result None ∙ c.len.ensures ∙ ap (λ (s : Scope). length s.method.insns) c.body.view_is
+    ap (λ (s : State). length s.frames) c.put.ensures ∙ (put_count c.in_ok-worklist.worklist 0 c.in_ok-first.first).0
+    ∙ ap length c.in_ok-worklist.ensures.frames ∙ length-replicate c.len.result None ∙ c.len.ensures ∙ ap (λ (s : Scope). length s.method.insns) c.body.view_is
 
 pub returns-clause-marks : goal.returns-clause-marks
 returns-clause-marks c =
-    ap (λ (s : State). length s.marks) c.put.ensures ∙ (put_count c.in_ok-work.work 0 c.in_ok-first.first).1
-    ∙ ap length c.in_ok-work.ensures.marks ∙ length-replicate c.len.result false ∙ c.len.ensures ∙ ap (λ (s : Scope). length s.method.insns) c.body.view_is
+    ap (λ (s : State). length s.marks) c.put.ensures ∙ (put_count c.in_ok-worklist.worklist 0 c.in_ok-first.first).1
+    ∙ ap length c.in_ok-worklist.ensures.marks ∙ length-replicate c.len.result false ∙ c.len.ensures ∙ ap (λ (s : Scope). length s.method.insns) c.body.view_is
 
 pub put-requires-clause-frames : goal.put-requires-clause-frames
 put-requires-clause-frames c =
     let scope = c.args.body.now in
     let there : place_of scope 0 ≡ Some c.in-Some.place = sym c.place.ensures ∙ c.in-Some.is in
     let h = insn_there _ (slice_get scope.method.insns 0) c.in-Some.place there in
-    let count : length c.in_ok-work.work.frames ≡ length scope.method.insns =
-    ap length c.in_ok-work.ensures.frames ∙ length-replicate c.len.result None ∙ c.len.ensures ∙ ap (λ (s : Scope). length s.method.insns) c.body.view_is in
+    let count : length c.in_ok-worklist.worklist.frames ≡ length scope.method.insns =
+    ap length c.in_ok-worklist.ensures.frames ∙ length-replicate c.len.result None ∙ c.len.ensures ∙ ap (λ (s : Scope). length s.method.insns) c.body.view_is in
     subst (λ (n : ℕ). 0 < n) (sym count) (slice_get_within scope.method.insns 0 h.0 h.1)
 
 pub returns-in_default-clause-frames : goal.returns-in_default-clause-frames
 returns-in_default-clause-frames c =
-    ap length c.in_ok-work.ensures.frames ∙ length-replicate c.len.result None ∙ c.len.ensures ∙ ap (λ (s : Scope). length s.method.insns) c.body.view_is
+    ap length c.in_ok-worklist.ensures.frames ∙ length-replicate c.len.result None ∙ c.len.ensures ∙ ap (λ (s : Scope). length s.method.insns) c.body.view_is
 
 pub put-requires-clause-marks : goal.put-requires-clause-marks
 put-requires-clause-marks c =
     let scope = c.args.body.now in
     let there : place_of scope 0 ≡ Some c.in-Some.place = sym c.place.ensures ∙ c.in-Some.is in
     let h = insn_there _ (slice_get scope.method.insns 0) c.in-Some.place there in
-    let count : length c.in_ok-work.work.marks ≡ length scope.method.insns =
-    ap length c.in_ok-work.ensures.marks ∙ length-replicate c.len.result false ∙ c.len.ensures ∙ ap (λ (s : Scope). length s.method.insns) c.body.view_is in
+    let count : length c.in_ok-worklist.worklist.marks ≡ length scope.method.insns =
+    ap length c.in_ok-worklist.ensures.marks ∙ length-replicate c.len.result false ∙ c.len.ensures ∙ ap (λ (s : Scope). length s.method.insns) c.body.view_is in
     subst (λ (n : ℕ). 0 < n) (sym count) (slice_get_within scope.method.insns 0 h.0 h.1)
 
 pub returns-in_default-clause-marks : goal.returns-in_default-clause-marks
 returns-in_default-clause-marks c =
-    ap length c.in_ok-work.ensures.marks ∙ length-replicate c.len.result false ∙ c.len.ensures ∙ ap (λ (s : Scope). length s.method.insns) c.body.view_is
+    ap length c.in_ok-worklist.ensures.marks ∙ length-replicate c.len.result false ∙ c.len.ensures ∙ ap (λ (s : Scope). length s.method.insns) c.body.view_is

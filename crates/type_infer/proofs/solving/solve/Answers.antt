@@ -8,17 +8,17 @@ use Rattle.type_infer.proofs.solving.solve.Goals as goal
 
 pub loop-init : goal.loop-init
 loop-init c = record {
-  frames = c.in_ok-work.ensures.frames;
-  marks = c.in_ok-work.ensures.marks;
-  holds = λ above met. c.in_ok-work.ensures.holds c.args.limit above met;
+  frames = c.in_ok-worklist.ensures.frames;
+  marks = c.in_ok-worklist.ensures.marks;
+  holds = λ above met. c.in_ok-worklist.ensures.holds c.args.limit above met;
 }
 
 pub loop-preserved : goal.loop-preserved
 loop-preserved c =
     let scope = c.args.body.now in
     let at = c.in-Some.at in
-    let old = c.loop.work in
-    let new = c.look_at.new.work in
+    let old = c.loop.worklist in
+    let new = c.look_at.new.worklist in
     let look = c.in_ok-look_at.ensures in
     let is : c.next.new.self ≡ unmarked old at = c.in-Some.ensures.looked_at in
     let within : at < c.args.limit = c.in-Some.ensures.within in
@@ -38,6 +38,6 @@ returns-in_default-clause-solved c =
     if_ok c.into_list.result (λ (frames : Frames). frames ≡ c.into_frames.result.items) (IsSolved scope c.args.limit)
     (λ frames e above met.
     let laws = c.laws_hold.ensures scope.program met.ready.order in
-    let are : frames ≡ c.loop.work.frames = e ∙ c.into_frames.ensures ∙ ap (λ (s : State). s.frames) c.in_default.ensures.none in
-    subst (IsSolution scope c.args.limit above) (sym are) (solution scope laws c.args.limit above met c.loop.work (c.loop.invariant.holds above met) c.in_default.ensures.over))
+    let are : frames ≡ c.loop.worklist.frames = e ∙ c.into_frames.ensures ∙ ap (λ (s : State). s.frames) c.in_default.ensures.none in
+    subst (IsSolution scope c.args.limit above) (sym are) (solution scope laws c.args.limit above met c.loop.worklist (c.loop.invariant.holds above met) c.in_default.ensures.over))
     c.into_list.ensures.same

@@ -5,7 +5,7 @@ use Rattle.type_infer.proofs.solving.solve.Given as goal
 
 abbrev pub invariant-loop : goal.invariant-loop
 invariant-loop l = record {
-  frames : length l.work.frames ≡ length l.body.method.insns;
-  marks : length l.work.marks ≡ length l.body.method.insns;
-  holds : (above : Frames) → IsMetBy l.body l.limit above → Holds l.body l.limit above l.work;
+  frames : length l.worklist.frames ≡ length l.body.method.insns;
+  marks : length l.worklist.marks ≡ length l.body.method.insns;
+  holds : (above : Frames) → IsMetBy l.body l.limit above → Holds l.body l.limit above l.worklist;
 }

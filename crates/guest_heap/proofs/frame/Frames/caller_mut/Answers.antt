@@ -8,7 +8,7 @@ returns c =
     let count : c.len-place.result ≡ length c.self.inside.items.items = grind rules in (
       (refl, λ w. set_under c.self.inside.items.items c.args.self.now c.len-place.result w c.self.view_is count c.requires),
       record {
-        lends = tt;
+        borrows = tt;
         caller = grind (rules, get_under c.self.inside.items.items c.args.self.now c.len-place.result c.index_mut.result.now c.self.view_is count c.requires);
       },
     )

@@ -8,7 +8,7 @@ returns c =
     let count : c.len-last.result ≡ length c.self.inside.items.items = grind rules in (
       (refl, λ w. set_seen c.self.inside.items.items c.args.self.now c.len-last.result w c.self.view_is count c.requires),
       record {
-        lends = tt;
+        borrows = tt;
         top = grind (rules, get_seen c.self.inside.items.items c.args.self.now c.len-last.result c.index_mut.result.now c.self.view_is count c.requires);
       },
     )

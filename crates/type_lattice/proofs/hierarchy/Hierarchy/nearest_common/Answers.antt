@@ -4,7 +4,7 @@ use Rattle.std.specs.Prelude.{slice_get, option_copied, option_map}
 use Rattle.api_listing.specs.declared.types.ListedClass.{ListedClass}
 use Rattle.type_lattice.specs.Hierarchy.{nearest_common, parents_in}
 use Rattle.bytecode_model.specs.Places.{class_place}
-use Rattle.type_lattice.specs.Ways.{meeting}
+use Rattle.type_lattice.specs.SkipPointers.{meeting}
 use Rattle.type_lattice.proofs.OnNames.{place_within, common_is, none_common_first, none_common_second, name_at}
 use Rattle.type_lattice.proofs.hierarchy.Hierarchy.nearest_common.Goals as goal
 

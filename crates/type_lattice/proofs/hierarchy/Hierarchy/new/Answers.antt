@@ -1,6 +1,6 @@
 use Rattle.std.proofs.Common.{sym, subst, ap, ◌∙◌}
 use Rattle.type_lattice.specs.Hierarchy.{parents_in}
-use Rattle.type_lattice.specs.Ways.{AreParents}
+use Rattle.type_lattice.specs.SkipPointers.{AreParents}
 use Rattle.type_lattice.proofs.OnNames.{are_parents}
 use Rattle.type_lattice.proofs.hierarchy.Hierarchy.new.Goals as goal
 

@@ -1,5 +1,0 @@
-use Rattle.cert_format.proofs.FileLaws.{same_certificate}
-use Rattle.cert_format.proofs.encoding.one_spelling.Goals as goal
-
-pub returns-clause-certificate : goal.returns-clause-certificate
-returns-clause-certificate c = λ bytes vars one other spells_one spells_other. same_certificate bytes vars one other spells_one spells_other

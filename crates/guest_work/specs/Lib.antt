@@ -1,3 +1,0 @@
-pub mod Led
-pub mod Statics
-pub mod Works
