@@ -11,5 +11,6 @@ mod Initialisers
 mod Writing
 mod Sufficing
 mod Returned
-mod Ranges
+mod UpToDate
+mod Cyclic
 mod Growing

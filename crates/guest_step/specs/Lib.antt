@@ -4,4 +4,5 @@ pub mod InFrame
 pub mod Writing
 pub mod Start
 pub mod Fitting
+pub mod Living
 pub mod Rooms

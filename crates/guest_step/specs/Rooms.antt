@@ -16,6 +16,7 @@ use Rattle.guest_model.specs.declared.machine.Machine.{Machine}
 use Rattle.guest_model.specs.Answering.{given, method_takes}
 use Rattle.guest_model.specs.Changes.{World, rests, world_of}
 use Rattle.guest_model.specs.Seen.{bytes_shown}
+use Rattle.guest_step.specs.Living.{TakesThread, living_of}
 use Rattle.guest_step.specs.declared.rooms.Rooms.{Rooms}
 use Rattle.guest_threads.specs.Acts.{StandsLow}
 
@@ -124,12 +125,13 @@ abbrev pub machine_with : Machine → Option (Vec Object Global) → Machine
 machine_with machine None = machine
 machine_with machine (Some heap) = with_objects machine heap.items
 
--- What holds of a program that runs, whose heap may stand apart: its threads have numbers of 32 bits, one less while an answer is
--- waited for.
-pub record IsSound (program : Program) (machine : Machine) (apart : Option (Vec Object Global)) (longest : ℕ) : Type 0 where
+-- What holds of a program that runs, whose heap may stand apart: its threads have numbers of 32 bits, and those that live are on the
+-- list; while an answer is waited for, there is a number and a place for one more.
+pub record IsSound (program : Program) (machine : Machine) (numbers : Vec ℕ Global) (apart : Option (Vec Object Global)) (longest : ℕ) : Type 0 where
   pub names : longest ≡ longest_name program.listing.classes
   pub threads : length machine.threads < 2 ^ 32
-  pub waiting : IfSome apart (λ (heap : Vec Object Global). length machine.threads < 2 ^ 32 - 1)
+  pub living : numbers.items ≡ living_of machine.threads
+  pub waiting : IfSome apart (λ (heap : Vec Object Global). TakesThread (length machine.threads) numbers)
 
 -- It waits for the answer to the call of the thread with this number, and has memory for it.
 pub record WaitsFor (run : Run) (number : ℕ) : Type 0 where

@@ -1,15 +1,13 @@
 //! What is asked of a machine before a step is made. (docs/MACHINE.md)
 
 ghost use Rattle.std.specs.Option.{option_map_or};
-ghost use Rattle.std.specs.Prelude.{IfOk, List, false, find, length, slice_get, ◌+◌, ◌<◌, ◌^◌, ◌≡◌};
-ghost use Rattle.std.specs.List.{range_with_len};
+ghost use Rattle.std.specs.Prelude.{IfOk, List, false, slice_get, ◌≡◌};
 ghost use Rattle.guest_heap.specs.declared.thread.Doing.TheVariants as doings;
 ghost use Rattle.guest_heap.specs.declared.value.Value.{Value};
 ghost use Rattle.guest_heap.specs.declared.thread.Thread.{Thread};
 ghost use Rattle.guest_model.specs.Asking.{doing_takes, is_enabled, takes_answer};
 ghost use Rattle.guest_model.specs.Ending.{can_step};
 ghost use Rattle.guest_model.specs.LibraryCalls.{call_asked, call_of_doing};
-ghost use Rattle.guest_model.specs.Turns.{next_enabled};
 ghost use Rattle.guest_step.specs.Rooms.{with_objects};
 
 use crate::answering::is_on_null;
@@ -82,38 +80,6 @@ fn doing_takes(guest: &Guest, heap: &[Object], doing: &Doing, answer: &ApiAnswer
             !is_on_null(receiver) && fits_call(guest, heap, method, receiver, args, answer)
         }
     }
-}
-
-/// The first thread from this number on, cyclically, that can make a step. It takes no memory.
-pub fn next_enabled(guest: &Guest, machine: &Machine, first: u32) -> Option<u32>
-    requires { length machine.now.threads < 2 ^ 32 }
-    ensures { result ≡ next_enabled guest.now machine.now first }
-{
-    let count = machine.threads.len() as u32;
-    if first >= count {
-        return first_enabled(guest, machine, 0, count);
-    }
-    match first_enabled(guest, machine, first, count - first) {
-        Some(number) => Some(number),
-        None => first_enabled(guest, machine, 0, first),
-    }
-}
-
-/// The first of so many threads, from this number on, that can make a step.
-fn first_enabled(guest: &Guest, machine: &Machine, from: u32, count: u32) -> Option<u32>
-    requires { from + count < 2 ^ 32 }
-    ensures { result ≡ find (is_enabled guest.now machine.now) (range_with_len from count) }
-{
-    let mut number = from;
-    let mut left = count;
-    while left > 0 {
-        if enabled(guest, machine, number) {
-            return Some(number);
-        }
-        number += 1;
-        left -= 1;
-    }
-    None
 }
 
 /// The call to which the thread with this number waits for an answer, if it does.

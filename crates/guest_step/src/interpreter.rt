@@ -4,12 +4,13 @@ ghost use Rattle.std.specs.Prelude.{IfOk, None, ◌≡◌};
 ghost use Rattle.guest_model.specs.Ready.{IsReady};
 ghost use Rattle.guest_model.specs.Runs.{start_of};
 
-use crate::asking::{answer_fits_apart, call_asked, next_enabled};
-use crate::ending::ended;
+use crate::asking::{answer_fits_apart, call_asked};
+use crate::living::{add_living, bring_up_to_date, make_place_for_thread};
 use crate::making_room::{longest_name, make_place, make_rooms};
 use crate::rooms::Rooms;
 use crate::starting::start;
 use crate::stepping::{step, step_prepared};
+use crate::turns::{end_among, next_enabled};
 use api_listing::{ApiAnswer, ApiCall, Event};
 use bytecode_model::Program;
 use guest_heap::Object;
@@ -20,14 +21,14 @@ use std::alloc::Global;
 use std::marker::Model;
 use type_lattice::Indexed;
 
-/// More threads than any memory has: their numbers have 32 bits.
-const MOST_THREADS: usize = 4294967295;
-
-/// A linked program that runs. A contract sees the program, the machine, and what is there for an answer.
+/// A linked program that runs. A contract sees the program, the machine, and what is there for an answer. Threads that have ended
+/// cost no time: whose turn it is and how the run ended are sought among those that live.
 #[derive(Drop)]
 pub struct Interpreter {
     guest: Guest,
     machine: Machine,
+    /// The numbers of the threads that live, ascending.
+    living: Vec<u32>,
     /// The objects of the machine, and a place for one more, while an answer is waited for.
     apart: Option<Vec<Object>>,
     rooms: Rooms,
@@ -42,7 +43,7 @@ impl Model for Interpreter {
 
     ghost view = { λ i. record { program = i.guest; machine = machine_with i.machine i.apart; apart = i.apart; rooms = i.rooms } };
 
-    ghost invariant = { λ i. IsSound i.guest i.machine i.apart i.longest };
+    ghost invariant = { λ i. IsSound i.guest i.machine i.living i.apart i.longest };
 }
 
 impl Interpreter {
@@ -55,10 +56,14 @@ impl Interpreter {
     {
         let guest = Guest::new(alloc, program)?;
         let machine = start(alloc, &guest)?;
+        let mut living = Vec::new(alloc);
+        make_place_for_thread(&mut living, 0)?;
+        add_living(&mut living, machine.threads.as_slice(), 0);
         let longest = longest_name(guest.program().listing.classes.as_slice());
         Ok(Interpreter {
             guest,
             machine,
+            living,
             apart: None,
             rooms: Rooms::new(alloc),
             longest,
@@ -83,11 +88,11 @@ impl Execution for Interpreter {
     }
 
     fn next_enabled(&self, first: u32) -> Option<u32> {
-        next_enabled(&self.guest, &self.machine, first)
+        next_enabled(&self.guest, &self.machine, self.living.as_slice(), first)
     }
 
     fn ended(&self) -> Option<End> {
-        ended(&self.guest, &self.machine)
+        end_among(&self.guest, &self.machine, self.living.as_slice())
     }
 
     fn call_asked(&self, alloc: Global, thread: u32) -> Result<Option<ApiCall>, NoMemory> {
@@ -96,24 +101,24 @@ impl Execution for Interpreter {
 
     fn go(&mut self, alloc: Global, thread: u32) -> Result<Option<Event>, NoMemory> {
         steps_add_one();
-        if self.machine.threads.len() >= MOST_THREADS {
-            return Err(NoMemory);
-        }
+        let count = self.machine.threads.len();
+        make_place_for_thread(&mut self.living, count)?;
         let next = Step {
             thread,
             choice: Choice::Plain,
         };
         match step(alloc, &self.guest, &mut self.machine, &next) {
-            Ok(event) => Ok(event),
+            Ok(event) => {
+                bring_up_to_date(&mut self.living, &self.machine, thread, count);
+                Ok(event)
+            }
             Err(StepFault::Memory) => Err(NoMemory),
             Err(StepFault::NotEnabled) => unreachable!(),
         }
     }
 
     fn prepare(&mut self, alloc: Global, thread: u32) -> Result<(), NoMemory> {
-        if self.machine.threads.len() >= MOST_THREADS {
-            return Err(NoMemory);
-        }
+        make_place_for_thread(&mut self.living, self.machine.threads.len())?;
         make_rooms(
             alloc,
             &self.guest,
@@ -153,6 +158,7 @@ impl Execution for Interpreter {
         let Some(mut heap) = self.apart.take() else {
             unreachable!();
         };
+        let count = self.machine.threads.len();
         let rooms = &mut self.rooms;
         let made = step_prepared(
             alloc,
@@ -165,7 +171,10 @@ impl Execution for Interpreter {
         );
         self.machine.heap = List::from_vec(heap);
         match made {
-            Ok(event) => event,
+            Ok(event) => {
+                bring_up_to_date(&mut self.living, &self.machine, thread, count);
+                event
+            }
             Err(_) => unreachable!(),
         }
     }

@@ -12,6 +12,7 @@ mod calling;
 mod ending;
 mod fitting;
 mod interpreter;
+mod living;
 mod making_room;
 mod operate;
 mod operations;
@@ -20,6 +21,7 @@ mod running;
 mod starting;
 mod stepping;
 mod steps;
+mod turns;
 mod waiting;
 
 pub use interpreter::Interpreter;

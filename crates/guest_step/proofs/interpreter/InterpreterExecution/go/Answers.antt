@@ -1,16 +1,25 @@
 use Rattle.std.proofs.Common.{◌≡◌, None, ap, sym, ◌∙◌, arith}
 use Rattle.guest_model.specs.declared.machine.Choice.TheVariants as choices
+use Rattle.guest_model.specs.declared.machine.Step.{Step}
 use Rattle.guest_step.specs.Rooms.{Run}
 use Rattle.guest_step.proofs.Growing.{not_apart, threads_after}
+use Rattle.guest_step.proofs.UpToDate.{brought_up_to_date}
 use Rattle.guest_step.proofs.interpreter.InterpreterExecution.go.Goals as goal
 
-pub invariant_of-self : goal.invariant_of-self
-invariant_of-self c =
+pub invariant_of-self-in-Ok : goal.invariant_of-self-in-Ok
+invariant_of-self-in-Ok c =
     let none : c.self.inside.apart ≡ None = ap (λ (r : Run). r.apart) c.self.view_is ∙ c.requires.ready in
-    let grown =
-    threads_after c.steps_add_one.ensures.one c.self.inside.guest c.self.inside.machine c.step.new.machine (record { thread = c.args.thread; choice = choices.Plain }) c.step.result
-    c.step.ensures.did in
-    record { names = c.self.invariant.names; threads = omega arith; waiting = not_apart _ c.self.inside.apart none }
+    let next : Step = record { thread = c.args.thread; choice = choices.Plain } in
+    let grown = threads_after c.steps_add_one.ensures.one c.self.inside.guest c.self.inside.machine c.step.new.machine next c.step.result c.step.ensures.did in
+    let few = c.in_ok-make_place_for_thread.ensures.one.few in
+    record {
+      names = c.self.invariant.names;
+      threads = omega arith;
+      living =
+          brought_up_to_date c.self.inside.guest c.self.inside.machine c.step.new.machine next c.in-Ok.event c.len-count.result c.make_place_for_thread.new.living.items
+          c.bring_up_to_date.new.living.items c.in-Ok.ensures.did (c.in_ok-make_place_for_thread.ensures.same ∙ c.self.invariant.living) c.len-count.ensures c.bring_up_to_date.ensures;
+      waiting = not_apart _ c.self.inside.apart none;
+    }
 
 pub returns-in-Ok-clause-made : goal.returns-in-Ok-clause-made
 returns-in-Ok-clause-made c =
