@@ -1,12 +1,13 @@
 -- The answer that a call gets where no device stands for the library: by the type of the method's result. (docs/RUNS.md)
-use Rattle.std.specs.Prelude.{ℕ, pos, ◌==◌, ◌&&◌, ◌||◌, Bool, List, [], ◌∷◌, Option, Some, None, bytes_eq, codes, if◌then◌else◌}
+use Rattle.std.specs.Prelude.{◌≡◌, ℕ, pos, ◌==◌, ◌&&◌, ◌||◌, Bool, List, [], ◌∷◌, Option, Some, None, bytes_eq, codes, if◌then◌else◌}
 use Rattle.api_listing.specs.declared.descriptor.Element.{Element}
 use Rattle.api_listing.specs.declared.descriptor.Element.TheVariants.{Boolean, Byte, Char, Short, Int, Class}
 use Rattle.api_listing.specs.declared.descriptor.FieldType.{FieldType}
+use Rattle.api_listing.specs.declared.descriptor.MethodType.{MethodType}
 use Rattle.api_listing.specs.declared.events.ApiAnswer.{ApiAnswer}
 use Rattle.api_listing.specs.declared.events.ApiAnswer.TheVariants as answers
 use Rattle.api_listing.specs.declared.events.ApiCall.{ApiCall}
-use Rattle.api_listing.specs.Descriptor.{class_described}
+use Rattle.api_listing.specs.Descriptor.{EncodesDescriptor, class_described}
 
 -- ---- by the type of the result
 
@@ -56,3 +57,9 @@ plain_encoded call text =
 -- The plain answer to any call. A result that is no type counts as one of a class that is not named.
 abbrev pub plain_answer : ApiCall → ApiAnswer
 plain_answer call = plain_encoded call (result_text call.method.desc)
+
+-- ---- what it is
+
+-- The type that the descriptor encodes for the result decides it.
+abbrev pub PlainIsByType : Type 0
+PlainIsByType = (call : ApiCall) (types : MethodType) → EncodesDescriptor call.method.desc types → plain_answer call ≡ plain_for call types.result

@@ -1,6 +1,7 @@
 //! What the definitions come to.
 
 ghost use Rattle.std.specs.Prelude.{◌≡◌, ◌∷◌, [], Some, IfOk, ℕ, List};
+ghost use Rattle.api_shelf.specs.Plain.{PlainIsByType};
 ghost use Rattle.api_shelf.specs.Shelf.{View, AllTell, AllAreSilent, pairs_of};
 ghost use Rattle.api_shelf.specs.Telling.{Log};
 
@@ -32,4 +33,9 @@ pub fn devices_tell()
         → AllTell pairs (record { class = class; told = Some first; faults = faults }
         ∷ record { class = class; told = Some log; faults = more } ∷ [])
         → log ≡ [] }
+{}
+
+/// The plain answer is decided by the type that the method's descriptor encodes for its result.
+pub fn plain_answers_are_by_type()
+    ensures { PlainIsByType }
 {}

@@ -25,7 +25,7 @@ pub use console::Console;
 pub use copying::{copy_answer, copy_call};
 pub use device::{ApiDevice, DeviceFault};
 pub use fused::Fused;
-pub use laws::{ask_twice, devices_tell};
+pub use laws::{ask_twice, devices_tell, plain_answers_are_by_type};
 pub use plain::plain_answer;
 pub use scripted::Scripted;
 pub use shelf::{Shelf, Slot, SlotOf};

@@ -1,8 +1,7 @@
 -- What asking a device makes of the facts of a book.
-use Rattle.std.proofs.Common.{◌≡◌, ◌≢◌, ℕ, zero, suc, Bool, cond, ◌+◌, ◌-◌, ◌<◌, ◌≤◌, ◌^◌, length, true, false, eqb, List, [], ◌∷◌, ◌++◌, Option, Some, None, refl, sym, ap, subst, ◌∙◌, arith, slice_index_or, inl, inr, ◌⊎◌}
+use Rattle.std.proofs.Common.{◌≡◌, ◌≢◌, ℕ, zero, suc, Bool, cond, ◌+◌, ◌<◌, ◌≤◌, length, true, false, eqb, List, [], ◌∷◌, ◌++◌, Option, Some, None, refl, sym, ap, subst, ◌∙◌, arith, slice_index_or, inl, inr, ◌⊎◌}
 use Rattle.std.specs.Prelude.{slice_get, map, option_map, bytes_eq, take, IsSome}
 use Rattle.std.specs.List.{position_from}
-use Rattle.std.specs.Option.{option_map_or}
 use Rattle.std.proofs.lemmas.Bool.Decides.{eqb_tells}
 use Rattle.std.proofs.lemmas.Option.{none-some, same_Some, slice_get-map, slice_get-get_or}
 use Rattle.mon_store.specs.Store.{Rose}
@@ -47,7 +46,7 @@ position_from-map : {X Y : Type 0} (v : X → Y) (t : Y → Bool) (i : ℕ) (xs 
 position_from-map v t i [] = refl
 position_from-map v t i (x ∷ xs) = ap (cond (t (v x)) (Some i)) (position_from-map v t (i + 1) xs)
 
-first_by_classes : (class : List ℕ) (old new : List View) → map class_of new ≡ map class_of old → first_of class new ≡ first_of class old
+pub first_by_classes : (class : List ℕ) (old new : List View) → map class_of new ≡ map class_of old → first_of class new ≡ first_of class old
 first_by_classes class old new same =
     sym (position_from-map class_of (λ (c : List ℕ). bytes_eq c class) 0 new)
     ∙ ap (λ (cs : List (List ℕ)). position_from (λ (c : List ℕ). bytes_eq c class) 0 cs) same

@@ -1,4 +1,6 @@
+mod Asked
 mod Devices
 mod Keeping
 mod Lines
 mod Traces
+mod Turning

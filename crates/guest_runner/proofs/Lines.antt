@@ -1,8 +1,6 @@
 -- What one line more makes of a run.
-use Rattle.std.proofs.Common.{◌≡◌, ◌≢◌, ℕ, suc, ◌+◌, ◌<◌, ◌≤◌, length, List, [], ◌∷◌, ◌++◌, Option, Some, None, refl, sym, ap, subst, ◌∙◌, arith, inl, inr, ◌⊎◌}
-use Rattle.std.specs.Prelude.{map}
-use Rattle.std.specs.Option.{option_map_or, option_to_list}
-use Rattle.std.specs.List.{filter_map}
+use Rattle.std.proofs.Common.{◌≡◌, List, [], ◌∷◌, ◌++◌, Option, Some, refl, sym, ap, subst, ◌∙◌}
+use Rattle.std.specs.Option.{option_map_or}
 use Rattle.std.proofs.lemmas.List.{append-nil, append_assoc}
 use Rattle.api_listing.specs.declared.events.Event.{Event}
 use Rattle.api_shelf.specs.Telling.{Log}
@@ -10,7 +8,7 @@ use Rattle.bytecode_model.specs.declared.program.Program.{Program}
 use Rattle.guest_model.specs.declared.machine.Machine.{Machine}
 use Rattle.guest_model.specs.declared.machine.Step.{Step}
 use Rattle.guest_model.specs.LibraryCalls.{answered_by, answered_from}
-use Rattle.guest_model.specs.Runs.{exec_from, seen, stepped_or_same, trace_from}
+use Rattle.guest_model.specs.Runs.{exec_from, stepped_or_same}
 use Rattle.guest_model.specs.Stepping.{stepped}
 use Rattle.event_record.specs.declared.writing.Line.{Line}
 use Rattle.event_record.specs.RunLines.{AreLinesFrom}

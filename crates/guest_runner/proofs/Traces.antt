@@ -8,9 +8,9 @@ use Rattle.event_record.specs.declared.writing.Line.{Line}
 use Rattle.event_record.specs.RunLines.{AreLinesFrom}
 use Rattle.guest_model.specs.declared.machine.Machine.{Machine}
 use Rattle.guest_model.specs.Changes.{Change, applied}
-use Rattle.guest_model.specs.Enabled.{IsEnabled, StepsAreEnabled}
+use Rattle.guest_model.specs.Enabled.{StepsAreEnabled}
 use Rattle.guest_model.specs.Runs.{seen, start_of, stepped_or_same, trace_from}
-use Rattle.guest_model.specs.Stepping.{changed, stepped}
+use Rattle.guest_model.specs.Stepping.{changed}
 use Rattle.guest_model.proofs.Options.{map_of}
 use Rattle.guest_runner.specs.Book.{steps_of}
 use Rattle.guest_runner.specs.Runs.{AreEnabled, RunsAreTraces}

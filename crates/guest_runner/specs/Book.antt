@@ -1,9 +1,6 @@
 -- What the book of a run keeps. (docs/RUNS.md)
-use Rattle.std.specs.Prelude.{◌≡◌, ◌≤◌, ◌⊎◌, ◌++◌, ◌∷◌, ℕ, false, List, [], length, map, slice_get, Option, None, Some, IsSome}
+use Rattle.std.specs.Prelude.{◌≡◌, ◌≤◌, ◌++◌, ◌∷◌, ℕ, false, List, [], length, map, slice_get, Option, None, Some, IsSome}
 use Rattle.mon_store.specs.Store.{Rose}
-use Rattle.api_listing.specs.declared.events.ApiAnswer.{ApiAnswer}
-use Rattle.api_listing.specs.declared.events.ApiCall.{ApiCall}
-use Rattle.api_shelf.specs.Plain.{plain_answer}
 use Rattle.api_shelf.specs.Shelf.{AllTell, View, first_of, views}
 use Rattle.api_shelf.specs.Telling.{Log}
 use Rattle.bytecode_model.specs.declared.program.Program.{Program}
@@ -18,6 +15,7 @@ use Rattle.event_record.specs.RunLines.{AreLinesOf}
 use Rattle.guest_runner.specs.declared.book.DeviceStop.{DeviceStop}
 use Rattle.guest_runner.specs.declared.book.DeviceStop.TheVariants as stops
 use Rattle.guest_runner.specs.declared.book.RunBook.{RunBook}
+use Rattle.guest_runner.specs.PlainAnswers.{PlainAnswersFit}
 
 -- ---- what is seen of a book
 
@@ -88,18 +86,15 @@ pub record HasFailed (slots : List View) (counts : List ℕ) (class : List ℕ) 
   pub made : slice_get counts place ≡ Some before
   pub rose : Rose before slot.faults
 
--- The call was answered by a device of its class; or there is none, and this is the plain answer.
-abbrev pub IsAnswerOf : List View → ApiCall → ApiAnswer → Type 0
-IsAnswerOf slots call answer = IsSome (first_of call.method.class slots) ⊎ (answer ≡ plain_answer call)
-
--- The kept call is the one to which the kept thread waits for an answer; and its device failed, or the kept answer does not fit.
+-- The kept call is the one to which the kept thread waits for an answer, and its class has a device; and this failed, or the kept
+-- answer does not fit.
 abbrev pub IsStopOf : RunView → Option DeviceStop → Type 0
 IsStopOf book None = Unit {0}
 IsStopOf book (Some (stops.Failed thread call)) =
     (call_asked book.program book.machine thread ≡ Some call) × HasFailed book.slots book.counts call.method.class
 IsStopOf book (Some (stops.Kind thread call answer)) =
     (call_asked book.program book.machine thread ≡ Some call) × (takes_answer book.program book.machine thread answer ≡ false)
-    × IsAnswerOf book.slots call answer
+    × IsSome (first_of call.method.class book.slots)
 
 -- ---- the book
 
@@ -115,6 +110,7 @@ pub record CountsStand (counts : List ℕ) (slots : List View) : Type 0 where
 -- the first device tells what it answered to these steps, and then `more`, and no other device tells anything.
 pub record Keeps (more : Log) (book : RunView) : Type 0 where
   pub makes : MakesWhatIsEnabled book.program
+  pub plain : PlainAnswersFit book.program
   pub machine : book.machine ≡ exec book.program (steps_of book.lines)
   pub lines : AreLinesOf book.program book.lines
   pub within : length book.lines ≤ book.budget

@@ -1,5 +1,5 @@
 -- How a run by worker threads ends. (docs/RUNS.md)
-use Rattle.std.specs.Prelude.{◌≡◌, ℕ, List, length, Option, None, Some, IsSome, Result, Ok, Err}
+use Rattle.std.specs.Prelude.{◌≡◌, length, Option, None, Some, IsSome, Result, Ok, Err}
 use Rattle.event_record.specs.declared.writing.EndLine.{EndLine}
 use Rattle.event_record.specs.declared.writing.EndLine.TheVariants as lines
 use Rattle.guest_model.specs.declared.machine.End.{End}

@@ -1,13 +1,17 @@
 //! The book of a run.
 
-ghost use Rattle.std.specs.Prelude.{◌≡◌, ◌≤◌, ◌<◌, ◌∷◌, [], true, length, map, vec_len, vec_capacity, None, Some, IfOk, OnErr};
-ghost use Rattle.api_shelf.specs.Shelf.{AllAreSilent, IsLater, views};
-ghost use Rattle.guest_model.specs.Asking.{is_enabled};
-ghost use Rattle.guest_model.specs.LibraryCalls.{call_asked};
+ghost use Rattle.std.specs.Prelude.{◌≡◌, ◌≤◌, ◌<◌, ◌∷◌, [], true, length, map, vec_len, vec_capacity, None, Some, IsSome, IfOk, OnErr};
+ghost use Rattle.api_listing.specs.declared.events.ApiAnswer.{ApiAnswer};
+ghost use Rattle.api_shelf.specs.Shelf.{AllAreSilent, IsLater, first_of, views};
+ghost use Rattle.guest_model.specs.declared.machine.Choice.TheVariants as choices;
+ghost use Rattle.guest_model.specs.Asking.{is_enabled, takes_answer};
+ghost use Rattle.guest_model.specs.LibraryCalls.{answered_by, call_asked};
 ghost use Rattle.guest_model.specs.Runs.{start_of};
 ghost use Rattle.guest_model.specs.Turns.{MakesWhatIsEnabled};
-ghost use Rattle.guest_runner.specs.Advancing.{Advances, IsUnchanged, Turned};
-ghost use Rattle.guest_runner.specs.Book.{IsAnswerOf, IsRun, Keeps, book_view, identity, new_book};
+ghost use Rattle.guest_runner.specs.Advancing.{Advances, AnswersPlainly, Came, HasStepped, IsUnchanged, Turned};
+ghost use Rattle.guest_runner.specs.Asking.{Awaits, HasAsked};
+ghost use Rattle.guest_runner.specs.Book.{HasFailed, IsRun, Keeps, book_view, identity, new_book};
+ghost use Rattle.guest_runner.specs.PlainAnswers.{PlainAnswersFit, plain_or_null};
 ghost use Rattle.guest_runner.specs.Running.{HasEnded, end_line};
 
 use api_listing::{ApiAnswer, ApiCall};
@@ -47,6 +51,17 @@ pub enum Advance {
     Device,
 }
 
+/// What came of some turns.
+#[derive(Clone, Copy)]
+pub enum Turns {
+    /// Each made a step.
+    Made,
+    /// The book takes no more steps: the run has ended, it has as many as it may have, or a device stopped it.
+    Over,
+    /// Memory ran out.
+    Memory,
+}
+
 /// The steps of a program that runs, so far, with what the library saw of each, and the devices that answered.
 #[derive(Drop)]
 pub struct RunBook<E, D> {
@@ -70,6 +85,7 @@ impl<E: Execution, D: ApiDevice> RunBook<E, D> {
         requires ready { E.is_ready execution }
         requires start { E.machine execution ≡ start_of (E.program execution) }
         requires makes { MakesWhatIsEnabled (E.program execution) }
+        requires plain { PlainAnswersFit (E.program execution) }
         requires silent { AllAreSilent (views D.told D.faults slots.items) }
         requires budget { budget ≤ 1000000000 }
         ensures run { IfOk result (λ book. IsRun (book_view E.program E.machine D.told D.faults book)) }
@@ -118,25 +134,26 @@ impl<E: Execution, D: ApiDevice> RunBook<E, D> {
         self.turn(alloc, thread)
     }
 
-    /// Makes at most so many steps, the first of the first thread from this number on, and the others by turns. Whether there may be more.
-    pub fn advance_some(&mut self, alloc: Global, first: u32, steps: u32) -> bool
+    /// Makes so many steps, the first of the first thread from this number on, and the others by turns; or as many as there may be.
+    pub fn advance_some(&mut self, alloc: Global, first: u32, steps: u32) -> Turns
         requires run { IsRun (book_view E.program E.machine D.told D.faults self.old) }
         requires ready { E.is_ready self.old.execution }
         ensures run { IsRun (book_view E.program E.machine D.told D.faults self.new) }
         ensures ready { E.is_ready self.new.execution }
+        ensures came { Came steps (book_view E.program E.machine D.told D.faults self.old)
+            (book_view E.program E.machine D.told D.faults self.new) result }
         ensures same { identity (book_view E.program E.machine D.told D.faults self.new)
             ≡ identity (book_view E.program E.machine D.told D.faults self.old) }
     {
         let mut next = first;
-        for _ in 0..steps {
+        for _turn in 0..steps {
             match self.advance(alloc, next) {
                 Ok(Advance::Stepped) => next = self.next_turn(),
-                Ok(Advance::Ended(_) | Advance::Budget | Advance::Device) | Err(NoMemory) => {
-                    return false;
-                }
+                Ok(Advance::Ended(_) | Advance::Budget | Advance::Device) => return Turns::Over,
+                Err(NoMemory) => return Turns::Memory,
             }
         }
-        true
+        Turns::Made
     }
 
     /// Makes steps until the book takes no more, and answers how it ended, or nothing where a device stopped it.
@@ -224,9 +241,7 @@ impl<E: Execution, D: ApiDevice> RunBook<E, D> {
     fn ask(&mut self, alloc: Global, thread: u32, call: ApiCall) -> Result<Advance, NoMemory>
         requires run { IsRun (book_view E.program E.machine D.told D.faults self.old) }
         requires ready { E.is_ready self.old.execution }
-        requires unstopped { self.old.stop ≡ None }
-        requires room { length self.old.lines.items < self.old.budget }
-        requires asked { call_asked (E.program self.old.execution) (E.machine self.old.execution) thread ≡ Some call }
+        requires awaits { Awaits thread call (book_view E.program E.machine D.told D.faults self.old) }
         ensures run { IsRun (book_view E.program E.machine D.told D.faults self.new) }
         ensures ready { E.is_ready self.new.execution }
         ensures made { IfOk result (λ answer. Turned thread (book_view E.program E.machine D.told D.faults self.old)
@@ -239,33 +254,40 @@ impl<E: Execution, D: ApiDevice> RunBook<E, D> {
     {
         self.lines.reserve(1)?;
         self.execution.prepare(alloc, thread)?;
-        match ask_first(self.slots.as_mut_slice(), &call) {
-            Asked::Nobody => {
-                let answer = plain_answer(alloc, &call);
-                Ok(self.answered(alloc, thread, call, answer))
-            }
-            Asked::Answered(answer) => Ok(self.answered(alloc, thread, call, answer)),
+        match self.ask_device(thread, &call) {
+            Asked::Nobody => Ok(self.answer_plainly(alloc, thread, call)),
+            Asked::Answered(answer) => Ok(self.answer(alloc, thread, call, answer)),
             Asked::Refused(DeviceFault::Memory) => {
                 self.execution.release(thread);
                 Err(NoMemory)
             }
-            Asked::Refused(DeviceFault::Failed) => {
-                self.execution.release(thread);
-                self.stop = Some(DeviceStop::Failed { thread, call });
-                Ok(Advance::Device)
-            }
+            Asked::Refused(DeviceFault::Failed) => Ok(self.fail(thread, call)),
         }
     }
 
-    /// The thread takes this answer to its call, if it fits.
-    fn answered(&mut self, alloc: Global, thread: u32, call: ApiCall, answer: ApiAnswer) -> Advance
-        requires keeps { Keeps ((call, answer) ∷ []) (book_view E.program E.machine D.told D.faults self.old) }
-        requires unstopped { self.old.stop ≡ None }
-        requires room { length self.old.lines.items < self.old.budget }
+    /// Asks the first device of the class for the answer to this call of the thread, if there is one.
+    fn ask_device(&mut self, thread: u32, call: &ApiCall) -> Asked
+        requires run { IsRun (book_view E.program E.machine D.told D.faults self.old) }
+        requires awaits { Awaits thread call.now (book_view E.program E.machine D.told D.faults self.old) }
         requires spare { vec_len self.old.lines < vec_capacity self.old.lines }
         requires prepared { E.is_prepared self.old.execution thread }
-        requires asked { call_asked (E.program self.old.execution) (E.machine self.old.execution) thread ≡ Some call }
-        requires answers { IsAnswerOf (views D.told D.faults self.old.slots.items) call answer }
+        ensures asked { HasAsked call.now result (book_view E.program E.machine D.told D.faults self.old)
+            (book_view E.program E.machine D.told D.faults self.new) }
+        ensures awaits { Awaits thread call.now (book_view E.program E.machine D.told D.faults self.new) }
+        ensures spare { vec_len self.new.lines < vec_capacity self.new.lines }
+        ensures prepared { E.is_prepared self.new.execution thread }
+        ensures same { identity (book_view E.program E.machine D.told D.faults self.new)
+            ≡ identity (book_view E.program E.machine D.told D.faults self.old) }
+    {
+        ask_first(self.slots.as_mut_slice(), call)
+    }
+
+    /// The thread takes the plain answer to its call, whose class has no device.
+    fn answer_plainly(&mut self, alloc: Global, thread: u32, call: ApiCall) -> Advance
+        requires keeps { (given : ApiAnswer) → Keeps ((call, given) ∷ []) (book_view E.program E.machine D.told D.faults self.old) }
+        requires awaits { Awaits thread call (book_view E.program E.machine D.told D.faults self.old) }
+        requires spare { vec_len self.old.lines < vec_capacity self.old.lines }
+        requires prepared { E.is_prepared self.old.execution thread }
         ensures run { IsRun (book_view E.program E.machine D.told D.faults self.new) }
         ensures ready { E.is_ready self.new.execution }
         ensures made { Turned thread (book_view E.program E.machine D.told D.faults self.old)
@@ -274,7 +296,38 @@ impl<E: Execution, D: ApiDevice> RunBook<E, D> {
             ≡ identity (book_view E.program E.machine D.told D.faults self.old) }
         ensures slots { self.new.slots ≡ self.old.slots }
     {
-        asks_what_the_rules_say();
+        let answer = self.plain_or_null(alloc, thread, &call);
+        self.take(alloc, thread, answer);
+        Advance::Stepped
+    }
+
+    /// The plain answer to this call, or null where that does not fit.
+    fn plain_or_null(&self, alloc: Global, thread: u32, call: &ApiCall) -> ApiAnswer
+        requires prepared { E.is_prepared self.now.execution thread }
+        ensures { result ≡ plain_or_null (E.program self.now.execution) (E.machine self.now.execution) thread call.now }
+    {
+        let answer = plain_answer(alloc, call);
+        if self.execution.answer_fits(thread, &answer) {
+            return answer;
+        }
+        ApiAnswer::Null
+    }
+
+    /// The thread takes this answer of a device to its call, if it fits.
+    fn answer(&mut self, alloc: Global, thread: u32, call: ApiCall, answer: ApiAnswer) -> Advance
+        requires keeps { Keeps ((call, answer) ∷ []) (book_view E.program E.machine D.told D.faults self.old) }
+        requires somebody { IsSome (first_of call.method.class (views D.told D.faults self.old.slots.items)) }
+        requires awaits { Awaits thread call (book_view E.program E.machine D.told D.faults self.old) }
+        requires spare { vec_len self.old.lines < vec_capacity self.old.lines }
+        requires prepared { E.is_prepared self.old.execution thread }
+        ensures run { IsRun (book_view E.program E.machine D.told D.faults self.new) }
+        ensures ready { E.is_ready self.new.execution }
+        ensures made { Turned thread (book_view E.program E.machine D.told D.faults self.old)
+            (book_view E.program E.machine D.told D.faults self.new) result }
+        ensures same { identity (book_view E.program E.machine D.told D.faults self.new)
+            ≡ identity (book_view E.program E.machine D.told D.faults self.old) }
+        ensures slots { self.new.slots ≡ self.old.slots }
+    {
         if !self.execution.answer_fits(thread, &answer) {
             self.execution.release(thread);
             self.stop = Some(DeviceStop::Kind {
@@ -284,13 +337,55 @@ impl<E: Execution, D: ApiDevice> RunBook<E, D> {
             });
             return Advance::Device;
         }
+        self.take(alloc, thread, answer);
+        Advance::Stepped
+    }
+
+    /// The thread takes this answer, which fits its call.
+    fn take(&mut self, alloc: Global, thread: u32, answer: ApiAnswer)
+        requires keeps { Keeps (answered_by (E.program self.old.execution) (E.machine self.old.execution) thread (choices.Answer answer))
+            (book_view E.program E.machine D.told D.faults self.old) }
+        requires unstopped { self.old.stop ≡ None }
+        requires room { length self.old.lines.items < self.old.budget }
+        requires spare { vec_len self.old.lines < vec_capacity self.old.lines }
+        requires prepared { E.is_prepared self.old.execution thread }
+        requires fits { takes_answer (E.program self.old.execution) (E.machine self.old.execution) thread answer ≡ true }
+        requires plain { AnswersPlainly (book_view E.program E.machine D.told D.faults self.old)
+            (record { thread = thread; choice = choices.Answer answer }) }
+        ensures run { IsRun (book_view E.program E.machine D.told D.faults self.new) }
+        ensures ready { E.is_ready self.new.execution }
+        ensures made { HasStepped thread (book_view E.program E.machine D.told D.faults self.old)
+            (book_view E.program E.machine D.told D.faults self.new) }
+        ensures same { identity (book_view E.program E.machine D.told D.faults self.new)
+            ≡ identity (book_view E.program E.machine D.told D.faults self.old) }
+        ensures slots { self.new.slots ≡ self.old.slots }
+    {
+        asks_what_the_rules_say();
         let event = self.execution.take(alloc, thread, &answer);
         let step = Step {
             thread,
             choice: Choice::Answer(answer),
         };
         self.lines.push(Line { step, event }).unwrap();
-        Advance::Stepped
+    }
+
+    /// The device failed that was asked for the answer to this call of the thread.
+    fn fail(&mut self, thread: u32, call: ApiCall) -> Advance
+        requires keeps { Keeps [] (book_view E.program E.machine D.told D.faults self.old) }
+        requires awaits { Awaits thread call (book_view E.program E.machine D.told D.faults self.old) }
+        requires prepared { E.is_prepared self.old.execution thread }
+        requires failed { HasFailed (views D.told D.faults self.old.slots.items) self.old.counts call.method.class }
+        ensures run { IsRun (book_view E.program E.machine D.told D.faults self.new) }
+        ensures ready { E.is_ready self.new.execution }
+        ensures made { Turned thread (book_view E.program E.machine D.told D.faults self.old)
+            (book_view E.program E.machine D.told D.faults self.new) result }
+        ensures same { identity (book_view E.program E.machine D.told D.faults self.new)
+            ≡ identity (book_view E.program E.machine D.told D.faults self.old) }
+        ensures slots { self.new.slots ≡ self.old.slots }
+    {
+        self.execution.release(thread);
+        self.stop = Some(DeviceStop::Failed { thread, call });
+        Advance::Device
     }
 
     /// The steps so far, each with what the library saw of it. It takes no memory.

@@ -11,7 +11,7 @@ mod laws;
 mod locked;
 mod running;
 
-pub use book::{Advance, DeviceStop, RunBook};
+pub use book::{Advance, DeviceStop, RunBook, Turns};
 pub use gate::{FreeGate, Gate};
 pub use laws::runs_are_traces;
 pub use running::{RunStop, run};

@@ -1,10 +1,11 @@
 //! The book under the lock of its workers.
 
 ghost use Rattle.std.specs.Prelude.{◌≡◌};
+ghost use Rattle.guest_runner.specs.Advancing.{Came};
 ghost use Rattle.guest_runner.specs.Book.{book_view};
 ghost use Rattle.guest_runner.specs.Running.{IsRunOf};
 
-use crate::book::RunBook;
+use crate::book::{RunBook, Turns};
 use api_shelf::ApiDevice;
 use guest_model::Execution;
 use std::alloc::Global;
@@ -91,10 +92,12 @@ impl<E: Execution, D: ApiDevice, L: Naming<D>> Locked<E, D, L> {
         book
     }
 
-    /// Makes some steps, the first of the thread with the worker's number where it can; and says whether there may be more.
-    pub fn hold(&mut self, alloc: Global, worker: u32) -> bool
+    /// Makes 64 steps, the first of the thread with the worker's number where it can; or as many as there may be.
+    pub fn hold(&mut self, alloc: Global, worker: u32) -> Turns
         requires told { L.told ≡ D.told }
         requires faults { L.faults ≡ D.faults }
+        ensures came { Came 64 (book_view E.program E.machine D.told D.faults self.old)
+            (book_view E.program E.machine D.told D.faults self.new) result }
     {
         self.book.advance_some(alloc, worker, STEPS)
     }

@@ -5,9 +5,10 @@ ghost use Rattle.api_shelf.specs.Shelf.{AllAreSilent, views};
 ghost use Rattle.guest_model.specs.Runs.{start_of};
 ghost use Rattle.guest_model.specs.Turns.{MakesWhatIsEnabled};
 ghost use Rattle.guest_runner.specs.Book.{IsRun, book_view, identity, new_book};
+ghost use Rattle.guest_runner.specs.PlainAnswers.{PlainAnswersFit};
 ghost use Rattle.guest_runner.specs.Running.{Gives, IsRunOf, end_line};
 
-use crate::book::RunBook;
+use crate::book::{RunBook, Turns};
 use crate::gate::Gate;
 use crate::locked::{Locked, Naming};
 use api_shelf::{ApiDevice, SlotOf};
@@ -44,6 +45,7 @@ pub fn run<E: Execution + Send, D: ApiDevice + Send, G: Gate + Sync, R: Threads 
     requires ready { E.is_ready execution }
     requires start { E.machine execution ≡ start_of (E.program execution) }
     requires makes { MakesWhatIsEnabled (E.program execution) }
+    requires plain { PlainAnswersFit (E.program execution) }
     requires silent { AllAreSilent (views D.told D.faults slots.items) }
     requires budget { budget ≤ 1000000000 }
     requires some { 1 ≤ workers }
@@ -116,7 +118,7 @@ fn work_all<
     );
 }
 
-/// One worker: it holds the book for some steps, and lets it go, until there is nothing more to do.
+/// One worker: it holds the book for some steps, and lets it go, until there is nothing more to do or memory runs out.
 fn work<
     E: Execution + Send,
     D: ApiDevice + Send,
@@ -128,10 +130,11 @@ fn work<
     requires faults { L.faults ≡ D.faults }
 {
     for _ in rt.forever() {
-        let goes_on = shared.lock(rt).hold(alloc, worker);
+        let turns = shared.lock(rt).hold(alloc, worker);
         gate.pass(worker);
-        if !goes_on {
-            return;
+        match turns {
+            Turns::Made => {}
+            Turns::Over | Turns::Memory => return,
         }
     }
 }

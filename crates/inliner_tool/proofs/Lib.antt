@@ -25,3 +25,4 @@ pub mod CheckDecision
 pub mod InlineDecision
 mod Written
 pub mod Rechecking
+mod PlainAnswers

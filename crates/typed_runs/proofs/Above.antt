@@ -1,7 +1,7 @@
 -- Where a field or a method is declared: the class that declares it, where it is given, is the class that the reference names,
 -- one above it, or an interface.
 use Rattle.std.proofs.Common.{◌≡◌, ℕ, zero, suc, Bool, true, false, cond, List, [], ◌∷◌, ◌++◌, ◌⊎◌, length, map, Option, Some, None, refl, sym, ap, subst, ◌∙◌, inl, inr}
-use Rattle.std.specs.Prelude.{bytes_eq, is_some, slice_get, not, ◌||◌}
+use Rattle.std.specs.Prelude.{bytes_eq, is_some, slice_get, option_map, not, ◌||◌}
 use Rattle.std.specs.List.{list_all, list_any}
 use Rattle.std.specs.Option.{option_map_or}
 use Rattle.std.proofs.lemmas.Bool.{cases_Bool, or_cases, or_left, or_right, and_parts, and_from, false≢true}
@@ -25,10 +25,14 @@ use Rattle.bytecode_model.proofs.Ending.{unnamed_up}
 use Rattle.bytecode_model.proofs.Upwards.{named_after, named_passes, same_of}
 use Rattle.type_lattice.proofs.Orders.{Fit, equal, top, interface, under, array_second, fits, seen}
 use Rattle.guest_model.specs.Layout.{class_given}
-use Rattle.typed_runs.specs.Programs.{IsTypedProgram}
-use Rattle.typed_runs.proofs.Listed.{all_both, all_from, all_mapped, all_more, any_cases, any_of, built_in_known, find_none, given_apart, given_found, given_head, given_unlisted, is_closed, known_not_given, listed_closed, object_built_in, runnable_built_in}
+use Rattle.typed_runs.specs.Programs.{ImplementsInterfaces, IsTypedProgram}
+use Rattle.typed_runs.proofs.Listed.{all_both, all_from, all_mapped, all_more, any_cases, any_of, built_in_known, find_none, given_apart, given_found, given_head, given_unlisted, heads_named, is_closed, known_not_given, listed_closed, object_built_in, runnable_interface}
 
 -- ---- names that are reached
+
+named_below : (cs : List ListedClass) (name : Name) → is_one_of (names_of cs) name ≡ list_any (λ (c : ListedClass). bytes_eq c.name name) cs
+named_below [] name = refl
+named_below (c ∷ cs) name = ap (λ (b : Bool). bytes_eq c.name name || b) (named_below cs name)
 
 module _ (p : Name → Bool) (classes : List ListedClass) (each : (name : Name) → list_all p (interfaces_above classes name) ≡ true) where
   waiting_pass : (known : Bool) (waiting : List Name) (name : Name) → list_all p waiting ≡ true
@@ -103,6 +107,43 @@ module _ (p : Name → Bool) (classes : List ListedClass) (each : (name : Name) 
         ]
       ]
 
+-- ---- classes whose interfaces pass a test
+
+module _ (program : Program) (p : Name → Bool) (all : list_all (λ (c : ListedClass). list_all p c.interfaces) (classes_of program) ≡ true) where
+  abbrev have_passed : ListedClass → Bool
+  have_passed c = list_all p c.interfaces
+
+  interfaces_at : (o : Option ListedClass) (name : Name) → class_named (classes_of program) name ≡ o
+      → list_all p (option_map_or (λ (c : ListedClass). c.interfaces) o []) ≡ true
+  interfaces_at None name e = refl
+  interfaces_at (Some c) name e = named_passes have_passed (classes_of program) name c all e
+
+  interfaces_pass : (name : Name) → list_all p (interfaces_above (classes_of program) name) ≡ true
+  interfaces_pass name = interfaces_at (class_named (classes_of program) name) name refl
+
+  upwards_at : (n : ℕ) (o : Option ListedClass) (name : Name) → class_named (classes_of program) name ≡ o
+      → ((parent : Name) → list_all p (interfaces_of (upwards n (classes_of program) parent)) ≡ true)
+      → list_all p (interfaces_of (option_map_or (λ (c : ListedClass). c ∷ upwards n (classes_of program) c.parent) o [])) ≡ true
+  upwards_at n None name e more = refl
+  upwards_at n (Some c) name e more = all_both p c.interfaces _ (named_passes have_passed (classes_of program) name c all e) (more c.parent)
+
+  upwards_pass : (n : ℕ) (name : Name) → list_all p (interfaces_of (upwards n (classes_of program) name)) ≡ true
+  upwards_pass zero name = refl
+  upwards_pass (suc n) name = upwards_at n (class_named (classes_of program) name) name refl (upwards_pass n)
+
+  -- where a method is looked for: in a class above, or in what passes
+  looked_either : (from name : Name) → is_one_of (search_order (classes_of program) from) name ≡ true
+      → (is_below program from name ≡ true) ⊎ (p name ≡ true)
+  looked_either from name e =
+      let supers = superclasses (classes_of program) from in
+      elim (any_cases (λ (other : Name). bytes_eq other name) (names_of supers) _ e) [
+        | inl up ↦ inl (sym (named_below supers name) ∙ up)
+        | inr has ↦
+            let passed = reached_pass p (classes_of program) interfaces_pass _ [] (interfaces_of supers) refl (upwards_pass (length (classes_of program)) from) in
+            let one = any_of (λ (other : Name). bytes_eq other name) p (interfaces_from (classes_of program) (interfaces_of supers)) passed has in
+            inr (subst (λ (n : Name). p n ≡ true) (same_of one.0 name one.1) one.2)
+      ]
+
 -- ---- a typed program
 
 module _ (program : Program) (typing : Typing) (ok : IsTypedProgram program typing) where
@@ -133,60 +174,51 @@ module _ (program : Program) (typing : Typing) (ok : IsTypedProgram program typi
   heads_are = mapped_twice program.classes
 
   -- a given interface
-  interface_stands : (name : Name) → has_interface given_heads name ≡ true → may_stand name ≡ true
-  interface_stands name e =
+  given_interface : (name : Name) → has_interface given_heads name ≡ true → is_interface program name ≡ true
+  given_interface name e =
+      let tells : Option ListedClass → Bool = λ o. option_map_or (λ (c : ListedClass). c.is_interface) o false in
+      let heads : class_named given_heads name ≡ class_named (map (λ (c : LinkedClass). head_of c.file) program.classes) name =
+      ap (λ (classes : List ListedClass). class_named classes name) heads_are in
       elim (cases_Bool (is_known program.listing.classes name)) [
-        | inl known ↦ known_stands name known
+        | inl known ↦
+            let none = heads ∙ heads_named program typing ok program.classes name ok.links.sound.classes
+            ∙ ap (option_map (λ (c : LinkedClass). head_of c.file)) (known_not_given program typing ok name known) in
+            absurd (false≢true (sym (ap tells none) ∙ e))
         | inr unknown ↦
-            let heads : class_named given_heads name ≡ class_named (classes_of program) name =
-            ap (λ (classes : List ListedClass). class_named classes name) heads_are ∙ sym (named_after (map (λ (c : LinkedClass). head_of c.file) program.classes) name program.listing.classes
+            let found = heads ∙ sym (named_after (map (λ (c : LinkedClass). head_of c.file) program.classes) name program.listing.classes
             (find_none (λ (c : ListedClass). bytes_eq c.name name) program.listing.classes unknown)) in
-            or_right (not (is_some (class_given program name))) _
-            (subst (λ (o : Option ListedClass). option_map_or (λ (c : ListedClass). c.is_interface) o false ≡ true) heads e)
+            subst (λ (o : Option ListedClass). tells o ≡ true) found e
+      ]
+
+  above_interface : (name : Name) → is_above given_heads name ≡ true → is_interface program name ≡ true
+  above_interface name e =
+      elim (or_cases (has_interface given_heads name) _ e) [
+        | inl is ↦ given_interface name is
+        | inr is ↦ subst (λ (n : Name). is_interface program n ≡ true) (sym (same_of name runnable is)) (runnable_interface program typing ok)
       ]
 
   above_stands : (name : Name) → is_above given_heads name ≡ true → may_stand name ≡ true
-  above_stands name e =
-      elim (or_cases (has_interface given_heads name) _ e) [
-        | inl is ↦ interface_stands name is
-        | inr is ↦
-            known_stands name
-            (subst (λ (n : Name). is_known program.listing.classes n ≡ true) (sym (same_of name runnable is)) (built_in_known program typing ok runnable runnable_built_in))
-      ]
+  above_stands name e = or_right (not (is_some (class_given program name))) _ (above_interface name e)
 
   -- the superclass and the interfaces of a given class stand above it
   pub given_below : (own : ℕ) (class : LinkedClass) → slice_get program.classes own ≡ Some class → stands_below given_heads (head_of class.file) ≡ true
   given_below own class there = (and_parts (stands_below given_heads (head_of class.file)) _ (ok.links.linked.standing own class there).supers).0
 
-  given_stand : list_all have_stand (map (λ (c : LinkedClass). head_of c.file) program.classes) ≡ true
-  given_stand =
-      all_mapped have_stand (λ (c : LinkedClass). head_of c.file) program.classes
-      (all_from (λ (c : LinkedClass). have_stand (head_of c.file)) program.classes
+  given_pass : (p : Name → Bool) → ((name : Name) → is_above given_heads name ≡ true → p name ≡ true)
+      → list_all (λ (c : ListedClass). list_all p c.interfaces) (map (λ (c : LinkedClass). head_of c.file) program.classes) ≡ true
+  given_pass p each =
+      all_mapped (λ (c : ListedClass). list_all p c.interfaces) (λ (c : LinkedClass). head_of c.file) program.classes
+      (all_from (λ (c : LinkedClass). list_all p (head_of c.file).interfaces) program.classes
       (λ own class there.
       let a = and_parts (is_super given_heads (head_of class.file).parent) _ (given_below own class there) in
-      all_more (is_above given_heads) may_stand (head_of class.file).interfaces above_stands
+      all_more (is_above given_heads) p (head_of class.file).interfaces each
       (and_parts (list_all (is_above given_heads) (head_of class.file).interfaces) _ a.1).0))
 
   all_stand : list_all have_stand (classes_of program) ≡ true
-  all_stand = all_both have_stand program.listing.classes (map (λ (c : LinkedClass). head_of c.file) program.classes) listed_stand given_stand
-
-  interfaces_at : (o : Option ListedClass) (name : Name) → class_named (classes_of program) name ≡ o
-      → list_all may_stand (option_map_or (λ (c : ListedClass). c.interfaces) o []) ≡ true
-  interfaces_at None name e = refl
-  interfaces_at (Some c) name e = named_passes have_stand (classes_of program) name c all_stand e
+  all_stand = all_both have_stand program.listing.classes (map (λ (c : LinkedClass). head_of c.file) program.classes) listed_stand (given_pass may_stand above_stands)
 
   interfaces_stand : (name : Name) → list_all may_stand (interfaces_above (classes_of program) name) ≡ true
-  interfaces_stand name = interfaces_at (class_named (classes_of program) name) name refl
-
-  upwards_at : (n : ℕ) (o : Option ListedClass) (name : Name) → class_named (classes_of program) name ≡ o
-      → ((parent : Name) → list_all may_stand (interfaces_of (upwards n (classes_of program) parent)) ≡ true)
-      → list_all may_stand (interfaces_of (option_map_or (λ (c : ListedClass). c ∷ upwards n (classes_of program) c.parent) o [])) ≡ true
-  upwards_at n None name e more = refl
-  upwards_at n (Some c) name e more = all_both may_stand c.interfaces _ (named_passes have_stand (classes_of program) name c all_stand e) (more c.parent)
-
-  upwards_stand : (n : ℕ) (name : Name) → list_all may_stand (interfaces_of (upwards n (classes_of program) name)) ≡ true
-  upwards_stand zero name = refl
-  upwards_stand (suc n) name = upwards_at n (class_named (classes_of program) name) name refl (upwards_stand n)
+  interfaces_stand name = interfaces_pass program may_stand all_stand name
 
   up_have : (n : ℕ) (o : Option ListedClass) (name : Name) → class_named (classes_of program) name ≡ o
       → ((parent : Name) → list_all have_stand (upwards n (classes_of program) parent) ≡ true)
@@ -197,10 +229,6 @@ module _ (program : Program) (typing : Typing) (ok : IsTypedProgram program typi
   upwards_have : (n : ℕ) (name : Name) → list_all have_stand (upwards n (classes_of program) name) ≡ true
   upwards_have zero name = refl
   upwards_have (suc n) name = up_have n (class_named (classes_of program) name) name refl (upwards_have n)
-
-  named_below : (cs : List ListedClass) (name : Name) → is_one_of (names_of cs) name ≡ list_any (λ (c : ListedClass). bytes_eq c.name name) cs
-  named_below [] name = refl
-  named_below (c ∷ cs) name = ap (λ (b : Bool). bytes_eq c.name name || b) (named_below cs name)
 
   -- a given class that may stand in the place of an interface is one
   given_stands : (own : ℕ) (class : LinkedClass) → slice_get program.classes own ≡ Some class → may_stand class.name ≡ true → is_interface program class.name ≡ true
@@ -215,14 +243,18 @@ module _ (program : Program) (typing : Typing) (ok : IsTypedProgram program typi
   pub looked_in : (from : Name) (own : ℕ) (class : LinkedClass) → slice_get program.classes own ≡ Some class
       → is_one_of (search_order (classes_of program) from) class.name ≡ true → (is_below program from class.name ≡ true) ⊎ (is_interface program class.name ≡ true)
   looked_in from own class there e =
-      elim (any_cases (λ (other : Name). bytes_eq other class.name) (names_of (superclasses (classes_of program) from)) _ e) [
-        | inl up ↦ inl (sym (named_below (superclasses (classes_of program) from) class.name) ∙ up)
-        | inr has ↦
-            let all = reached_pass may_stand (classes_of program) interfaces_stand _ [] (interfaces_of (superclasses (classes_of program) from)) refl
-            (upwards_stand (length (classes_of program)) from) in
-            let one = any_of (λ (other : Name). bytes_eq other class.name) may_stand (interfaces_from (classes_of program) (interfaces_of (superclasses (classes_of program) from))) all has in
-            inr (given_stands own class there (subst (λ (n : Name). may_stand n ≡ true) (same_of one.0 class.name one.1) one.2))
+      elim (looked_either program may_stand all_stand from class.name e) [
+        | inl up ↦ inl up
+        | inr stands ↦ inr (given_stands own class there stands)
       ]
+
+  -- the same of any class, where the listing has interfaces alone after `implements`
+  pub looked_fairly : ImplementsInterfaces program → (from name : Name) → is_one_of (search_order (classes_of program) from) name ≡ true
+      → (is_below program from name ≡ true) ⊎ (is_interface program name ≡ true)
+  looked_fairly fair from name e =
+      looked_either program (is_interface program)
+      (all_both (λ (c : ListedClass). list_all (is_interface program) c.interfaces) program.listing.classes _ fair (given_pass (is_interface program) above_interface))
+      from name e
 
   -- the same of a field
   field_looked_in : (from : Name) (own : ℕ) (class : LinkedClass) → slice_get program.classes own ≡ Some class
@@ -250,15 +282,7 @@ module _ (program : Program) (typing : Typing) (ok : IsTypedProgram program typi
   pub interface_fits : (from above : Name) → is_interface program above ≡ true → assignable program (types.Ref from) (types.Ref above) ≡ true
   interface_fits from above e = or_left (class_fits program from above) _ (fits program from above (interface e))
 
-  -- what is looked for in the other class: this one is assignable to that
-  pub declared_fits : (from : Name) (own : ℕ) (class : LinkedClass) → slice_get program.classes own ≡ Some class
-      → is_one_of (search_order (classes_of program) from) class.name ≡ true → assignable program (types.Ref from) (types.Ref class.name) ≡ true
-  declared_fits from own class there e =
-      elim (looked_in from own class there e) [
-        | inl up ↦ below_fits from class.name up
-        | inr is ↦ interface_fits from class.name is
-      ]
-
+  -- what a field is looked for in: this class is assignable to that
   pub field_fits : (from : Name) (own : ℕ) (class : LinkedClass) → slice_get program.classes own ≡ Some class
       → is_one_of (field_order (classes_of program) from) class.name ≡ true → assignable program (types.Ref from) (types.Ref class.name) ≡ true
   field_fits from own class there e =

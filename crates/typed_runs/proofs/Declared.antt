@@ -12,9 +12,9 @@ use Rattle.api_listing.specs.declared.descriptor.MethodType.{MethodType}
 use Rattle.api_listing.specs.declared.types.ListedClass.{ListedClass}
 use Rattle.api_listing.specs.declared.types.ListedMethod.{ListedMethod}
 use Rattle.api_listing.specs.declared.types.Listing.{Listing}
-use Rattle.api_listing.specs.Descriptor.{EncodesClass, class_encoded, method_type}
+use Rattle.api_listing.specs.Descriptor.{EncodesClass, EncodesDescriptor, class_encoded, method_type}
 use Rattle.api_listing.specs.Lines.{EncodesLine}
-use Rattle.api_listing.specs.Listing.{AreSaid, EncodesListing, field_declared, is_known, listing_of, method_declared, names_known}
+use Rattle.api_listing.specs.Listing.{AreSaid, EncodesListing, field_declared, is_known, listing_of, method_declared, names_known, result_is_known, types_are_known}
 use Rattle.api_listing.specs.Words.{pieces}
 use Rattle.api_listing.proofs.DescriptorLaws.{method_again}
 use Rattle.cert_format.specs.declared.typing.VType.TheVariants as types
@@ -60,14 +60,30 @@ module _ (classes : List ListedClass) where
       let known = (and_parts (is_known classes id.class) (is_known classes class) n.0.1).1 in
       ((class, s.0.1.1, known), fields_known said s.1 n.1)
 
-abbrev IsMethodOf : ListedMethod → Type 0
-IsMethodOf listed = (m : MethodType) × (method_type listed.id.desc ≡ Ok m)
+  -- A method is of a class, and of types, that are known.
+  pub record IsMethodOf (listed : ListedMethod) : Type 0 where
+    pub types : MethodType
+    pub encoded : EncodesDescriptor listed.id.desc types
+    pub read : method_type listed.id.desc ≡ Ok types
+    pub class : is_known classes listed.id.class ≡ true
+    pub result : result_is_known (is_known classes) types.result ≡ true
 
-methods_described : (said : List Declaration) → AllByRecursion IsEncoded said → AllByRecursion IsMethodOf (filter_map method_declared said)
-methods_described [] s = tt
-methods_described (Class c ∷ said) s = methods_described said s.1
-methods_described (Method m types ∷ said) s = ((types, method_again m.id.desc types s.0.1.1), methods_described said s.1)
-methods_described (Field id class ∷ said) s = methods_described said s.1
+  methods_known : (said : List Declaration) → AllByRecursion IsEncoded said → AllByRecursion IsNamedIn said
+      → AllByRecursion IsMethodOf (filter_map method_declared said)
+  methods_known [] s n = tt
+  methods_known (Class c ∷ said) s n = methods_known said s.1 n.1
+  methods_known (Method m types ∷ said) s n =
+      let known = and_parts (is_known classes m.id.class) (types_are_known (is_known classes) types) n.0.1 in (
+        record {
+          types = types;
+          encoded = s.0.1.1;
+          read = method_again m.id.desc types s.0.1.1;
+          class = known.0;
+          result = (and_parts _ (result_is_known (is_known classes) types.result) known.1).1;
+        },
+        methods_known said s.1 n.1,
+      )
+  methods_known (Field id class ∷ said) s n = methods_known said s.1 n.1
 
 -- ---- the class that a field's descriptor names
 
@@ -88,10 +104,16 @@ module _ (text : List ℕ) (listing : Listing) (encoded : EncodesListing text li
   each_encoded : AllByRecursion IsEncoded encoded.said
   each_encoded = all_encoded _ encoded.said encoded.encoded
 
-  pub listed_method : (index : ℕ) (listed : ListedMethod) → slice_get listing.methods index ≡ Some listed → (m : MethodType) × (method_type listed.id.desc ≡ Ok m)
-  listed_method index listed there =
-      all_get IsMethodOf (filter_map method_declared encoded.said) index listed (methods_described encoded.said each_encoded)
+  each_named : AllByRecursion (IsNamedIn listing.classes) encoded.said
+  each_named = all_named listing.classes encoded.said [] encoded.said refl (λ front after d e. encoded.named front after d e)
+
+  pub method_listed : (index : ℕ) (listed : ListedMethod) → slice_get listing.methods index ≡ Some listed → IsMethodOf listing.classes listed
+  method_listed index listed there =
+      all_get (IsMethodOf listing.classes) (filter_map method_declared encoded.said) index listed (methods_known listing.classes encoded.said each_encoded each_named)
       (subst (λ (l : Listing). slice_get l.methods index ≡ Some listed) encoded.listed there)
+
+  pub listed_method : (index : ℕ) (listed : ListedMethod) → slice_get listing.methods index ≡ Some listed → (m : MethodType) × (method_type listed.id.desc ≡ Ok m)
+  listed_method index listed there = let m = method_listed index listed there in (m.types, m.read)
 
   -- A field of the listing is an object of a class that the listing knows.
   pub record ListedField (field : MethodId) : Type 0 where
@@ -101,8 +123,7 @@ module _ (text : List ℕ) (listing : Listing) (encoded : EncodesListing text li
 
   pub listed_field : (index : ℕ) (field : MethodId) → slice_get listing.fields index ≡ Some field → ListedField field
   listed_field index field there =
-      let all = fields_known listing.classes encoded.said each_encoded
-      (all_named listing.classes encoded.said [] encoded.said refl (λ front after d e. encoded.named front after d e)) in
+      let all = fields_known listing.classes encoded.said each_encoded each_named in
       let f = all_get (IsFieldOf listing.classes) (filter_map field_declared encoded.said) index field all
       (subst (λ (l : Listing). slice_get l.fields index ≡ Some field) encoded.listed there) in
       record { class = f.0; desc = f.1.encoded; known = f.2 }

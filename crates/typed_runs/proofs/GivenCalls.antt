@@ -1,33 +1,29 @@
 -- Calls of given methods, by how they call: the method that runs is of a class that the receiver is of.
-use Rattle.std.proofs.Common.{◌≡◌, ℕ, suc, Bool, true, false, cond, List, length, Option, Some, None, refl, sym, ap, subst, ◌∙◌, inl, inr}
-use Rattle.std.specs.Prelude.{bytes_eq, not, slice_get, is_some, ◌&&◌, ◌||◌}
+use Rattle.std.proofs.Common.{◌≡◌, ℕ, true, false, List, Option, Some, None, refl, sym, ap, subst, ◌∙◌, inl, inr}
+use Rattle.std.specs.Prelude.{bytes_eq, not, slice_get, ◌&&◌, ◌||◌}
 use Rattle.std.specs.List.{AllByRecursion}
 use Rattle.std.specs.Option.{option_map_or}
-use Rattle.std.proofs.lemmas.Bool.{and_parts, or_cases, or_right, true≢false}
+use Rattle.std.proofs.lemmas.Bool.{and_parts, or_cases, true≢false}
 use Rattle.cert_format.specs.declared.typing.Typing.{Typing}
-use Rattle.cert_format.specs.declared.typing.VType.{VType}
 use Rattle.cert_format.specs.declared.typing.VType.TheVariants as types
 use Rattle.insn_codec.specs.declared.shape.Heap.TheVariants as heaps
 use Rattle.insn_codec.specs.declared.shape.How.{How}
 use Rattle.insn_codec.specs.declared.shape.How.TheVariants as hows
 use Rattle.insn_codec.specs.declared.shape.Shape.TheVariants as shapes
 use Rattle.insn_codec.specs.Shapes.{shape_of}
-use Rattle.bytecode_model.specs.declared.program.LinkedClass.{LinkedClass}
 use Rattle.bytecode_model.specs.declared.program.Method.{Method}
 use Rattle.bytecode_model.specs.declared.program.Program.{Program}
 use Rattle.bytecode_model.specs.declared.program.Target.TheVariants as target
 use Rattle.bytecode_model.specs.Assigning.{assignable}
-use Rattle.bytecode_model.specs.Classes.{classes_of, is_below}
+use Rattle.bytecode_model.specs.Classes.{classes_of}
 use Rattle.bytecode_model.specs.Described.{result_type}
-use Rattle.bytecode_model.specs.Heads.{head_of, is_static, maker}
-use Rattle.bytecode_model.specs.Makes.{class_made, new_at}
+use Rattle.bytecode_model.specs.Heads.{is_static, maker}
 use Rattle.bytecode_model.specs.InsnPlace.{InsnPlace, calls_maker, class_referred, has_receiver}
 use Rattle.bytecode_model.specs.SearchOrder.{Name, is_one_of, search_order}
 use Rattle.bytecode_model.specs.Targets.{Calls}
 use Rattle.bytecode_model.specs.Uses.{UsesAreShaped}
-use Rattle.bytecode_model.specs.Wants.{to_own, to_receiver}
+use Rattle.bytecode_model.specs.Wants.{to_receiver}
 use Rattle.bytecode_model.proofs.Lists.{some_is}
-use Rattle.bytecode_model.proofs.Upwards.{is_up, same_of, one_named, up_from}
 use Rattle.type_lattice.proofs.Orders.{type_over}
 use Rattle.guest_heap.specs.declared.frame.Frame.{Frame}
 use Rattle.guest_heap.specs.declared.thread.Thread.{Thread}
@@ -40,30 +36,17 @@ use Rattle.guest_model.specs.Changes.{Change, World, enters_method}
 use Rattle.guest_model.specs.Finding.{Given, method_of_class, method_run}
 use Rattle.guest_model.specs.Kinds.{class_of_value}
 use Rattle.guest_model.specs.Moving.{IsReceived}
-use Rattle.typed_runs.specs.Fitting.{fits_made, fits_type, is_of}
+use Rattle.typed_runs.specs.Fitting.{is_of}
 use Rattle.typed_runs.specs.Frames.{AreWaiting, IsReady}
 use Rattle.typed_runs.specs.Machines.{CanBegin, MachineFits}
 use Rattle.typed_runs.specs.Programs.{IsTypedProgram}
-use Rattle.typed_runs.proofs.Above.{declared_fits, interface_fits, below_fits, looked_in}
+use Rattle.typed_runs.proofs.Above.{looked_in}
 use Rattle.typed_runs.proofs.Beginning.{static_has_code}
 use Rattle.typed_runs.proofs.Calls.{IfFits, call_here, entered_on, entered_static, lacked_fits, receiver_fits_of, shared, told_desc}
 use Rattle.typed_runs.proofs.Found.{Runs, RunsOn, class_runs, itself_runs, same_method, same_owner}
-use Rattle.typed_runs.proofs.Listed.{given_head, given_parent}
-use Rattle.typed_runs.proofs.Passed.{Passing, Received, maker_makes, received_by, received_object, referred_class, referred_desc, referred_name, spot}
-use Rattle.typed_runs.proofs.Types.{class_of, is_of_over, just_is_of, type_fits_over}
-
--- ---- what is above the superclass is above the class
-
-module _ (program : Program) (typing : Typing) (ok : IsTypedProgram program typing) where
-  parent_below : (own : ℕ) (class : LinkedClass) (above : Name) → slice_get program.classes own ≡ Some class
-      → is_below program class.parent above ≡ true → is_below program class.name above ≡ true
-  parent_below own class above there e =
-      let n = length (classes_of program) in
-      let next : is_up (classes_of program) (suc n) class.name above ≡ true =
-      subst (λ o. one_named above (up_from (classes_of program) o n) ≡ true) (sym (given_head program typing ok own class there))
-      (or_right (bytes_eq (head_of class.file).name above) _
-      (subst (λ (parent : Name). is_up (classes_of program) n parent above ≡ true) (sym (given_parent program typing ok own class there)) e)) in
-      subst (λ list. one_named above list ≡ true) (ok.links.order.ends class.name) next
+use Rattle.typed_runs.proofs.Passed.{Passing, Received, received_by, received_object, referred_desc, referred_name, spot}
+use Rattle.typed_runs.proofs.Receiver.{not_null, reaches}
+use Rattle.typed_runs.proofs.Types.{class_of, type_fits_over}
 
 module _ (program : Program) (typing : Typing) (ok : IsTypedProgram program typing) (shaped : UsesAreShaped) (machine : Machine)
     (fit : MachineFits program typing machine) (number : ℕ) (thread : Thread)
@@ -91,9 +74,6 @@ module _ (program : Program) (typing : Typing) (ok : IsTypedProgram program typi
   abbrev place : InsnPlace
   place = spot program typing ok shaped machine.heap frame r how shape
 
-  class_told : class_referred place ≡ u.told.class
-  class_told = referred_class program typing ok shaped machine.heap frame r how shape (target.Method of index) u
-
   desc_called : called.desc ≡ told
   desc_called = u.declared.desc ∙ sym (referred_desc program typing ok shaped machine.heap frame r how shape (target.Method of index) u)
 
@@ -106,74 +86,13 @@ module _ (program : Program) (typing : Typing) (ok : IsTypedProgram program typi
   declaring_looked : is_one_of (search_order (classes_of program) u.told.class) u.declared.class.name ≡ true
   declaring_looked = subst (λ (n : Name). is_one_of (search_order (classes_of program) u.told.class) n ≡ true) (sym u.declared.owner) u.above
 
-  told_reaches : assignable program (types.Ref u.told.class) (types.Ref u.declared.class.name) ≡ true
-  told_reaches = declared_fits program typing ok u.told.class of u.declared.class u.declared.there declaring_looked
-
   -- ---- the receiver of a call of the very method
-
-  parent_reaches : u.told.class ≡ r.stands.class.parent → assignable program (types.Ref r.stands.class.name) (types.Ref u.declared.class.name) ≡ true
-  parent_reaches same =
-      elim (looked_in program typing ok u.told.class of u.declared.class u.declared.there declaring_looked) [
-        | inl up ↦
-            below_fits program typing ok r.stands.class.name u.declared.class.name
-            (parent_below program typing ok frame.class r.stands.class u.declared.class.name r.stands.there
-            (subst (λ (n : Name). is_below program n u.declared.class.name ≡ true) same up))
-        | inr is ↦ interface_fits program typing ok r.stands.class.name u.declared.class.name is
-      ]
-
-  chosen : (b : Bool) (name : Name) → is_some (cond b (Some name) None) ≡ true → b ≡ true
-  chosen true name e = refl
-  chosen false name e = absurd cc
-
-  this_reaches : (v : Value) → is_of program machine.heap r.stands.class.name v ≡ true
-      → (bytes_eq (class_referred place) r.stands.class.name || bytes_eq (class_referred place) r.stands.class.parent) ≡ true
-      → is_of program machine.heap u.declared.class.name v ≡ true
-  this_reaches v h e =
-      elim (or_cases (bytes_eq (class_referred place) r.stands.class.name) _ e) [
-        | inl own ↦
-            let same : u.told.class ≡ r.stands.class.name = sym class_told ∙ same_of (class_referred place) r.stands.class.name own in
-            is_of_over program ok.links.order machine.heap r.stands.class.name u.declared.class.name v
-            (subst (λ (n : Name). assignable program (types.Ref n) (types.Ref u.declared.class.name) ≡ true) same told_reaches) h
-        | inr up ↦
-            is_of_over program ok.links.order machine.heap r.stands.class.name u.declared.class.name v
-            (parent_reaches (sym class_told ∙ same_of (class_referred place) r.stands.class.parent up)) h
-      ]
-
-  -- an object that is not made yet
-  made_reaches : (v : Value) (t : VType) → fits_type program machine.heap r.stands.class r.stands.method v t ≡ true
-      → is_some (class_made place t) ≡ true → is_of program machine.heap u.declared.class.name v ≡ true
-  made_reaches v types.Top h e = absurd cc
-  made_reaches v types.Int h e = absurd cc
-  made_reaches v types.Null h e = absurd cc
-  made_reaches v (types.Ref name) h e = absurd cc
-  made_reaches v types.UninitThis h e = this_reaches v h (chosen _ r.stands.class.name e)
-  made_reaches v (types.Uninit at) h e =
-      let same = same_of (class_referred place) (new_at r.stands.method at) (chosen _ (class_referred place) e) in
-      let is : is_of program machine.heap u.told.class v ≡ true =
-      subst (λ (n : Name). is_of program machine.heap n v ≡ true) (sym same ∙ class_told) (just_is_of program machine.heap (new_at r.stands.method at) v h) in
-      is_of_over program ok.links.order machine.heap u.told.class u.declared.class.name v told_reaches is
-
-  not_null : (v : Value) (name : Name) → is_null v ≡ false → fits_made program machine.heap v (types.Ref name) ≡ true → is_of program machine.heap name v ≡ true
-  not_null v name some h =
-      elim (or_cases (is_null v) _ h) [
-        | inl null ↦ absurd (true≢false (sym null ∙ some))
-        | inr is ↦ is
-      ]
 
   receiver_reaches : (receiver : Option Value) (v : Received program typing ok shaped machine.heap frame r how shape receiver) → is_null v.value ≡ false
       → is_of program machine.heap u.declared.class.name v.value ≡ true
-  receiver_reaches receiver v some =
-      elim (or_cases (calls_maker place) _ v.met) [
-        | inl is ↦
-            made_reaches v.value v.type v.fits
-            (subst (λ (t : VType). is_some (class_made place t) ≡ true) v.first (maker_makes program typing ok shaped machine.heap frame r how shape is))
-        | inr both ↦
-            let up = (and_parts (assignable program v.type (types.Ref (class_referred place))) (to_own place how v.type) both).0 in
-            let is = not_null v.value (class_referred place) some
-            (type_fits_over program ok.links.order machine.heap r.stands.class r.stands.method v.value v.type (types.Ref (class_referred place)) up v.fits) in
-            is_of_over program ok.links.order machine.heap (class_referred place) u.declared.class.name v.value
-            (subst (λ (n : Name). assignable program (types.Ref n) (types.Ref u.declared.class.name) ≡ true) (sym class_told) told_reaches) is
-      ]
+  receiver_reaches =
+      reaches program typing ok shaped machine.heap frame r how shape (target.Method of index) u u.declared.class.name
+      (looked_in program typing ok u.told.class of u.declared.class u.declared.there declaring_looked)
 
   -- ... which by invokespecial is of the class of the code, where it is made
   own_reaches : (receiver : Option Value) (v : Received program typing ok shaped machine.heap frame r how shape receiver) → how ≡ hows.Special → is_null v.value ≡ false
@@ -184,7 +103,7 @@ module _ (program : Program) (typing : Typing) (ok : IsTypedProgram program typi
       elim (or_cases (calls_maker place) _ met) [
         | inl is ↦ absurd (true≢false (sym is ∙ maker_called ∙ other))
         | inr both ↦
-            not_null v.value r.stands.class.name some
+            not_null program machine.heap v.value r.stands.class.name some
             (type_fits_over program ok.links.order machine.heap r.stands.class r.stands.method v.value v.type (types.Ref r.stands.class.name)
             (and_parts (assignable program v.type (types.Ref (class_referred place))) _ both).1 v.fits)
       ]

@@ -218,8 +218,11 @@ module _ (heap new : List Object) (grows : Grows heap new) where
 
       pub frames_grown : (frames : List Frame) (doing : Doing) → FramesFit program typing heap frames doing → FramesFit program typing new frames doing
       frames_grown frames doings.Running f = running_grown frames f
-      frames_grown frames (doings.InCall method receiver arguments) f =
-          (all_also _ _ _ (λ v e. there_grown v e) f.0, in_call_grown (slice_get program.listing.methods method) frames f.1)
+      frames_grown frames (doings.InCall method receiver arguments) f = (
+        all_also _ _ _ (λ v e. there_grown v e) f.0,
+        in_call_grown (slice_get program.listing.methods method) frames f.1,
+        λ interfaces listed there. all_also _ _ _ (λ v e. made_grown v (types.Ref listed.id.class) e) (f.2 interfaces listed there),
+      )
       frames_grown frames doings.Ended f = f
 
       pub thread_grown : (thread : Thread) → ThreadFits program typing heap thread → ThreadFits program typing new thread

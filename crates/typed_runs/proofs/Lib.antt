@@ -33,7 +33,9 @@ pub mod Found
 pub mod GivenCalls
 pub mod Library
 pub mod Passed
+pub mod Receiver
 pub mod Runs
 pub mod Formed
 pub mod IllFormed
 pub mod Telling
+pub mod Waiting

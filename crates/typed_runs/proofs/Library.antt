@@ -25,7 +25,8 @@ use Rattle.bytecode_model.specs.declared.program.Target.TheVariants as target
 use Rattle.bytecode_model.specs.Described.{arguments, result_type, type_described}
 use Rattle.bytecode_model.specs.Makes.{new_at}
 use Rattle.bytecode_model.specs.InsnPlace.{desc_referred, has_receiver}
-use Rattle.bytecode_model.specs.SearchOrder.{Name}
+use Rattle.bytecode_model.specs.Classes.{classes_of}
+use Rattle.bytecode_model.specs.SearchOrder.{Name, is_one_of, search_order}
 use Rattle.bytecode_model.specs.Targets.{Calls}
 use Rattle.bytecode_model.specs.Uses.{UsesAreShaped}
 use Rattle.bytecode_model.specs.Wants.{is_reference}
@@ -44,11 +45,13 @@ use Rattle.guest_model.specs.Numbers.{is_of_numbers, is_primitive}
 use Rattle.guest_model.specs.Seen.{value_shown, values_shown}
 use Rattle.typed_runs.specs.Fitting.{fits_made, fits_type, is_of, is_there}
 use Rattle.typed_runs.specs.Frames.{AreWaiting, IsReady}
-use Rattle.typed_runs.specs.Machines.{CanBegin, MachineFits}
-use Rattle.typed_runs.specs.Programs.{IsTypedProgram}
+use Rattle.typed_runs.specs.Machines.{CanBegin, IsCalledOn, MachineFits}
+use Rattle.typed_runs.specs.Programs.{ImplementsInterfaces, IsTypedProgram}
+use Rattle.typed_runs.proofs.Above.{looked_fairly}
 use Rattle.typed_runs.proofs.Calls.{Fits, call_here, callers, shared, shared_fits}
 use Rattle.typed_runs.proofs.Changed.{ArePassedNumbers}
 use Rattle.typed_runs.proofs.Passed.{Arguments, Passing, Received, none_received, read_type, received_by, receiver_reference, referred_desc, spot}
+use Rattle.typed_runs.proofs.Receiver.{reaches}
 use Rattle.typed_runs.proofs.Types.{class_of, just_is_of}
 use Rattle.typed_runs.proofs.Operates.{number_value}
 
@@ -184,6 +187,35 @@ module _ (program : Program) (typing : Typing) (ok : IsTypedProgram program typi
             (sym (none_received program typing ok shaped machine.heap frame r how shape (target.ApiMethod index) p none)) passed_there
       ]
 
+  -- ---- what it is called on
+
+  called_on_fits : ImplementsInterfaces program → (class : Name) → u.declaring ≡ class → (receiver : Option Value)
+      → Received program typing ok shaped machine.heap frame r how shape receiver
+      → AllByRecursion (λ (v : Value). IsTrue (fits_made program machine.heap v (types.Ref class))) (option_to_list receiver)
+  called_on_fits fair class same receiver v =
+      let looked = looked_fairly program typing ok fair u.told.class class
+      (subst (λ (n : Name). is_one_of (search_order (classes_of program) u.told.class) n ≡ true) same u.above) in
+      let fits : fits_made program machine.heap v.value (types.Ref class) ≡ true =
+      elim (cases_Bool (is_null v.value)) [
+        | inl null ↦ or_left (is_null v.value) _ null
+        | inr some ↦
+            or_right (is_null v.value) _
+            (reaches program typing ok shaped machine.heap frame r how shape (target.ApiMethod index) u class looked receiver v some)
+      ] in
+      subst (λ (o : Option Value). AllByRecursion (λ (w : Value). IsTrue (fits_made program machine.heap w (types.Ref class))) (option_to_list o)) (sym v.is) (fits, tt)
+
+  called_on : ImplementsInterfaces program → IsCalledOn program machine.heap index p.passed.receiver
+  called_on fair listed there =
+      let same : u.declaring ≡ listed.id.class = ap (λ (m : ListedMethod). m.id.class) (some_is _ listed (sym u.declared ∙ there)) in
+      elim (cases_Bool (has_receiver how)) [
+        | inl has ↦
+            called_on_fits fair listed.id.class same p.passed.receiver
+            (received_by program typing ok shaped machine.heap frame r how shape (target.ApiMethod index) p has)
+        | inr none ↦
+            subst (λ (o : Option Value). AllByRecursion (λ (v : Value). IsTrue (fits_made program machine.heap v (types.Ref listed.id.class))) (option_to_list o))
+            (sym (none_received program typing ok shaped machine.heap frame r how shape (target.ApiMethod index) p none)) tt
+      ]
+
   -- What a call of the library comes to fits.
   pub library_fits : Fits program typing ok shaped machine fit number thread later frame below r under how shape (target.ApiMethod index) p
       (calls_library program (shared program typing ok shaped machine fit number thread later frame below r under how shape (target.ApiMethod index) p)
@@ -197,6 +229,7 @@ module _ (program : Program) (typing : Typing) (ok : IsTypedProgram program typi
             (waiting (call_here program typing ok shaped machine fit number thread later frame below r under how shape (target.ApiMethod index) p))) (slice_get program.listing.methods index) _ u.declared
             (callers program typing ok shaped machine fit number thread later frame below r under how shape (target.ApiMethod index) p (result_type u.told.desc)
             (ap result_type desc_is)),
+        called_on,
       );
       to_begin = later;
     };

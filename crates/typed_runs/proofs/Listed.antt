@@ -2,6 +2,7 @@
 use Rattle.std.proofs.Common.{◌≡◌, ℕ, zero, suc, ◌+◌, ◌-◌, ◌≤◌, Bool, true, false, List, [], ◌∷◌, ◌++◌, ◌⊎◌, length, map, append_assoc, Option, Some, None, refl, sym, ap, subst, ◌∙◌, inl, inr, arith}
 use Rattle.std.specs.Prelude.{bytes_eq, find, slice_get, option_map, ◌&&◌, ◌||◌}
 use Rattle.std.specs.List.{AllByRecursion, list_all, list_any, filter_map}
+use Rattle.std.specs.Option.{option_map_or}
 use Rattle.std.proofs.lemmas.Bool.{cases_Bool, or_cases, or_left, or_right, and_parts, and_from, false≢true}
 use Rattle.std.proofs.lemmas.List.Elements.{filter_map-append}
 use Rattle.api_listing.specs.declared.declaration.Declaration.{Declaration}
@@ -14,7 +15,7 @@ use Rattle.cert_format.specs.declared.typing.Typing.{Typing}
 use Rattle.bytecode_model.specs.declared.program.LinkedClass.{LinkedClass}
 use Rattle.bytecode_model.specs.declared.program.Program.{Program}
 use Rattle.bytecode_model.specs.Arrays.{is_array}
-use Rattle.bytecode_model.specs.Classes.{classes_of, is_below}
+use Rattle.bytecode_model.specs.Classes.{classes_of, is_below, is_interface}
 use Rattle.bytecode_model.specs.Heads.{head_of}
 use Rattle.bytecode_model.specs.SearchOrder.{Name}
 use Rattle.bytecode_model.specs.Sound.{IsSoundClass}
@@ -150,6 +151,10 @@ pub runnable_built_in : is_known built_in_classes runnable ≡ true
 unfolding class_rows
 runnable_built_in = refl
 
+runnable_is : option_map_or (λ (c : ListedClass). c.is_interface) (class_named built_in_classes runnable) false ≡ true
+unfolding class_rows
+runnable_is = refl
+
 module _ (program : Program) (typing : Typing) (ok : IsTypedProgram program typing) where
   abbrev pub listed_classes : List ListedClass
   listed_classes = program.listing.classes
@@ -213,6 +218,15 @@ module _ (program : Program) (typing : Typing) (ok : IsTypedProgram program typi
             (f.0, rw fails f.1, rw fails f.2)
       ]
 
+  pub runnable_interface : is_interface program runnable ≡ true
+  runnable_interface =
+      let given = map (λ (c : LinkedClass). head_of c.file) program.classes in
+      let f = known_found built_in_classes (more_listed ++ given) runnable runnable_built_in in
+      let all : classes_of program ≡ built_in_classes ++ (more_listed ++ given) =
+      ap (λ (l : List ListedClass). l ++ given) listed_is ∙ append_assoc built_in_classes more_listed given in
+      let is_one : Option ListedClass → Bool = λ o. option_map_or (λ (c : ListedClass). c.is_interface) o false in
+      ap (λ (classes : List ListedClass). is_one (class_named classes runnable)) all ∙ ap is_one f.2 ∙ sym (ap is_one f.1) ∙ runnable_is
+
   -- the class of the listing with a name that is known there
   pub record Listed (name : Name) : Type 0 where
     pub class : ListedClass
@@ -267,6 +281,19 @@ module _ (program : Program) (typing : Typing) (ok : IsTypedProgram program typi
   up_below n class above less e =
       let same : (count - n) + n ≡ count = omega arith in
       subst (λ (m : ℕ). is_up (classes_of program) m class above ≡ true) same (further_by (count - n) n class above e)
+
+  within_some : (classes : List ListedClass) (name : Name) (c : ListedClass) → class_named classes name ≡ Some c → 1 ≤ length classes
+  within_some [] name c e = absurd cc
+  within_some (x ∷ classes) name c e = omega arith
+
+  -- a class that is known is below itself
+  pub below_itself : (name : Name) → is_known listed_classes name ≡ true → is_below program name name ≡ true
+  below_itself name known =
+      let l = listed name known in
+      let here : is_up (classes_of program) 1 name name ≡ true =
+      subst (λ (o : Option ListedClass). one_named name (up_from (classes_of program) o 0) ≡ true) (sym l.found)
+      (or_left (bytes_eq l.class.name name) _ (of_same l.class.name name l.named)) in
+      up_below 1 name name (within_some (classes_of program) name l.class l.found) here
 
   -- ---- what is above a class of the listing is of the listing
 
@@ -339,7 +366,7 @@ module _ (program : Program) (typing : Typing) (ok : IsTypedProgram program typi
 
   -- ---- heads of given classes
 
-  heads_named : (list : List LinkedClass) (name : Name) → AllByRecursion IsSoundClass list
+  pub heads_named : (list : List LinkedClass) (name : Name) → AllByRecursion IsSoundClass list
       → class_named (map (λ (c : LinkedClass). head_of c.file) list) name ≡ option_map (λ (c : LinkedClass). head_of c.file) (find (λ (c : LinkedClass). bytes_eq c.name name) list)
   heads_named [] name all = refl
   heads_named (x ∷ list) name all =

@@ -1,3 +1,4 @@
+pub mod Answers
 pub mod Fitting
 pub mod Growing
 pub mod Frames

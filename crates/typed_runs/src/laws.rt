@@ -1,5 +1,6 @@
 //! What a typing promises of runs.
 
+ghost use Rattle.typed_runs.specs.Answers.{AnswersFitByType};
 ghost use Rattle.typed_runs.specs.Formed.{PoliciesTellTypes, SeesWellFormed};
 ghost use Rattle.typed_runs.specs.IllFormed.{NullIsNoArgument, NullIsNoResult, WideIsNoResult};
 ghost use Rattle.typed_runs.specs.Runs.{RunsFit, NeverStuck};
@@ -15,6 +16,15 @@ pub fn typed_programs_run()
 {
     uses_are_shaped();
     enabled_steps_are_made();
+}
+
+/// Whatever the steps of a typed program are, a thread that waits in a call of the library takes nothing, 0, null or the empty text,
+/// by the type of the method's result; and the receiver, where it is of the method's own class and the listing has interfaces
+/// alone after `implements`.
+pub fn answers_fit_by_type()
+    ensures fit { AnswersFitByType }
+{
+    typed_programs_run();
 }
 
 /// Where a policy tells the types of its methods, the events of a typed program are well formed for it, whatever the steps

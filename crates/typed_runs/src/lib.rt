@@ -5,5 +5,6 @@
 mod laws;
 
 pub use laws::{
-    events_are_well_formed, ill_formed_events, policies_tell_types, typed_programs_run,
+    answers_fit_by_type, events_are_well_formed, ill_formed_events, policies_tell_types,
+    typed_programs_run,
 };

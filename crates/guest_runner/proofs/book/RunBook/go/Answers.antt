@@ -1,7 +1,7 @@
 use Rattle.std.proofs.Common.{rules, ◌≡◌, ◌++◌, ◌∷◌, [], refl}
 use Rattle.event_record.specs.declared.writing.Line.{Line}
 use Rattle.guest_model.specs.declared.machine.Choice.TheVariants as choices
-use Rattle.guest_runner.specs.Book.{RunView, book_view}
+use Rattle.guest_runner.specs.Book.{book_view}
 use Rattle.guest_runner.proofs.Keeping.{keeps_nothing, line_more}
 use Rattle.guest_runner.proofs.book.RunBook.go.Goals as goal
 

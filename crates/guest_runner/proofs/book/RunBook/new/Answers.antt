@@ -1,4 +1,4 @@
-use Rattle.std.proofs.Common.{rules, ◌≡◌, refl, sym, subst, ◌∙◌}
+use Rattle.std.proofs.Common.{rules, ◌≡◌, sym, subst, ◌∙◌}
 use Rattle.std.specs.Prelude.{map}
 use Rattle.api_shelf.specs.Shelf.{views}
 use Rattle.guest_runner.specs.Book.{IsRun, RunView}
@@ -17,4 +17,4 @@ pub returns-clause-run : goal.returns-clause-run
 returns-clause-run g c =
     subst (λ (b : RunView). IsRun b) (sym (returns-clause-begun g c))
     (begins c.devices_tell.ensures.begins (g.E.Execution.program c.args.execution) (views g.D.ApiDevice.told g.D.ApiDevice.faults c.args.slots.items) c.args.budget
-    c.requires.makes c.requires.silent)
+    c.requires.makes c.requires.plain c.requires.silent)
