@@ -9,12 +9,12 @@ class Refused(Exception):
 
 
 def program():
-    """The path of conspecj: told by CONSPECJ, or where the repository builds it, or on the path."""
+    """The path of conspecj: that in CONSPECJ, or where the repository builds it, or on the path."""
     built = os.path.join(os.path.dirname(os.path.realpath(__file__)), "..", "crates", "conspecj", "out", "conspecj")
     for path in (os.environ.get("CONSPECJ"), built, shutil.which("conspecj")):
         if path and os.access(path, os.X_OK):
             return os.path.realpath(path)
-    raise Refused("conspecj is not built, and CONSPECJ does not tell where it is")
+    raise Refused("conspecj is not built, and CONSPECJ does not say where it is")
 
 
 def shown(listing, file):

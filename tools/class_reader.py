@@ -12,7 +12,7 @@ from urllib.parse import unquote
 from jars import manifest_attributes
 
 PUBLIC, PROTECTED, STATIC, INTERFACE = 0x0001, 0x0004, 0x0008, 0x0200
-# how many bytes a constant has behind its tag, but for a text
+# how many bytes a constant has after its tag, but for a text
 SIZES = {3: 4, 4: 4, 5: 8, 6: 8, 7: 2, 8: 2, 9: 4, 10: 4, 11: 4, 12: 4, 15: 3, 16: 2, 17: 4, 18: 4, 19: 2, 20: 2}
 CLASS, FIELD, METHODS, NAME_AND_TYPE = 7, 9, (10, 11), 12
 
@@ -69,7 +69,7 @@ def constants_of(read):
     while index < count:
         tag = read.number(1)
         if tag != 1 and tag not in SIZES:
-            raise Unreadable(f"it has a constant of the tag {tag}")
+            raise Unreadable(f"it has a constant with the tag {tag}")
         pool[index] = (tag, read.take(read.number(2) if tag == 1 else SIZES[tag]))
         index += 2 if tag in (5, 6) else 1
     return pool
@@ -138,7 +138,7 @@ def front_of(content):
     """A class file as far as its fields: what reads on from there, its constants, and the class as far as it is known."""
     read = Bytes(content)
     if read.take(4) != b"\xca\xfe\xba\xbe":
-        raise Unreadable("it is no class file")
+        raise Unreadable("it is not a class file")
     read.take(4)
     pool = Pool(read)
     flags, name, parent = read.number(2), pool.class_name(read.number(2)), read.number(2)
@@ -196,7 +196,7 @@ class Folder:
             return opened.read()
 
     def named(self):
-        """The places that stand behind it on the class path."""
+        """The places that stand after it on the class path."""
         return []
 
 
@@ -216,7 +216,7 @@ class Jar:
         return self.jar.read(self.entries[file]) if file in self.entries else None
 
     def named(self):
-        """The places that its manifest puts behind it on the class path; those that are not there count for nothing."""
+        """The places that its manifest puts after it on the class path; those that are not there count for nothing."""
         words = [word for name, value in self.manifest if name == "class-path" for word in value.split()]
         folder = os.path.dirname(os.path.abspath(self.path))
         paths = [os.path.join(folder, unquote(word.removeprefix("file:"))) for word in words]
@@ -234,7 +234,7 @@ class ClassPath:
             self.add(place)
 
     def add(self, place):
-        """Adds a place, and behind it those that it names itself."""
+        """Adds a place, and after it those that it names itself."""
         if place in self.places:
             return
         opened = self.guarded(place, Folder if os.path.isdir(place) else Jar, place)

@@ -47,7 +47,7 @@ def views_of(program, listing, policy, sources):
     return Views(program, listed, told, real, clauses_in(policy))
 
 
-def spelled(owner, name, descriptor):
+def as_listed(owner, name, descriptor):
     return f"{owner} {name} {descriptor}"
 
 
@@ -96,7 +96,7 @@ def methods_left(views):
             for member in instance_methods(views.program[interface]) if interface in views.program else ():
                 owner = None if is_declared(views, chain, member) else library_method(views, name, member)
                 if owner:
-                    told = f"{spelled(name, *member)}: its interface {interface} has it, and it is left to {owner}"
+                    told = f"{as_listed(name, *member)}: its interface {interface} has it, and it is left to {owner}"
                     yield f"{told}, where {NO_EVENT}: declare it in {name}, public, or give it another name"
 
 
@@ -104,7 +104,7 @@ def of_each_object(views):
     """An interface with a method that a Java machine runs of any object at a busy call."""
     for name, found in views.program.items():
         for member in sorted(OF_EACH_OBJECT & set(instance_methods(found))) if found.is_interface else ():
-            told = f"{spelled(name, *member)}: an interface declares a method that each object has"
+            told = f"{as_listed(name, *member)}: an interface declares a method that each object has"
             yield f"{told}, and at a busy call {NO_EVENT}, whatever the object: leave it out of the interface, or give it another name"
 
 
@@ -124,8 +124,8 @@ def constructors(views):
         if method != "<init>" or owner in views.program or views.listed.names(owner, method, descriptor):
             continue
         if not views.real.has(owner) or (method, descriptor) in views.real.find(owner).methods:
-            told = f"{name}: it names {spelled(owner, method, descriptor)}, which the listing does not have, and {NO_EVENT}"
-            yield f"{told}: add the line `method {spelled(owner, method, descriptor)}`"
+            told = f"{name}: it names {as_listed(owner, method, descriptor)}, which the listing does not have, and {NO_EVENT}"
+            yield f"{told}: add the line `method {as_listed(owner, method, descriptor)}`"
 
 
 def hidden_methods(views):
@@ -136,8 +136,8 @@ def hidden_methods(views):
             continue
         real = views.real.declares("methods", owner, (method, descriptor))
         if real and real != told and real not in views.real.above(told):
-            which = f"{spelled(owner, method, descriptor)}, which is that of {real}, and by the listing that of {told}"
-            yield f"{name}: it names {which}: add the line `static {spelled(real, method, descriptor)}`, and a clause where that has one"
+            which = f"{as_listed(owner, method, descriptor)}, which is that of {real}, and by the listing that of {told}"
+            yield f"{name}: it names {which}: add the line `static {as_listed(real, method, descriptor)}`, and a clause where that has one"
 
 
 # ---- the listing beside the library
@@ -166,7 +166,7 @@ def listed_class(views, name):
     missing = sorted(interfaces(views, views.real, name) - interfaces(views, views.told, name))
     added = sorted(interfaces(views, views.told, name) - interfaces(views, views.real, name))
     if missing:
-        return f"in the library it implements {', '.join(missing)} besides"
+        return f"in the library it also implements {', '.join(missing)}"
     return f"in the library it does not implement {', '.join(added)}" if added else None
 
 
@@ -175,7 +175,7 @@ def listed_classes(views):
     for name in views.listed.own:
         wrong = listed_class(views, name) if views.real.has(name) else None
         if wrong:
-            yield f"{name}: the listing's line is not as the library: {wrong}: make the listing anew (tools/listing)"
+            yield f"{name}: the listing's line does not fit the library: {wrong}: make the listing again (tools/listing)"
 
 
 def listed_members(views):
@@ -184,8 +184,8 @@ def listed_members(views):
         found = views.real.find(owner)
         is_static = (found.fields if word == "field" else found.methods).get((name, descriptor))
         if is_static is not None and is_static != (word != "method"):
-            line = f"{word} {spelled(owner, name, descriptor)}"
-            yield f"{line}: in the library it is {'' if is_static else 'not '}static: make the listing anew (tools/listing)"
+            line = f"{word} {as_listed(owner, name, descriptor)}"
+            yield f"{line}: in the library it is {'' if is_static else 'not '}static: make the listing again (tools/listing)"
 
 
 def listed_twice(views):
@@ -197,7 +197,7 @@ def listed_twice(views):
         both = [views.clauses.get((other, name, descriptor)) for other in (owner, real)]
         if real not in (None, owner) and views.listed.names(real, name, descriptor) and both[0] != both[1]:
             told = f"{owner} has it from {real}, where the listing has it, too, and not both have the same clauses"
-            yield f"{word} {spelled(owner, name, descriptor)}: {told}: leave this line out"
+            yield f"{word} {as_listed(owner, name, descriptor)}: {told}: leave this line out"
 
 
 # ---- clauses
@@ -214,7 +214,7 @@ def unseen_runs(views):
     for method in sorted(views.clauses):
         other = None if method[1] == "<init>" else overridden(views, method)
         if other:
-            told = f"{spelled(*method)}: the policy has a clause for it, and it overrides that of {other}, through which {NO_EVENT}"
+            told = f"{as_listed(*method)}: the policy has a clause for it, and it overrides that of {other}, through which {NO_EVENT}"
             yield f"{told}: leave {method[0]} out of the listing, or have clauses for what the method calls"
 
 
@@ -239,9 +239,9 @@ def warnings_of(views):
         if views.clauses.get(above) == views.clauses.get(below) or above in BUILT_IN_METHODS:
             continue
         if views.listed.names(*below):
-            yield f"{spelled(*below)} overrides that of {above[0]}: give both the same clauses, since a call of either may run it"
+            yield f"{as_listed(*below)} overrides that of {above[0]}: give both the same clauses, since a call of either may run it"
         else:
-            told = f"{spelled(*below)} overrides that of {above[0]}, which has a clause, and has no line"
+            told = f"{as_listed(*below)} overrides that of {above[0]}, which has a clause, and has no line"
             yield f"{told}: its calls count as those of {above[0]}"
     absent = [name for name in views.listed.own if not views.real.has(name)] if views.real.sources else []
     if absent:

@@ -33,7 +33,7 @@ class Ran(NamedTuple):
 
 
 class Named(NamedTuple):
-    """What the words of a tool name: the files by their whole paths, the main class as class files spell it, and the class path of
+    """What the words of a tool name: the files by their whole paths, the main class as class files write it, and the class path of
     the library; and whether the classes of Java count.
     """
 
@@ -48,8 +48,8 @@ class Named(NamedTuple):
 # ---- words
 
 def split_options(words, options):
-    """The words without options, and each option with its value, which is the word behind it, or True for NO_JDK; None if an option
-    stands twice or lacks its value, or another word is none.
+    """The words without options, and each option with its value, which is the word after it, or True for NO_JDK; None if an option
+    occurs twice or lacks its value, or another word is not allowed.
     """
     plain, found, rest = [], {}, list(words)
     while rest:

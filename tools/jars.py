@@ -1,8 +1,8 @@
 """Jars: what stands in one, byte by byte, and what none may have that is judged by its class files.
 
 A Java machine has to find the same entries with the same bytes as are found here. So the file is read once, and one that two
-readers could take for different jars is none here: with bytes before, between or behind what its directory counts, with names
-that are cut short or of no told encoding, or with an entry that stands twice. Some readers go by the directory, at the end of
+readers could take for different jars is refused here: with bytes before, between or after what its directory counts, with names
+that are cut short or in an unknown encoding, or with an entry that occurs twice. Some readers go by the directory, at the end of
 the file, and others by the header before each entry: both have to find the same.
 """
 import io
@@ -16,7 +16,7 @@ STATE, OWN = "conspec/State.class", "META-INF/conspec/"
 CERTIFICATE = OWN + "certificate"
 END, FIRST_BYTES = 22, b"\xca\xfe\xba\xbe"
 STORED_OR_DEFLATED = (zipfile.ZIP_STORED, zipfile.ZIP_DEFLATED)
-# of an entry: how hard it was deflated, whether its sum and lengths stand behind it, and the encoding of its name
+# of an entry: how hard it was deflated, whether its sum and lengths stand after it, and the encoding of its name
 HARDNESS, IS_TOLD_BEHIND, IS_UTF8 = 0x6, 0x8, 0x800
 # extra fields that tell the lengths or the name of an entry once more
 LONG_LENGTHS, OTHER_NAME = 0x0001, 0x7075
@@ -28,8 +28,8 @@ JAVA = ("JAVA/", "JAVAX/", "SUN/", "JDK/")
 DATE = (1980, 1, 1, 0, 0, 0)
 
 
-UNCOUNTED = "it is no jar, or bytes stand in it that its directory does not count"
-OTHER_HEADER = "the header before its bytes, or what is told behind them, is not what the directory says"
+UNCOUNTED = "it is not a jar, or has bytes that its directory does not count"
+OTHER_HEADER = "the header before its bytes, or the descriptor after them, differs from the directory"
 
 
 class Unfit(Exception):
@@ -122,7 +122,7 @@ def look_at_lengths(infos):
     for info in infos:
         if info.file_size > limit_of(info):
             raise Unfit(f"{info.filename}: it has {info.file_size} bytes unpacked, which is more than {limit_of(info)}")
-    for what, limit in (("class files have", CLASS_FILES), ("entries that are no class files have", OTHERS)):
+    for what, limit in (("class files have", CLASS_FILES), ("entries that are not class files have", OTHERS)):
         length = sum(info.file_size for info in infos if info.filename.endswith(".class") == (limit == CLASS_FILES))
         if length > limit:
             raise Unfit(f"its {what} {length} bytes unpacked, which is more than {limit}")
@@ -133,23 +133,23 @@ def sums_of(info):
 
 
 def begin_of(content, info):
-    """The place of the first byte of an entry, behind its header, which agrees with the directory."""
+    """The place of the first byte of an entry, after its header, which agrees with the directory."""
     if len(content) < info.header_offset + HEADER.size:
         raise Unfit(f"{info.filename}: {OTHER_HEADER}")
     front, _, flags, method, _, _, *sums, name, extra = HEADER.unpack_from(content, info.header_offset)
     at = info.header_offset + HEADER.size
-    behind = at + name + extra
-    # what is told behind the bytes may be 0 here
+    after = at + name + extra
+    # the descriptor after the bytes may have 0 here
     blanks = (0,) if flags & IS_TOLD_BEHIND else ()
     agrees = (front, flags, method) == (b"PK\3\4", info.flag_bits, info.compress_type)
     agrees = agrees and all(told in (wanted, *blanks) for told, wanted in zip(sums, sums_of(info)))
-    if not agrees or content[at : at + name] != raw_name(info) or not has_plain_extra(content[at + name : behind]):
+    if not agrees or content[at : at + name] != raw_name(info) or not has_plain_extra(content[at + name : after]):
         raise Unfit(f"{info.filename}: {OTHER_HEADER}")
-    return behind
+    return after
 
 
 def unpacked(packed_bytes, info):
-    """The bytes of an entry, of which no more are unpacked than are told."""
+    """The bytes of an entry, of which no more are unpacked than the directory says."""
     if info.compress_type == zipfile.ZIP_STORED:
         return packed_bytes
     reader = zlib.decompressobj(-zlib.MAX_WBITS)
@@ -158,12 +158,12 @@ def unpacked(packed_bytes, info):
     except zlib.error as wrong:
         raise Unfit(f"{info.filename}: {wrong}") from wrong
     if not reader.eof or reader.unused_data or len(found) != info.file_size:
-        raise Unfit(f"{info.filename}: its length is another than is told")
+        raise Unfit(f"{info.filename}: its length is not the one that is given")
     return found
 
 
 def end_of(content, info, at):
-    """The place behind an entry whose bytes end here: where its sum and lengths stand behind it, they agree with the directory."""
+    """The place after an entry whose bytes end here: where its sum and lengths stand after it, they agree with the directory."""
     if not info.flag_bits & IS_TOLD_BEHIND:
         return at
     told = struct.pack("<3L", *sums_of(info))
@@ -174,23 +174,23 @@ def end_of(content, info, at):
 
 
 def entry_of(content, info):
-    """An entry, and the place behind it."""
+    """An entry, and the place after it."""
     begin = begin_of(content, info)
     end = begin + info.compress_size
     found = unpacked(content[begin:end], info)
     if zlib.crc32(found) != info.CRC:
-        raise Unfit(f"{info.filename}: its sum is another than is told")
+        raise Unfit(f"{info.filename}: its checksum is not the one that is given")
     return Entry(info, found), end_of(content, info, end)
 
 
 def entries_in(content, infos):
     """The entries, which follow each other without a byte between, from the first byte to the directory."""
-    found, behind = {}, 0
+    found, after = {}, 0
     for info in sorted(infos, key=lambda info: info.header_offset):
-        if info.header_offset != behind:
+        if info.header_offset != after:
             raise Unfit(UNCOUNTED)
-        found[info.filename], behind = entry_of(content, info)
-    if behind != struct.unpack("<L", content[-6:-2])[0]:
+        found[info.filename], after = entry_of(content, info)
+    if after != struct.unpack("<L", content[-6:-2])[0]:
         raise Unfit(UNCOUNTED)
     return [found[info.filename] for info in infos]
 
@@ -210,7 +210,7 @@ def entries_of(content):
         if fault:
             raise Unfit(f"{info.orig_filename!a}: {fault}")
         if info.filename in names:
-            raise Unfit(f"{info.filename} stands twice")
+            raise Unfit(f"{info.filename} occurs twice")
         names.add(info.filename)
     look_at_lengths(infos)
     return entries_in(content, infos)
@@ -257,7 +257,7 @@ def classes_of(entries, main):
         if upper == "META-INF/INDEX.LIST":
             raise Unfit(f"{entry.name}: it names other jars, which are not checked")
         if is_class(entry) and not entry.name.endswith(".class"):
-            raise Unfit(f"{entry.name}: it is a class file, and is not named as one")
+            raise Unfit(f"{entry.name}: it is a class file, but is not named as one")
     look_at_manifest(entries, main)
     found = [entry for entry in entries if is_class(entry)]
     if not found:

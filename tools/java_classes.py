@@ -36,7 +36,7 @@ class Image:
             self.bytes = mmap.mmap(file.fileno(), 0, access=mmap.ACCESS_READ)
         mark, _, _, _, length, descriptions, texts = struct.unpack_from("=7I", self.bytes)
         if mark != MARK:
-            raise NoJava(f"{path}: it is of a form that is not known here")
+            raise NoJava(f"{path}: its form is unknown")
         self.first = HEADER + 8 * length
         self.texts = self.first + descriptions
         self.begin = self.texts + texts
@@ -85,7 +85,7 @@ class Image:
     def unpacked(self, content, length):
         mark, packed, _, how, _, is_last = PACKED_HEADER.unpack_from(content)
         if mark != PACKED_MARK or self.text(how) != "zip" or not is_last:
-            raise NoJava(f"{self.path}: its classes are packed in a way that is not known here")
+            raise NoJava(f"{self.path}: its classes are packed in an unknown way")
         return zlib.decompress(content[PACKED_HEADER.size : PACKED_HEADER.size + packed], bufsize=length)
 
 
@@ -94,7 +94,7 @@ def java():
     home = os.environ.get("JAVA_HOME")
     found = shutil.which("java") or (home and shutil.which(os.path.join(home, "bin", "java")))
     if not found:
-        raise NoJava("no java is here, neither on the path nor below JAVA_HOME")
+        raise NoJava("there is no java, neither on the path nor below JAVA_HOME")
     return found
 
 
@@ -112,7 +112,7 @@ def home_of(command):
         raise NoJava(f"{command} does not run ({fault.strerror})") from fault
     told = re.search(r"^ *java\.home = (.*)$", ran.stderr, re.M)
     if not told:
-        raise NoJava(f"{command} does not tell where its classes are")
+        raise NoJava(f"{command} does not say where its classes are")
     return told[1].strip()
 
 
@@ -123,7 +123,7 @@ def image_of(home):
         return Image(modules)
     jars = [path for part in ("lib", os.path.join("lib", "ext")) for path in sorted(glob.glob(os.path.join(home, part, "*.jar")))]
     if not any(os.path.basename(path) == "rt.jar" for path in jars):
-        raise NoJava(f"{home}: no classes of Java are found there")
+        raise NoJava(f"{home}: it has no classes of Java")
     return ClassPath(os.pathsep.join(jars))
 
 

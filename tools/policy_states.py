@@ -2,7 +2,7 @@
 
 No rule of a policy is held here. Of its text only the names of variables and methods and the numbers are read, and only once
 conspecj has read it; what an event does in a state is asked of `conspecj policy`, on a record of the events that lead there.
-In what state a record ends is asked by clauses that are put behind the policy, for methods of a class of our own, each of
+In what state a record ends is asked by clauses that are put after the policy, for methods of a class of our own, each of
 which refuses one state: the first that is refused tells it.
 """
 import itertools
@@ -27,7 +27,7 @@ class TooLarge(Exception):
 
 
 class Clause(NamedTuple):
-    """The event of a clause, as records spell it, and the values that it is tried with."""
+    """The event of a clause, as records write it, and the values that it is tried with."""
 
     phase: str
     owner: str
@@ -64,7 +64,7 @@ class Runs:
             file.write(text)
 
     def ask_with(self, guards):
-        """Puts a clause for a method of our own behind the policy for each guard."""
+        """Puts a clause for a method of our own after the policy for each guard."""
         lines = "".join(f"\nBEFORE void {PROBE.replace('/', '.')}.p{at}() PERFORM {guard} -> {{ }}" for at, guard in enumerate(guards))
         methods = "".join(f"static {PROBE} p{at} ()V\n" for at in range(len(guards)))
         self.write("policy", self.policy + lines.encode("ascii") + b"\n")
@@ -93,7 +93,7 @@ def words_of(text):
 
 
 def variables_of(words):
-    """The names of the variables, with whether each is a bool, and the words behind them."""
+    """The names of the variables, with whether each is a bool, and the words after them."""
     at, found = words.index("STATE") + 1, {}
     while at < len(words) and words[at] in ("int", "bool"):
         found[words[at + 1]] = words[at] == "bool"
@@ -199,7 +199,7 @@ class States:
         return 0 if self.values and not self.variables else len(self.values)
 
     def value_of(self, path, name, is_bool, old):
-        """The value of a variable behind these events."""
+        """The value of a variable after these events."""
         near = {old, *self.numbers, *(old + number for number in self.numbers), *(old - number for number in self.numbers)}
         tries = [True, False] if is_bool else sorted(number for number in near if 0 <= number <= 1_000_000_000)
         for first in range(0, len(tries), self.room):

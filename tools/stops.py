@@ -14,13 +14,13 @@ EVENTS = {"call": "call", "return": "return", "except": "exception"}
 
 
 def type_in(descriptor):
-    """A type as policies spell it."""
+    """A type as policies write it."""
     plain = descriptor.lstrip("[")
     return LETTERS.get(plain, plain[1:-1].replace("/", ".")) + "[]" * (len(descriptor) - len(plain))
 
 
 def in_policy(owner, name, descriptor):
-    """A method as policies spell it, without its result."""
+    """A method as policies write it, without its result."""
     types = re.findall(r"\[*(?:L[^;]+;|.)", descriptor[1:].split(")")[0])
     return f"{owner.replace('/', '.')}.{name}({', '.join(map(type_in, types))})"
 
@@ -37,7 +37,7 @@ def calls_in(lines, method):
 
 
 def line_at(lines, at):
-    """The line of an instruction, by its first byte; None where none is told."""
+    """The line of an instruction, by its first byte; None where it has none."""
     return next((line for first, line in reversed(lines) if first <= at), None)
 
 
@@ -50,7 +50,7 @@ def shown_class(content, listing):
 
 
 def calls_with_clauses(content, listing, views, method, line):
-    """The methods with a clause that the methods of this name call in this line; where no lines are told, anywhere."""
+    """The methods with a clause that the methods of this name call in this line; without line numbers, anywhere."""
     pool, lines, found = front_of(content)[1], lines_of(content), []
     for member, at, constant in calls_in(shown_class(content, listing), method):
         use = pool.reference(constant)
@@ -68,9 +68,9 @@ def refused_text(views, called):
 
 
 def told_stop(content, listing, views, place):
-    """What is told of a stop in a class; the place has the class, the method and the line, which is below 0 where none is told."""
+    """What is printed of a stop in a class; the place has the class, the method and the line, which is below 0 if it is unknown."""
     name, method, line = place
     line = line if line >= 0 else None
-    where = f"{name.replace('/', '.')}.{method}, " + ("no line is told" if line is None else f"line {line}")
+    where = f"{name.replace('/', '.')}.{method}, " + ("line unknown" if line is None else f"line {line}")
     refused = [refused_text(views, called) for called in calls_with_clauses(content, listing, views, method, line)]
-    return f"{where}: refused: {', or '.join(refused)}" if refused else f"{where}, where no call with a clause stands"
+    return f"{where}: refused: {', or '.join(refused)}" if refused else f"{where}, which has no call with a clause"

@@ -2,7 +2,7 @@ import java.lang.reflect.InvocationTargetException;
 
 /**
  * Runs a program on the Java machine as `replay` does: the words are its classes, which begin in this order, and the last of
- * them is the one whose `main` is called then. What is printed behind the program's own lines is the end; where the program
+ * them is the one whose `main` is called then. What is printed after the program's own lines is the end; where the program
  * was stopped nothing is, and the exit value tells with what.
  */
 public class Begin {

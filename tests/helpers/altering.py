@@ -84,5 +84,5 @@ def slotted(draw, content):
             number = draw.choice([index for index, place in places.items() if content[place] == kind])
         return content[:at] + struct.pack(">H", number) + content[at + 2 :]
     except (IndexError, struct.error):
-        # what was altered before is no class file any more
+        # what was altered before is not a class file any more
         return placed(draw, content)

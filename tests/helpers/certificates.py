@@ -10,7 +10,7 @@ FREE, TAKING, HELD, GRANTED, OWED, STOP = range(6)
 BEFORE, AFTER, EXCEPTIONAL = range(3)
 CONST, VAR, VAR_ADD, ARGUMENT, RESULT, LOCK = range(6)
 
-# the numbers that a note has behind its site, where it has no list of terms
+# the numbers that a note has after its site, where it has no list of terms
 PLAIN = {GRANTED: "BBB", OWED: "BBB", STOP: "B"}
 # those of a term
 TERMS = {CONST: "i", VAR: "B", VAR_ADD: "Bi", ARGUMENT: "B", RESULT: "", LOCK: ""}

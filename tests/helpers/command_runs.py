@@ -82,7 +82,7 @@ def standing(folder):
             found[os.path.relpath(os.path.join(root, name), folder)] = None
         for name in names:
             path = os.path.join(root, name)
-            # a file of zeros is told by its length
+            # a file of zeros is given by its length
             if os.path.getsize(path) > 1 << 26:
                 found[os.path.relpath(path, folder)] = os.path.getsize(path)
                 continue

@@ -2,7 +2,7 @@
 
 Each member that gives a number gives one of its own, so a program tells which members its references find: it computes one number
 that has those that were found as its digits, to the base 256, and calls the library with it. A reference stands in a class of its
-own, behind a handler: where an error is thrown its digit is 0.
+own, after a handler: where an error is thrown its digit is 0.
 """
 import struct
 from typing import NamedTuple

@@ -1,4 +1,4 @@
-"""Makes jars for the scripts of tests/: whole ones, and odd ones that no tool may take, each with what is told of it."""
+"""Makes jars for the scripts of tests/: whole ones, and odd ones that no tool may take, each with what is printed of it."""
 import io
 import os
 import struct
@@ -12,7 +12,7 @@ DENIED = os.path.join(ROOT, "examples", "denied")
 POLICY, LISTING = os.path.join(DENIED, "policy"), os.path.join(DENIED, "listing")
 MANIFEST = "META-INF/MANIFEST.MF"
 HEAD = b"Manifest-Version: 1.0\r\nMain-Class: a.S\r\n\r\n"
-NO_JAR = "it is no jar, or bytes stand in it that its directory does not count"
+NO_JAR = "it is not a jar, or has bytes that its directory does not count"
 
 
 def denied(name):
@@ -52,7 +52,7 @@ def write(folder, name, content):
 FLAGS, METHOD, SUM, PACKED, LENGTH, NAME = 8, 10, 16, 20, 24, 46
 SOONER, HEADER_NAME = 2, 30
 LONG_LENGTHS, OTHER_NAME = b"\1\0\x08\0" + bytes(8), b"\x75\x70\x05\0" + bytes(5)
-HEADER = "the header before its bytes, or what is told behind them, is not what the directory says"
+HEADER = "the header before its bytes, or the descriptor after them, differs from the directory"
 
 
 def told_otherwise(content, name, place, form, value):
@@ -82,7 +82,7 @@ def not_counted(entries, hidden):
 
 
 def in_stream(entries):
-    """The jar as it is written to a pipe, with sums and lengths behind the bytes of each entry."""
+    """The jar as it is written to a pipe, with sums and lengths after the bytes of each entry."""
 
     class Pipe(io.BytesIO):
         def seekable(self):
@@ -98,14 +98,14 @@ def in_stream(entries):
     return made.getvalue()
 
 
-def behind_bytes(content, value):
-    """The jar with another sum behind the bytes of its last entry."""
+def bytes_after(content, value):
+    """The jar with another sum after the bytes of its last entry."""
     at = content.rindex(b"PK\7\x08") + 4
     return content[:at] + struct.pack("<L", value) + content[at + 4 :]
 
 
 def more_packed(content, name, added):
-    """The jar with more bytes behind the packed ones of its last entry, and counted with them."""
+    """The jar with more bytes after the packed ones of its last entry, and counted with them."""
     place, packed = struct.unpack("<L", content[-6:-2])[0], content.rindex(name.encode("ascii")) - NAME + PACKED
     length = struct.unpack_from("<L", content, packed)[0] + len(added)
     content = in_both(content, name, PACKED, "<L", length)
@@ -142,13 +142,13 @@ def of_two_readings(entries):
         ("a text", b"This is a text, and no jar, whatever its name is.\n", NO_JAR),
         ("an empty file", b"", NO_JAR),
         ("bytes before it", b"#!/bin/sh\n" + whole, NO_JAR),
-        ("bytes behind it", whole + b"\n", NO_JAR),
-        ("another jar behind it", whole + whole, NO_JAR),
+        ("bytes after it", whole + b"\n", NO_JAR),
+        ("another jar after it", whole + whole, NO_JAR),
         ("a remark at its end", jar_of(entries, b"a remark"), NO_JAR),
         ("what looks like a longer end", jar_of(entries, last=b"PK\6\7" + bytes(16)), NO_JAR),
         ("a hidden entry before all", not_counted([hidden, *entries], ["a/X.bin"]), NO_JAR),
         ("a hidden entry between", not_counted([*entries[:2], hidden, *entries[2:]], ["a/X.bin"]), NO_JAR),
-        ("a hidden entry behind all", not_counted([*entries, hidden], ["a/X.bin"]), NO_JAR),
+        ("a hidden entry after all", not_counted([*entries, hidden], ["a/X.bin"]), NO_JAR),
         ("a directory with more", told_otherwise(odd, "a/X.bin", 32, "<H", 1), NO_JAR),
         ("a name with a zero byte", odd.replace(b"a/X.bin", b"a/X\0bin"), f"'a/X\\x00bin': {two}"),
         ("a name that is no UTF-8", odd.replace(b"a/X.bin", b"a/\xe4.bin"), f"'a/\\u03a3.bin': {two}"),
@@ -156,18 +156,18 @@ def of_two_readings(entries):
         ("no header", in_header(odd, "a/X.bin", SOONER, "<L", 0), f"a/X.bin: {HEADER}"),
         ("another sum in the header", in_header(odd, "a/X.bin", SUM, "<L", 0), f"a/X.bin: {HEADER}"),
         ("another length in the header", in_header(odd, "a/X.bin", LENGTH, "<L", 0), f"a/X.bin: {HEADER}"),
-        ("a header that tells sum and lengths behind the bytes", in_header(odd, "a/X.bin", FLAGS, "<H", 8), f"a/X.bin: {HEADER}"),
+        ("a header that tells sum and lengths after the bytes", in_header(odd, "a/X.bin", FLAGS, "<H", 8), f"a/X.bin: {HEADER}"),
         ("another length in the header of one that does", in_header(streamed, "a/X.bin", LENGTH, "<L", 9), f"a/X.bin: {HEADER}"),
-        ("another sum behind the bytes", behind_bytes(streamed, 7), f"a/X.bin: {HEADER}"),
+        ("another sum after the bytes", bytes_after(streamed, 7), f"a/X.bin: {HEADER}"),
         ("encrypted", in_both(odd, "a/X.bin", FLAGS, "<H", 1), neither),
         ("another compression", in_both(odd, "a/X.bin", METHOD, "<H", 12), neither),
-        ("another sum", in_both(odd, "a/X.bin", SUM, "<L", 7), "a/X.bin: its sum is another than is told"),
-        ("a length that is too long", in_both(odd, "a/X.bin", LENGTH, "<L", 11), "a/X.bin: its length is another than is told"),
-        ("a length that is too short", in_both(odd, "a/X.bin", LENGTH, "<L", 9), "a/X.bin: its length is another than is told"),
-        ("fewer bytes than are packed", in_both(odd, "a/X.bin", PACKED, "<L", packed - 1), "a/X.bin: its length is another than is told"),
-        ("more bytes than are packed", more_packed(odd, "a/X.bin", b"more"), "a/X.bin: its length is another than is told"),
+        ("another sum", in_both(odd, "a/X.bin", SUM, "<L", 7), "a/X.bin: its checksum is not the one that is given"),
+        ("a length that is too long", in_both(odd, "a/X.bin", LENGTH, "<L", 11), "a/X.bin: its length is not the one that is given"),
+        ("a length that is too short", in_both(odd, "a/X.bin", LENGTH, "<L", 9), "a/X.bin: its length is not the one that is given"),
+        ("fewer bytes than are packed", in_both(odd, "a/X.bin", PACKED, "<L", packed - 1), "a/X.bin: its length is not the one that is given"),
+        ("more bytes than are packed", more_packed(odd, "a/X.bin", b"more"), "a/X.bin: its length is not the one that is given"),
         ("two lengths of what is stored", in_both(stored, "a/X.bin", LENGTH, "<L", 9), length),
-        ("stored bytes whose length stands behind", in_both(stored, "a/X.bin", FLAGS, "<H", 8), length),
+        ("stored bytes whose length stands after", in_both(stored, "a/X.bin", FLAGS, "<H", 8), length),
         ("long lengths", with_extra(entries, LONG_LENGTHS), extra),
         ("another name as an extra field", with_extra(entries, OTHER_NAME), extra),
         ("an extra field that is cut short", with_extra(entries, b"\x75\x55\0"), extra),
@@ -201,8 +201,8 @@ def with_other_classes(entries):
     part = "a part of its name is empty, `.` or `..`"
     brings = "which brings code that is not checked"
     return [
-        ("a class twice", more(("a/S.class", quiet)), "a/S.class stands twice"),
-        ("a resource twice", more(("x", b"1"), ("x", b"2")), "x stands twice"),
+        ("a class twice", more(("a/S.class", quiet)), "a/S.class occurs twice"),
+        ("a resource twice", more(("x", b"1"), ("x", b"2")), "x occurs twice"),
         ("entries for later versions", more(("META-INF/versions/9/a/S.class", quiet)), "META-INF/versions/9/a/S.class: some Java machines"),
         ("the same in other letters", more(("meta-inf/Versions/9/x", b"")), "meta-inf/Versions/9/x: some Java machines"),
         ("an index of other jars", more(("META-INF/INDEX.LIST", b"JarIndex-Version: 1.0\n\n")), "META-INF/INDEX.LIST: it names other jars"),
@@ -211,8 +211,8 @@ def with_other_classes(entries):
         ("an agent", manifest(b"Launcher-Agent-Class: a.S\r\n"), f"its manifest has Launcher-Agent-Class, {brings}"),
         ("another main class", manifest(b"\nName: x\nMain-Class: a.Other\n"), "its manifest names a.Other as the main class"),
         ("two manifests", more(("meta-inf/manifest.mf", b"")), "it has two manifests"),
-        ("a class with another ending", more(("a/E.bin", quiet)), "a/E.bin: it is a class file, and is not named as one"),
-        ("a class as a folder", more(("a/E.class/", quiet)), "a/E.class/: it is a class file, and is not named as one"),
+        ("a class with another ending", more(("a/E.bin", quiet)), "a/E.bin: it is a class file, but is not named as one"),
+        ("a class as a folder", more(("a/E.class/", quiet)), "a/E.class/: it is a class file, but is not named as one"),
         ("a way out of the folder", more(("../E.class", quiet)), f"'../E.class': {part}"),
         ("a name from the root", more(("/a/E.class", quiet)), f"'/a/E.class': {part}"),
         ("no class", jar_of(without), "it has no class files"),
@@ -220,7 +220,7 @@ def with_other_classes(entries):
 
 
 def odd_jars(entries):
-    """Each with what it is, its bytes, and how what is told of it begins."""
+    """Each with what it is, its bytes, and how what is printed of it begins."""
     return of_two_readings(entries) + too_long(entries) + with_other_classes(entries)
 
 

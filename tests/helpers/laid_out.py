@@ -5,7 +5,7 @@ from typing import NamedTuple, Optional
 
 from certificates import CONST, HELD
 
-# opcodes with two bytes of offset behind them
+# opcodes with two bytes of offset after them
 GOTO, IF_ICMP = 0xA7, range(0x9F, 0xA5)
 JUMPS = [*range(0x99, 0xA8), 0xC6, 0xC7]
 GETSTATIC, IADD = 0xB2, 0x60
@@ -34,7 +34,7 @@ def parts_of(code, starts, entries):
 
 
 def again(parts):
-    """The code of these parts, and where each instruction that was there stands in it; its end is told behind them."""
+    """The code of these parts, and where each instruction that was there stands in it; its end comes after them."""
     starts, at = {}, 0
     for part in parts:
         if part.old is not None:
@@ -49,7 +49,7 @@ def again(parts):
 
 
 def told_again(parts):
-    """What the certificate tells of these parts: an object that is not made yet is told by the place of its `new`."""
+    """What the certificate says of these parts: an object that is not initialised yet is named by the place of its `new`."""
     places = {part.old: place for place, part in enumerate(parts) if part.old is not None}
     entries = [copy.deepcopy(part.entry) for part in parts]
     for frame, _ in entries:
@@ -73,14 +73,14 @@ def with_jumps(parts):
 def turned(parts):
     """Where a test jumps if its atom does not hold, it jumps over such a jump if it does."""
     made = []
-    for part, behind in zip(parts, [*parts[1:], None]):
+    for part, after in zip(parts, [*parts[1:], None]):
         kind, *note = part.entry[1]
         if part.code[0] in IF_ICMP and kind == HELD:
             site, failed, _, terms, variables = note
             missed = [HELD, site, failed + 1, 0, terms[:-2], variables]
             # the opcodes of a relation and of the other one differ in the last bit, counted from the first of them
             opcode = IF_ICMP[0] + ((part.code[0] - IF_ICMP[0]) ^ 1)
-            made.append(Part(bytes([opcode]) + part.code[1:], part.old, behind.old, part.entry))
+            made.append(Part(bytes([opcode]) + part.code[1:], part.old, after.old, part.entry))
             made.append(Part(bytes([GOTO, 0, 0]), None, part.to, [copy.deepcopy(parts[part.to].entry[0]), copy.deepcopy(missed)]))
         else:
             made.append(part)

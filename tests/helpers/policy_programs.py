@@ -80,7 +80,7 @@ TYPES = {"Z": "boolean", "B": "byte", "S": "short", "C": "char", "I": "int", "V"
 
 
 def type_in(descriptor):
-    """The type that a descriptor of no array spells, as policies do."""
+    """The type that a descriptor encodes, which is no array's, as policies write it."""
     return TYPES.get(descriptor, descriptor[1:-1].replace("/", "."))
 
 

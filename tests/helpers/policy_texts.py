@@ -84,7 +84,7 @@ class Reader:
         return Policy(self.most, self.variables, clauses)
 
     def dotted(self):
-        """Names with dots between, and the brackets of an array behind them."""
+        """Names with dots between, and the brackets of an array after them."""
         text = self.next()
         while self.has("."):
             text += "." + self.next()

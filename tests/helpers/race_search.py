@@ -65,7 +65,7 @@ class Search:
             yield dict(zip(bases, numbers))
 
     def after(self, state, clause, event):
-        """The state behind the event, or None where it is refused."""
+        """The state after the event, or None where it is refused."""
         for atoms, updates in clause.branches:
             if all(RELATIONS[relation](event[base] if base in event else state[base], number) for base, relation, number in atoms):
                 new = dict(state)
@@ -75,7 +75,7 @@ class Search:
         return None
 
     def both(self, state, one, other):
-        """The state behind two events, each a clause and its numbers."""
+        """The state after two events, each a clause and its numbers."""
         middle = self.after(state, *one)
         return None if middle is None else self.after(middle, *other)
 
@@ -83,7 +83,7 @@ class Search:
         return any(self.after(state, clause, event) is None for clause in self.ends for state in self.states([clause]) for event in self.events(clause))
 
     def differing(self, firsts, seconds):
-        """Whether some first and second event are accepted in this order, and not in the other with the same state behind them."""
+        """Whether some first and second event are accepted in this order, and not in the other with the same state after them."""
         for first, second in itertools.product(firsts, seconds):
             if not self.updates([first, second]):
                 # where nothing changes each event is accepted or not, whatever comes before it

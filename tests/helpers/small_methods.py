@@ -1,4 +1,4 @@
-"""Small methods, each in the class `b/A` behind its `main`, for the scripts of tests/ that ask for their types."""
+"""Small methods, each in the class `b/A` after its `main`, for the scripts of tests/ that ask for their types."""
 from class_files import code_of, with_main
 
 LISTING = b"""class api/Net extends java/lang/Object
@@ -30,7 +30,7 @@ def class_with(desc, text, sizes, is_maker=False, table=()):
     made.field(0x1, "next", "I")
     flags, name = (0x1, "<init>") if is_maker else (0x9, "go")
     made.method(flags, name, desc, code_of(made, text, CONSTANTS), *sizes, table)
-    # what OWN.MAKE names, behind the method that is asked about
+    # what OWN.MAKE names, after the method that is asked about
     if not is_maker:
         made.method(0x1, *MAKER, code_of(made, "2a b7 OBJECT.MAKE b1", CONSTANTS), 1, 1)
     return made.bytes()

@@ -71,7 +71,7 @@ class Woven:
 
         A change of code is the index of the first instruction that goes, the words of each that goes, as `show` has their
         fronts, and the bytes that come in their place: as many, with STATE and V0 for the constants that blocks name, and the
-        name of a listed method that is called. Behind it may stand what the certificate tells of what comes: for each
+        name of a listed method that is called. After it may stand what the certificate tells of what comes: for each
         instruction the index of one with its types, or these, or None, and its note. A change of a note is an index and a note.
         `handler` is an entry of the exception table that stands in the place of the first; an empty one takes the first away.
         `mode` is another one for the certificate to tell, by its number there."""
@@ -158,7 +158,7 @@ def with_code(content, begin, code, moved):
 
 
 def change_handler(content, begin, handler):
-    """Puts another first entry into the exception table behind the code, or takes it away."""
+    """Puts another first entry into the exception table after the code, or takes it away."""
     length = struct.unpack_from(">I", content, begin - 4)[0]
     at = begin + length
     if handler:

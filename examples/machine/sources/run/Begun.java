@@ -3,7 +3,7 @@ package run;
 import api.In;
 import api.Out;
 
-/** Initialisers, each of a class that stands behind what it needs: what they do, and what they leave. */
+/** Initialisers, each of a class that stands after what it needs: what they do, and what they leave. */
 public final class Begun {
     static class A {
         static int first = In.number();

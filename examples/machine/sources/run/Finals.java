@@ -4,7 +4,7 @@ import api.Broken;
 import api.In;
 import api.Out;
 
-/** What stands behind `finally`, whichever way control leaves. */
+/** What stands after `finally`, whichever way control leaves. */
 public final class Finals {
     public static void main(String[] words) {
         for (int way = 0; way < 6; way++) {

@@ -2,7 +2,7 @@ package run;
 
 import api.Out;
 
-/** An initialiser that throws: what stands behind it is not begun, nor is main. */
+/** An initialiser that throws: what stands after it is not begun, nor is main. */
 public final class NotBegun {
     static class A {
         static int[] none;

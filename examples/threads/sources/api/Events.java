@@ -7,7 +7,7 @@ import java.util.Map;
 
 /**
  * The events of this library, as the lines of a record, in the order in which they happen; threads are numbered as they are
- * met. They are printed as the Java machine ends, however it does. With the property `most` a line behind them tells how many
+ * met. They are printed as the Java machine ends, however it does. With the property `most` a line after them tells how many
  * calls were under way at most.
  */
 final class Events {

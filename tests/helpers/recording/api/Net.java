@@ -4,7 +4,7 @@ import java.util.Random;
 
 /**
  * Prints its calls and how they end, as the lines of a record. What it answers is chosen by the number in the property `answers`;
- * behind 400 lines it ends the run.
+ * after 400 lines it ends the run.
  */
 public class Net {
     private static final Random CHOICE = new Random(Integer.getInteger("answers", 1));
