@@ -638,11 +638,12 @@ COMMANDS = {
         "no such command",
         (),
         (
-            "No command has these words: the command is unknown, a word is missing, empty or too many, or MODE is not "
-            "`auto`, `hold` or `release`."
+            "No command has these words: the command is unknown, a word is missing, empty or too many, MODE is not `auto`, "
+            "`hold` or `release`, WORKERS is not from 1 to 64, or BUDGET not from 1 to 1,000,000."
         ),
         (
             "The command begins with a capital letter, or an option such as `--help` is given: there are no options.",
+            "WORKERS or BUDGET has a sign, or a leading zero.",
             "A pattern of the shell finds no file.",
         ),
         "Compare the words with docs/COMMANDS.md.",
@@ -734,8 +735,17 @@ ANSWERS = {
         "clause: it has already happened, so the run obeys the policy, and nothing may follow it."
     ),
     "free": "`race` finds the policy race-free: the lock may be let go while the library runs.",
-    "end finished N": "`replay` made N steps, and every thread has ended.",
-    "end deadlock N": "`replay` made N steps, and no thread can make another.",
-    "end stopped E N": "`replay` made N steps, and the program was stopped with the value E; a block stops it with 77.",
+    "end finished N": "`replay` or `run` made N steps, and every thread has ended.",
+    "end deadlock N": "`replay` or `run` made N steps, and no thread can make another.",
+    "end stopped E N": (
+        "`replay` or `run` made N steps, and the program was stopped with the value E; a block stops it with 77."
+    ),
     "end running N": "`replay` made N steps, and the run is not over.",
+    "end budget N": "`run` made N steps, as many as it may, and the run is not over: give a greater BUDGET.",
+    "end device N": (
+        "`run` made N steps, and then a device of the library failed, or gave what does not fit the call: for a "
+        "program that prints, standard error is full or closed."
+    ),
 }
+# the statuses of these that are not 0
+ANSWER_STATUSES = {"end device N": 8, "end budget N": 9}

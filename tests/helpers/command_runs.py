@@ -25,7 +25,7 @@ HELD = ["check", "POLICY", "LISTING", "H.CERT", "a/S", "H.class", "State.class"]
 # the class that calls the denied method is woven
 WEAVE = ["inline", "POLICY", "LISTING", "a/S", "new", "auto", "S.class"]
 
-DONE, REFUSED, WORDS, INPUT, OVERFLOW, STORE, SINK, MEMORY = range(8)
+DONE, REFUSED, WORDS, INPUT, OVERFLOW, STORE, SINK, MEMORY, DEVICE, BUDGET = range(10)
 
 
 def read(name):
@@ -55,10 +55,10 @@ def changed(*edits):
 
 
 class Ended:
-    """How a run ended: its status, what it printed, and the files that stand then."""
+    """How a run ended: its status, what it printed, also as its errors, and the files that stand then."""
 
-    def __init__(self, status, printed, files):
-        self.status, self.printed, self.files = status, printed, files
+    def __init__(self, status, printed, files, errors=b""):
+        self.status, self.printed, self.files, self.errors = status, printed, files, errors
 
 
 def put(folder, name, content):
@@ -100,15 +100,15 @@ class Runs:
             sys.exit(found.stderr)
         self.name, self.program, self.passed, self.failed = name, found.stdout.strip(), 0, 0
 
-    def run(self, words, files, out=None):
-        """One run over these files. Standard output is kept, or goes to `out`."""
+    def run(self, words, files, out=None, errors=None):
+        """One run over these files. Standard output and standard error are kept, or go to `out` and `errors`."""
         with tempfile.TemporaryDirectory() as folder:
             for name, content in files.items():
                 put(folder, name, content)
             ran = subprocess.run(
-                [self.program, *words], cwd=folder, stdout=out or subprocess.PIPE, stderr=subprocess.PIPE, check=False
+                [self.program, *words], cwd=folder, stdout=out or subprocess.PIPE, stderr=errors or subprocess.PIPE, check=False
             )
-            return Ended(ran.returncode, (ran.stdout or b"").decode("latin-1"), standing(folder))
+            return Ended(ran.returncode, (ran.stdout or b"").decode("latin-1"), standing(folder), ran.stderr or b"")
 
     def say(self, what, wrong):
         if wrong:
@@ -118,9 +118,9 @@ class Runs:
             self.passed += 1
             print(what)
 
-    def expect(self, what, words, status, printed, files=None, out=None):
+    def expect(self, what, words, status, printed, files=None, out=None, errors=None):
         """The run prints this and ends so; what it leaves is given back."""
-        ended = self.run(words, denied() if files is None else files, out)
+        ended = self.run(words, denied() if files is None else files, out, errors)
         wrong = ""
         if (ended.status, ended.printed) != (status, printed):
             wrong = f"printed {ended.printed!r} with status {ended.status}, not {printed!r} with status {status}"

@@ -38,10 +38,11 @@ class Clause(NamedTuple):
 
 
 class Policy(NamedTuple):
-    """The greatest number, the variables with their greatest values, and the clauses."""
+    """The greatest number, the variables with their greatest values and their first ones, and the clauses."""
 
     most: int
     variables: dict
+    first: dict
     clauses: list
 
 
@@ -52,7 +53,7 @@ class Reader:
         found = [match[0] for match in WORD.finditer(text)]
         assert "".join(found) == text, text
         self.words = [word for word in found if not word.isspace() and not word.startswith("//")]
-        self.at, self.variables, self.most = 0, {}, 0
+        self.at, self.variables, self.first, self.most = 0, {}, {}, 0
 
     def next(self):
         self.at += 1
@@ -76,12 +77,12 @@ class Reader:
             kind, name = self.next(), self.next()
             self.variables[name] = self.most if kind == "int" else 1
             self.want("=")
-            self.next()
+            self.first[name] = self.constant()
             self.want(";")
         clauses = []
         while self.at < len(self.words):
             clauses.append(self.clause())
-        return Policy(self.most, self.variables, clauses)
+        return Policy(self.most, self.variables, self.first, clauses)
 
     def dotted(self):
         """Names with dots between, and the brackets of an array after them."""

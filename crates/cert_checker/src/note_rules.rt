@@ -71,7 +71,8 @@ fn table_fault(
     row: Option<&RowRef<'_>>,
 ) -> Option<u8>
     ensures { result
-        ≡ first_broken (drop 3 (rules_at rules.now told.now method.now note.now here.now (option_map row_borrowed (option_copied row.entry)))) }
+        ≡ first_broken (drop 3 (rules_at rules.now told.now method.now note.now here.now
+        (option_map row_borrowed (option_copied row.entry)))) }
 {
     // Where what comes next is as the table has it, no rule from the fourth on is broken.
     if goes_as_asked(rules, told, method, note, here, row) {
@@ -91,7 +92,8 @@ fn rule_broken(
 ) -> u8
     requires { goes_well rules.now told.now method.now note.now here.now (option_map row_borrowed (option_copied row)) ≡ false }
     ensures { Some result
-        ≡ first_broken (drop 3 (rules_at rules.now told.now method.now note.now here.now (option_map row_borrowed (option_copied row.entry)))) }
+        ≡ first_broken (drop 3 (rules_at rules.now told.now method.now note.now here.now
+        (option_map row_borrowed (option_copied row.entry)))) }
 {
     let shape = here.shape;
     let has_row = row.is_some();

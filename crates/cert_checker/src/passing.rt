@@ -208,7 +208,8 @@ fn handlers_pass(
     method: &Method,
     here: &Here<'_>,
 ) -> bool
-    ensures { result ≡ handlers_pass (passes rules.now test) told.now (option_map row_borrowed (option_copied row.entry)) method.now here.now }
+    ensures { result
+        ≡ handlers_pass (passes rules.now test) told.now (option_map row_borrowed (option_copied row.entry)) method.now here.now }
 {
     let asked = asked_of_handlers(row);
     covering_pass(rules, test, told, &asked, here.at, &method.handlers)

@@ -1,11 +1,12 @@
 -- Words are those of one command, and name one set of files for it.
 use Rattle.std.proofs.Common.{◌≡◌, ℕ, ◌+◌, ◌*◌, List, [], ◌∷◌, get_or, length, refl, sym, ap, ◌∙◌, arith}
-use Rattle.std.specs.Prelude.{codes}
+use Rattle.std.specs.Prelude.{codes, decimal}
+use Rattle.std.proofs.lemmas.Fmt.{decimal_injective}
 use Rattle.command_words.specs.declared.inline_words.Weaving.{Weaving}
 use Rattle.command_words.specs.declared.inline_words.Weaving.TheVariants.{Auto, Hold, Release}
 use Rattle.command_words.specs.InlineWords.{IsInline, NamedInline, weaving_word}
 use Rattle.command_words.specs.ReplayWords.{IsReplay, NamedReplay}
-use Rattle.command_words.specs.Words.{Check, Inline, IsCheck, IsCommand, IsPolicyCommand, IsRace, IsShow, NamedCheck, NamedCommand, NamedPolicy, NamedRace, NamedShow, Policy, Race, Replay, Show, Encodes}
+use Rattle.command_words.specs.Words.{Check, Inline, IsCheck, IsCommand, IsPolicyCommand, IsRace, IsShow, NamedCheck, NamedCommand, NamedPolicy, NamedRace, NamedShow, NamedRun, Policy, Race, Replay, Run, IsRunCommand, Show, Encodes}
 
 -- ---- the command inline
 
@@ -114,6 +115,28 @@ abbrev marked : List (List ℕ) → ℕ
 marked [] = 0
 marked (word ∷ words) = mark word
 
+abbrev words_of_run : NamedRun → List (List ℕ)
+words_of_run named =
+    codes "run" ∷ named.check.policy ∷ named.check.listing ∷ named.check.certificate ∷ named.check.main ∷ decimal named.workers ∷ decimal named.budget
+    ∷ named.check.classes
+
+same_run : (words : List (List ℕ)) (a b : NamedRun) → IsRunCommand words a → IsRunCommand words b → a ≡ b
+same_run words a b of_a of_b =
+    let e : words_of_run a ≡ words_of_run b = sym of_a.encoded ∙ of_b.encoded in
+    let policy : a.check.policy ≡ b.check.policy = cc in
+    let listing : a.check.listing ≡ b.check.listing = cc in
+    let certificate : a.check.certificate ≡ b.check.certificate = cc in
+    let main : a.check.main ≡ b.check.main = cc in
+    let workers : decimal a.workers ≡ decimal b.workers = cc in
+    let budget : decimal a.budget ≡ decimal b.budget = cc in
+    let classes : a.check.classes ≡ b.check.classes = cc in
+    let as_many : a.workers ≡ b.workers = decimal_injective a.workers b.workers (omega (arith, of_a.workers.within)) (omega (arith, of_b.workers.within)) workers in
+    let as_far : a.budget ≡ b.budget = decimal_injective a.budget b.budget (omega (arith, of_a.budget.within)) (omega (arith, of_b.budget.within)) budget in
+    let check : a.check ≡ b.check =
+    rw (← policy, ← listing, ← certificate, ← main, ← classes) refl in
+    let whole : a ≡ record { check = b.check; workers = b.workers; budget = b.budget } = rw (← check, ← as_many, ← as_far) refl in
+    whole
+
 abbrev mark_of : NamedCommand → ℕ
 mark_of (Check named) = 995
 mark_of (Show named) = 1154
@@ -121,6 +144,7 @@ mark_of (Policy named) = 1126
 mark_of (Race named) = 1144
 mark_of (Inline named) = 1056
 mark_of (Replay named) = 1146
+mark_of (Run named) = 1143
 
 marks : (words : List (List ℕ)) (named : NamedCommand) → Encodes words named → marked words ≡ mark_of named
 marks words (Check named) encoded = ap marked encoded.encoded
@@ -129,6 +153,7 @@ marks words (Policy named) encoded = ap marked encoded.encoded
 marks words (Race named) encoded = ap marked encoded.encoded
 marks words (Inline named) encoded = ap marked encoded.encoded
 marks words (Replay named) encoded = ap marked encoded.encoded
+marks words (Run named) encoded = ap marked encoded.encoded
 
 same_command : (words : List (List ℕ)) (a b : NamedCommand) → mark_of a ≡ mark_of b → Encodes words a → Encodes words b → a ≡ b
 same_command words (Check a) (Check b) e of_a of_b = ap Check (same_check words a b of_a of_b)
@@ -137,36 +162,49 @@ same_command words (Check a) (Policy b) e of_a of_b = absurd (omega (arith, e))
 same_command words (Check a) (Race b) e of_a of_b = absurd (omega (arith, e))
 same_command words (Check a) (Inline b) e of_a of_b = absurd (omega (arith, e))
 same_command words (Check a) (Replay b) e of_a of_b = absurd (omega (arith, e))
+same_command words (Check a) (Run b) e of_a of_b = absurd (omega (arith, e))
 same_command words (Show a) (Check b) e of_a of_b = absurd (omega (arith, e))
 same_command words (Show a) (Show b) e of_a of_b = ap Show (same_show words a b of_a of_b)
 same_command words (Show a) (Policy b) e of_a of_b = absurd (omega (arith, e))
 same_command words (Show a) (Race b) e of_a of_b = absurd (omega (arith, e))
 same_command words (Show a) (Inline b) e of_a of_b = absurd (omega (arith, e))
 same_command words (Show a) (Replay b) e of_a of_b = absurd (omega (arith, e))
+same_command words (Show a) (Run b) e of_a of_b = absurd (omega (arith, e))
 same_command words (Policy a) (Check b) e of_a of_b = absurd (omega (arith, e))
 same_command words (Policy a) (Show b) e of_a of_b = absurd (omega (arith, e))
 same_command words (Policy a) (Policy b) e of_a of_b = ap Policy (same_policy words a b of_a of_b)
 same_command words (Policy a) (Race b) e of_a of_b = absurd (omega (arith, e))
 same_command words (Policy a) (Inline b) e of_a of_b = absurd (omega (arith, e))
 same_command words (Policy a) (Replay b) e of_a of_b = absurd (omega (arith, e))
+same_command words (Policy a) (Run b) e of_a of_b = absurd (omega (arith, e))
 same_command words (Race a) (Check b) e of_a of_b = absurd (omega (arith, e))
 same_command words (Race a) (Show b) e of_a of_b = absurd (omega (arith, e))
 same_command words (Race a) (Policy b) e of_a of_b = absurd (omega (arith, e))
 same_command words (Race a) (Race b) e of_a of_b = ap Race (same_race words a b of_a of_b)
 same_command words (Race a) (Inline b) e of_a of_b = absurd (omega (arith, e))
 same_command words (Race a) (Replay b) e of_a of_b = absurd (omega (arith, e))
+same_command words (Race a) (Run b) e of_a of_b = absurd (omega (arith, e))
 same_command words (Inline a) (Check b) e of_a of_b = absurd (omega (arith, e))
 same_command words (Inline a) (Show b) e of_a of_b = absurd (omega (arith, e))
 same_command words (Inline a) (Policy b) e of_a of_b = absurd (omega (arith, e))
 same_command words (Inline a) (Race b) e of_a of_b = absurd (omega (arith, e))
 same_command words (Inline a) (Inline b) e of_a of_b = ap Inline (same_inline words a b of_a of_b)
 same_command words (Inline a) (Replay b) e of_a of_b = absurd (omega (arith, e))
+same_command words (Inline a) (Run b) e of_a of_b = absurd (omega (arith, e))
 same_command words (Replay a) (Check b) e of_a of_b = absurd (omega (arith, e))
 same_command words (Replay a) (Show b) e of_a of_b = absurd (omega (arith, e))
 same_command words (Replay a) (Policy b) e of_a of_b = absurd (omega (arith, e))
 same_command words (Replay a) (Race b) e of_a of_b = absurd (omega (arith, e))
 same_command words (Replay a) (Inline b) e of_a of_b = absurd (omega (arith, e))
 same_command words (Replay a) (Replay b) e of_a of_b = ap Replay (same_replay words a b of_a of_b)
+same_command words (Replay a) (Run b) e of_a of_b = absurd (omega (arith, e))
+same_command words (Run a) (Check b) e of_a of_b = absurd (omega (arith, e))
+same_command words (Run a) (Show b) e of_a of_b = absurd (omega (arith, e))
+same_command words (Run a) (Policy b) e of_a of_b = absurd (omega (arith, e))
+same_command words (Run a) (Race b) e of_a of_b = absurd (omega (arith, e))
+same_command words (Run a) (Inline b) e of_a of_b = absurd (omega (arith, e))
+same_command words (Run a) (Replay b) e of_a of_b = absurd (omega (arith, e))
+same_command words (Run a) (Run b) e of_a of_b = ap Run (same_run words a b of_a of_b)
 
 -- Words are those of one command.
 pub command_once : (words : List (List ℕ)) (a b : NamedCommand) → IsCommand words a → IsCommand words b → a ≡ b

@@ -6,8 +6,10 @@
 
 mod inline_words;
 mod replay_words;
+mod run_words;
 mod words;
 
 pub use inline_words::{InlineWords, Weaving};
 pub use replay_words::ReplayWords;
-pub use words::{CheckWords, Command, PolicyWords, RaceWords, ShowWords, command_of};
+pub use run_words::RunWords;
+pub use words::{CheckWords, Command, FileCommand, PolicyWords, RaceWords, ShowWords, command_of};

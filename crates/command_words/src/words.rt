@@ -3,8 +3,10 @@
 ghost use Rattle.std.specs.Prelude.{◌≡◌, ◌≢◌, ◌↔◌, ℕ, List, ◌∷◌, [], ◌++◌, IfSome, IfNone, IsTrue};
 ghost use Rattle.std.specs.List.{AllByRecursion};
 ghost use Rattle.command_words.specs.Words.{
+  Encodes,
   IsCheck,
   IsCommand,
+  IsOverFiles,
   IsPolicyCommand,
   IsRace,
   IsShow,
@@ -14,6 +16,7 @@ ghost use Rattle.command_words.specs.Words.{
   NamedRace,
   NamedShow,
   check_named,
+  files_named,
   named_by,
   policy_named,
   race_named,
@@ -22,6 +25,7 @@ ghost use Rattle.command_words.specs.Words.{
 
 use crate::inline_words::{InlineWords, inline_words};
 use crate::replay_words::{ReplayWords, replay_words};
+use crate::run_words::{RunWords, run_words};
 use mon_base::Bytes;
 
 /// The words of the command `check`, each the name of a file but `main`.
@@ -58,15 +62,23 @@ pub struct RaceWords<'a> {
     pub listing: &'a Bytes,
 }
 
-/// A command and its words.
+/// A command that reads files, and may write some, with its words.
 #[derive(Clone, Copy)]
-pub enum Command<'a> {
+pub enum FileCommand<'a> {
     Check(CheckWords<'a>),
     Show(ShowWords<'a>),
     Policy(PolicyWords<'a>),
     Race(RaceWords<'a>),
     Inline(InlineWords<'a>),
     Replay(ReplayWords<'a>),
+}
+
+/// A command and its words.
+#[derive(Clone, Copy)]
+pub enum Command<'a> {
+    Files(FileCommand<'a>),
+    /// The program is checked and then run.
+    Run(RunWords<'a>),
 }
 
 /// The command whose words these are. No word is empty, and where classes are named there is at least one.
@@ -77,23 +89,37 @@ pub fn command_of(words: &[Bytes]) -> Option<Command<'_>>
     if !are_full(words) {
         return None;
     }
+    if let Some(words) = run_words(words) {
+        return Some(Command::Run(words));
+    }
+    if let Some(command) = file_command_of(words) {
+        return Some(Command::Files(command));
+    }
+    None
+}
+
+/// The command over files whose words these are.
+fn file_command_of(words: &[Bytes]) -> Option<FileCommand<'_>>
+    ensures found { IfSome result (λ c. Encodes words.now (files_named c)) }
+    ensures none { IfNone result ((named : NamedCommand) → IsOverFiles named → Encodes words.now named → ⊥) }
+{
     if let Some(words) = check_words(words) {
-        return Some(Command::Check(words));
+        return Some(FileCommand::Check(words));
     }
     if let Some(words) = show_words(words) {
-        return Some(Command::Show(words));
+        return Some(FileCommand::Show(words));
     }
     if let Some(words) = policy_words(words) {
-        return Some(Command::Policy(words));
+        return Some(FileCommand::Policy(words));
     }
     if let Some(words) = race_words(words) {
-        return Some(Command::Race(words));
+        return Some(FileCommand::Race(words));
     }
     if let Some(words) = inline_words(words) {
-        return Some(Command::Inline(words));
+        return Some(FileCommand::Inline(words));
     }
     if let Some(words) = replay_words(words) {
-        return Some(Command::Replay(words));
+        return Some(FileCommand::Replay(words));
     }
     None
 }

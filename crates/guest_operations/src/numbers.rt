@@ -14,7 +14,8 @@ use guest_model::Thrown;
 
 /// Divides the number below the top one by that, and leaves the quotient or the remainder.
 pub fn divide(remainder: bool, stack: &mut Stack) -> Option<Completion>
-    ensures { (heap : List Object) (statics : List (List Value)) → Operates (Ok result) (at heap statics stack.old) (at heap statics stack.new)
+    ensures { (heap : List Object) (statics : List (List Value))
+        → Operates (Ok result) (at heap statics stack.old) (at heap statics stack.new)
         (λ (world : World). divides world remainder stack.old.items) }
 {
     let came = divided(remainder, stack);

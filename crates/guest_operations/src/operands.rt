@@ -14,7 +14,8 @@ use insn_codec::ValueKind;
 
 /// Takes so many operands, and puts on top what comes of them, where there is room.
 pub fn replace(stack: &mut Stack, taken: usize, came: Option<Comes>) -> Option<Completion>
-    ensures { (heap : List Object) (statics : List (List Value)) → Operates (Ok result) (at heap statics stack.old) (at heap statics stack.new)
+    ensures { (heap : List Object) (statics : List (List Value))
+        → Operates (Ok result) (at heap statics stack.old) (at heap statics stack.new)
         (λ (world : World). comes world (drop taken stack.old.items) came) }
 {
     match came {

@@ -18,6 +18,7 @@ use Rattle.guest_model.specs.LibraryCalls.{answered_by, answered_in, call_asked}
 use Rattle.guest_model.specs.Runs.{exec, start_of}
 use Rattle.guest_model.specs.Stepping.{stepped}
 use Rattle.event_record.specs.declared.writing.Line.{Line}
+use Rattle.event_record.specs.RunLines.{BringsBytes}
 use Rattle.guest_runner.specs.declared.book.DeviceStop.{DeviceStop}
 use Rattle.guest_runner.specs.declared.book.DeviceStop.TheVariants as stops
 use Rattle.guest_model.specs.Turns.{MakesWhatIsEnabled}
@@ -26,7 +27,7 @@ use Rattle.guest_runner.specs.Asking.{Awaits}
 use Rattle.guest_runner.specs.Book.{IsStopOf, new_book, kept_pairs, IsRun, Keeps, RunView, steps_of}
 use Rattle.guest_runner.specs.PlainAnswers.{PlainAnswersFit, plain_or_null}
 use Rattle.guest_runner.proofs.Devices.{counts_begin, counts_stand}
-use Rattle.guest_runner.proofs.Lines.{answered_more, exec_more, leads, lines_more, steps_more}
+use Rattle.guest_runner.proofs.Lines.{all_more, answered_more, exec_more, leads, lines_more, steps_more}
 
 abbrev pub viewed : Program → Machine → List Line → List View → List ℕ → ℕ → Option DeviceStop → RunView
 viewed program machine lines slots counts budget stop =
@@ -46,9 +47,9 @@ module _ (program : Program) (machine : Machine) (lines : List Line) (counts : L
 
   pub one_more : (slots : List View) (more : Log) (line : Line) (same : Program) (after : Machine) → same ≡ program
       → Keeps more (viewed program machine lines slots counts budget None) → length lines < budget
-      → stepped program machine line.step ≡ Some (after, line.event) → more ≡ answered_by program machine line.step.thread line.step.choice
-      → IsRun (viewed same after (lines ++ line ∷ []) slots counts budget None)
-  one_more slots more line same after is keeps room made told =
+      → stepped program machine line.step ≡ Some (after, line.event) → BringsBytes line.step.choice
+      → more ≡ answered_by program machine line.step.thread line.step.choice → IsRun (viewed same after (lines ++ line ∷ []) slots counts budget None)
+  one_more slots more line same after is keeps room made bytes told =
       let at : stepped program (exec program (steps_of lines)) line.step ≡ Some (after, line.event) =
       subst (λ (m : Machine). stepped program m line.step ≡ Some (after, line.event)) keeps.machine made in
       let long = length-append lines (line ∷ []) in
@@ -62,6 +63,7 @@ module _ (program : Program) (machine : Machine) (lines : List Line) (counts : L
               ∙ exec_more program (steps_of lines) (start_of program) line.step
               ∙ leads program (exec program (steps_of lines)) after line.step line.event at);
           lines = lines_more program lines (start_of program) after line keeps.lines at;
+          brings = all_more (λ (l : Line). BringsBytes l.step.choice) lines line keeps.brings bytes;
           within = omega (arith, room, long);
           told = subst (λ (ps : Log). AllTell ps slots) (log_more more line keeps.machine told) keeps.told;
           counts = keeps.counts;
@@ -78,6 +80,7 @@ module _ (program : Program) (machine : Machine) (lines : List Line) (counts : L
     plain = keeps.plain;
     machine = keeps.machine;
     lines = keeps.lines;
+    brings = keeps.brings;
     within = keeps.within;
     told = subst (λ (ps : Log). AllTell (ps ++ more) new) (append-nil (answered_in program (steps_of lines))) told;
     counts = counts_stand counts old new later keeps.counts;
@@ -93,6 +96,7 @@ stopped_as stop book more keeps = record {
   plain = keeps.plain;
   machine = keeps.machine;
   lines = keeps.lines;
+  brings = keeps.brings;
   within = keeps.within;
   told = keeps.told;
   counts = keeps.counts;
@@ -119,13 +123,13 @@ pub line_more : (old new : RunView) (more : Log) (line : Line)
     → Keeps more (viewed old.program old.machine old.lines old.slots old.counts old.budget None)
     → new.stop ≡ None → new.program ≡ old.program → new.lines ≡ old.lines ++ line ∷ []
     → new.slots ≡ old.slots → new.counts ≡ old.counts → new.budget ≡ old.budget → length old.lines < old.budget
-    → stepped old.program old.machine line.step ≡ Some (new.machine, line.event)
+    → stepped old.program old.machine line.step ≡ Some (new.machine, line.event) → BringsBytes line.step.choice
     → more ≡ answered_by old.program old.machine line.step.thread line.step.choice → IsRun new
-line_more old new more line keeps none program lines slots counts budget room made told =
+line_more old new more line keeps none program lines slots counts budget room made bytes told =
     let is : new ≡ viewed new.program new.machine (old.lines ++ line ∷ []) old.slots old.counts old.budget None =
     rw (← none, ← lines, ← slots, ← counts, ← budget) refl in
     subst (λ (b : RunView). IsRun b) (sym is)
-    (one_more old.program old.machine old.lines old.counts old.budget old.slots more line new.program new.machine program keeps room made told)
+    (one_more old.program old.machine old.lines old.counts old.budget old.slots more line new.program new.machine program keeps room made bytes told)
 
 -- ---- stops
 
@@ -207,6 +211,7 @@ begins law program slots budget makes plain silent = record {
     plain = plain;
     machine = refl;
     lines = tt;
+    brings = tt;
     within = omega arith;
     told = law slots silent;
     counts = counts_begin slots;

@@ -1,5 +1,6 @@
 -- What one line more makes of a run.
-use Rattle.std.proofs.Common.{◌≡◌, List, [], ◌∷◌, ◌++◌, Option, Some, refl, sym, ap, subst, ◌∙◌}
+use Rattle.std.proofs.Common.{◌≡◌, ℕ, suc, ◌<◌, List, [], ◌∷◌, ◌++◌, get_or, Option, Some, refl, sym, ap, subst, ◌∙◌}
+use Rattle.std.specs.List.{AllByRecursion}
 use Rattle.std.specs.Option.{option_map_or}
 use Rattle.std.proofs.lemmas.List.{append-nil, append_assoc}
 use Rattle.api_listing.specs.declared.events.Event.{Event}
@@ -40,6 +41,18 @@ pub leads : (program : Program) (machine after : Machine) (step : Step) (event :
     → stepped_or_same program machine step ≡ after
 leads program machine after step event made =
     ap (λ (o : Option (Machine × Option Event)). option_map_or (λ (m : Machine × Option Event). m.0) o machine) made
+
+-- ---- lists
+
+-- all are so, where those before the last are, and the last is
+pub all_more : {A : Type 0} (P : A → Type 0) (xs : List A) (x : A) → AllByRecursion P xs → P x → AllByRecursion P (xs ++ x ∷ [])
+all_more P [] x all here = (here, tt)
+all_more P (y ∷ xs) x all here = (all.0, all_more P xs x all.1 here)
+
+-- what fits a byte at each place is bytes
+pub all_bytes : (text : List ℕ) → ((i : ℕ) → get_or text i 0 < 256) → AllByRecursion (λ b. b < 256) text
+all_bytes [] each = tt
+all_bytes (b ∷ text) each = (each 0, all_bytes text (λ i. each (suc i)))
 
 -- ---- lines
 

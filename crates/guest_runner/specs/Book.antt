@@ -1,5 +1,6 @@
 -- What the book of a run keeps. (docs/RUNS.md)
 use Rattle.std.specs.Prelude.{◌≡◌, ◌≤◌, ◌++◌, ◌∷◌, ℕ, false, List, [], length, map, slice_get, Option, None, Some, IsSome}
+use Rattle.std.specs.List.{AllByRecursion}
 use Rattle.mon_store.specs.Store.{Rose}
 use Rattle.api_shelf.specs.Shelf.{AllTell, View, first_of, views}
 use Rattle.api_shelf.specs.Telling.{Log}
@@ -11,7 +12,7 @@ use Rattle.guest_model.specs.LibraryCalls.{answered_in, call_asked}
 use Rattle.guest_model.specs.Runs.{exec, start_of}
 use Rattle.guest_model.specs.Turns.{MakesWhatIsEnabled}
 use Rattle.event_record.specs.declared.writing.Line.{Line}
-use Rattle.event_record.specs.RunLines.{AreLinesOf}
+use Rattle.event_record.specs.RunLines.{AreLinesOf, BringsBytes}
 use Rattle.guest_runner.specs.declared.book.DeviceStop.{DeviceStop}
 use Rattle.guest_runner.specs.declared.book.DeviceStop.TheVariants as stops
 use Rattle.guest_runner.specs.declared.book.RunBook.{RunBook}
@@ -106,13 +107,15 @@ pub record CountsStand (counts : List ℕ) (slots : List View) : Type 0 where
   pub each : length counts ≡ length slots
   pub later : (place before : ℕ) (slot : View) → slice_get counts place ≡ Some before → slice_get slots place ≡ Some slot → before ≤ slot.faults
 
--- The steps are made in their places, one after the other from the start, and the machine is the one after them; and of each class
--- the first device tells what it answered to these steps, and then `more`, and no other device tells anything.
+-- The steps are made in their places, one after the other from the start, and the machine is the one after them; the texts
+-- that were answered are made of bytes; and of each class the first device tells what it answered to these steps, and then `more`,
+-- and no other device tells anything.
 pub record Keeps (more : Log) (book : RunView) : Type 0 where
   pub makes : MakesWhatIsEnabled book.program
   pub plain : PlainAnswersFit book.program
   pub machine : book.machine ≡ exec book.program (steps_of book.lines)
   pub lines : AreLinesOf book.program book.lines
+  pub brings : AllByRecursion (λ (line : Line). BringsBytes line.step.choice) book.lines
   pub within : length book.lines ≤ book.budget
   pub told : AllTell (answered_in book.program (steps_of book.lines) ++ more) book.slots
   pub counts : CountsStand book.counts book.slots

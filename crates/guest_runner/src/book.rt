@@ -1,8 +1,10 @@
 //! The book of a run.
 
 ghost use Rattle.std.specs.Prelude.{◌≡◌, ◌≤◌, ◌<◌, ◌∷◌, [], true, length, map, vec_len, vec_capacity, None, Some, IsSome, IfOk, OnErr};
+ghost use Rattle.std.specs.List.{AllByRecursion};
 ghost use Rattle.api_listing.specs.declared.events.ApiAnswer.{ApiAnswer};
 ghost use Rattle.api_shelf.specs.Shelf.{AllAreSilent, IsLater, first_of, views};
+ghost use Rattle.event_record.specs.RunLines.{AnswersBytes};
 ghost use Rattle.guest_model.specs.declared.machine.Choice.TheVariants as choices;
 ghost use Rattle.guest_model.specs.Asking.{is_enabled, takes_answer};
 ghost use Rattle.guest_model.specs.LibraryCalls.{answered_by, call_asked};
@@ -361,6 +363,7 @@ impl<E: Execution, D: ApiDevice> RunBook<E, D> {
         ensures slots { self.new.slots ≡ self.old.slots }
     {
         asks_what_the_rules_say();
+        answers_bytes(&answer);
         let event = self.execution.take(alloc, thread, &answer);
         let step = Step {
             thread,
@@ -409,6 +412,26 @@ impl<E: Execution, D: ApiDevice> RunBook<E, D> {
         &self.stop
     }
 }
+
+/// A text that is answered is made of bytes.
+fn answers_bytes(answer: &ApiAnswer)
+    ensures { AnswersBytes answer.now }
+{
+    match answer {
+        ApiAnswer::Text(text) => are_bytes(text.as_slice()),
+        ApiAnswer::Nothing => {}
+        ApiAnswer::Int(_) => {}
+        ApiAnswer::Null => {}
+        ApiAnswer::Fresh(_) => {}
+        ApiAnswer::Arg(_) => {}
+        ApiAnswer::Receiver => {}
+        ApiAnswer::Throws(_) => {}
+    }
+}
+
+fn are_bytes(text: &[u8])
+    ensures { AllByRecursion (λ b. b < 256) text.now }
+{}
 
 /// The end line of a machine's end.
 fn end_line(end: End) -> EndLine

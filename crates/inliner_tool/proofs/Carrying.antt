@@ -1,9 +1,10 @@
 -- How a command comes to its outcome: what it makes of its files is written, and then answered.
-use Rattle.std.proofs.Common.{◌≡◌, ◌⊎◌, inl, inr, ℕ, ◌≤◌, List, Result, Ok, Err, sym, ap, ◌∙◌, arith, ⊎_elim}
+use Rattle.std.proofs.Common.{◌≡◌, inl, inr, ℕ, ◌≤◌, List, Result, Ok, Err, sym, ap, ◌∙◌, arith, ⊎_elim}
 use Rattle.std.specs.Prelude.{IfOk}
+use Rattle.api_shelf.specs.Shelf.{View}
 use Rattle.command_words.specs.InlineWords.{NamedInline}
 use Rattle.command_words.specs.ReplayWords.{NamedReplay}
-use Rattle.command_words.specs.Words.{Check, Inline, NamedCheck, NamedCommand, Policy, Race, Replay, Show}
+use Rattle.command_words.specs.Words.{Check, Inline, NamedCheck, NamedCommand, NamedRun, Policy, Race, Replay, Run, Show}
 use Rattle.input_files.specs.declared.files.Stop.{Stop}
 use Rattle.input_files.specs.declared.files.Stop.TheVariants as stops
 use Rattle.input_files.specs.Forms.{Count, Then, Yields, since}
@@ -17,6 +18,7 @@ use Rattle.inliner_tool.specs.declared.refusal.Ended.TheVariants as ends
 use Rattle.inliner_tool.specs.Commands.{Makes, readings_of}
 use Rattle.inliner_tool.specs.Inline.{IsInlined, IsReadyToWrite}
 use Rattle.inliner_tool.specs.Replay.{ReplayedRuns}
+use Rattle.inliner_tool.specs.Run.{IsKept, Told}
 use Rattle.inliner_tool.specs.Seen.{Seen}
 use Rattle.inliner_tool.specs.Steps.{Reading, Step, UnlessMemory, stopped}
 use Rattle.inliner_tool.specs.Tool.{Holds}
@@ -47,12 +49,17 @@ made_still files new after count again (Policy named) made makes = makes
 made_still files new after count again (Race named) made makes = makes
 made_still files new after count again (Inline named) made makes = makes
 made_still files new after count again (Replay named) made makes = makes
+made_still files new after count again (Run named) made makes = makes
 
 pub holds_still : (files new after : Files) (count again : Count) (named : NamedCheck) → Holds (record { old = files; new = new; count = count }) named → Holds (record { old = files; new = after; count = again }) named
 holds_still files new after count again named h = record { inputs = h.inputs; read = h.read; encodes = h.encodes; checked = h.checked }
 
 pub runs_still : (files new after : Files) (count again : Count) (named : NamedReplay) → ReplayedRuns (record { old = files; new = new; count = count }) named → ReplayedRuns (record { old = files; new = after; count = again }) named
 runs_still files new after count again named r = record { inputs = r.inputs; read = r.read; run = r.run }
+
+pub kept_still : (files new after : Files) (count again : Count) (named : NamedRun) (slots : List View) (told : Told) → IsKept (record { old = files; new = new; count = count }) named slots told
+    → IsKept (record { old = files; new = after; count = again }) named slots told
+kept_still files new after count again named slots told k = record { inputs = k.inputs; read = k.read; is = k.is }
 
 -- What was ready is written.
 pub inlined_so : (files new after : Files) (count again : Count) (named : NamedInline) (made : Made) → IsReadyToWrite (record { old = files; new = new; count = count }) named made

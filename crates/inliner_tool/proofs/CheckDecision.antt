@@ -1,5 +1,5 @@
 -- What `check` comes to over files that the store tells, without a fault: what they come to, unless memory runs out.
-use Rattle.std.proofs.Common.{◌≡◌, inl, inr, ℕ, List, length, Result, Ok, Err, refl, sym, ap, subst, ◌∙◌}
+use Rattle.std.proofs.Common.{◌≡◌, inl, inr, ℕ, List, length, Result, Ok, Err, refl, ap, subst, ◌∙◌}
 use Rattle.std.specs.Prelude.{IsSome}
 use Rattle.api_listing.specs.declared.types.Listing.{Listing}
 use Rattle.bytecode_model.specs.declared.program.Program.{Program}
@@ -79,23 +79,24 @@ module _ (files : Files) (count : Count) (named : NamedCheck) (no_rise : Rose co
       classes_stop files count told no_rise named.classes inputs.classes.files inputs.classes.total stop classes_read fourth
   check_stops stop (inr (listing, first, inr (policy, second, inr (certificate, third, inr (classes, fourth, none))))) = absurd none
 
-  -- What is made is made of what the files are.
-  checks_so : (step : Step Made) → (step ≡ Err ends.Memory → ⊥) → Then (Reading (ReadsCheck files count named)) (Checks named.main) step → Checks named.main inputs step
-  checks_so (Ok made) other (read, reads, checks) = subst (λ (i : CheckInputs). Checks named.main i (Ok made)) (inputs_once read reads) checks
-  checks_so (Err e) other (inl (stop, reads, is)) = absurd (other (ap (λ (x : Ended). Err x) (is ∙ ap stopped (check_stops stop reads))))
-  checks_so (Err e) other (inr (read, reads, checks)) = subst (λ (i : CheckInputs). Checks named.main i (Err e)) (inputs_once read reads) checks
+  -- What is made is made of what the files are: by `check`, and by `run`, which reads the same files.
+  module _ (Second : CheckInputs → Step Made → Type 0) where
+    made_so : (step : Step Made) → (step ≡ Err ends.Memory → ⊥) → Then (Reading (ReadsCheck files count named)) Second step → Second inputs step
+    made_so (Ok made) other (read, reads, second) = subst (λ (i : CheckInputs). Second i (Ok made)) (inputs_once read reads) second
+    made_so (Err e) other (inl (stop, reads, is)) = absurd (other (ap (λ (x : Ended). Err x) (is ∙ ap stopped (check_stops stop reads))))
+    made_so (Err e) other (inr (read, reads, second)) = subst (λ (i : CheckInputs). Second i (Err e)) (inputs_once read reads) second
 
-  -- The outcome is that of what the files are.
+    -- The outcome is that of what the files are.
+    pub outcome_says : (outcome : Outcome) → Then (Then (Reading (ReadsCheck files count named)) Second) (λ made. Yields made.answer) (outcome_step outcome)
+        → Then (Second inputs) (λ made. Yields made.answer) (outcome_step outcome)
+    outcome_says (Ok answer) (made, makes, is) = (made, made_so (Ok made) (λ e. absurd cc) makes, is)
+    outcome_says (Err refusal) (inl makes) = inl (made_so (Err (ends.Refused refusal)) (λ e. absurd cc) makes)
+    outcome_says (Err refusal) (inr (made, makes, none)) = absurd none
+
   pub check_says : (new : Files) (outcome : Outcome) → CarriesOut (record { old = files; new = new; count = count }) (Check named) (outcome_step outcome)
       → Then (Checks named.main inputs) (λ made. Yields made.answer) (outcome_step outcome)
-  check_says new (Ok answer) carries = by (no_rise_so (record { old = files; new = new; count = count }) (Check named) no_rise (Ok answer) carries) where
-    by : Then (Then (Reading (ReadsCheck files count named)) (Checks named.main)) (λ made. Yields made.answer) (Ok answer) → Then (Checks named.main inputs) (λ made. Yields made.answer) (Ok answer)
-    by (made, makes, is) = (made, checks_so (Ok made) (λ e. absurd cc) makes, is)
-  check_says new (Err refusal) carries = by (no_rise_so (record { old = files; new = new; count = count }) (Check named) no_rise (Err (ends.Refused refusal)) carries) where
-    by : Then (Then (Reading (ReadsCheck files count named)) (Checks named.main)) (λ made. Yields made.answer) (Err (ends.Refused refusal))
-        → Then (Checks named.main inputs) (λ made. Yields made.answer) (Err (ends.Refused refusal))
-    by (inl makes) = inl (checks_so (Err (ends.Refused refusal)) (λ e. absurd cc) makes)
-    by (inr (made, makes, none)) = absurd none
+  check_says new outcome carries =
+      outcome_says (Checks named.main) outcome (no_rise_so (record { old = files; new = new; count = count }) (Check named) no_rise (outcome_step outcome) carries)
 
 -- ---- what is decided
 
@@ -117,7 +118,7 @@ module _ (main : List ℕ) (inputs : CheckInputs) (program : Program) (links : l
   denied_so e (inr (other, first, inl verdict)) = subst (λ (p : Program). Err e ≡ judged_step inputs.policy inputs.certificate p) (same_program other first) verdict
   denied_so e (inr (other, first, inr (accepted, verdict, none))) = absurd none
 
-verdict_decides : (policy : PolicyTree) (program : Program) (verdict : Result Accepted Denial) (refusal : Refusal) → Err (ends.Refused refusal) ≡ verdict_step policy program verdict
+pub verdict_decides : (policy : PolicyTree) (program : Program) (verdict : Result Accepted Denial) (refusal : Refusal) → Err (ends.Refused refusal) ≡ verdict_step policy program verdict
     → IsDecision (refusal_status refusal)
 verdict_decides policy program (Ok accepted) refusal is = absurd cc
 verdict_decides policy program (Err (denials.Fault fault)) refusal is =

@@ -1,5 +1,5 @@
 -- To files that are told, and are a listing and a policy, `race` answers what is decided, unless memory runs out.
-use Rattle.std.proofs.Common.{◌≡◌, inl, inr, Result, Ok, Err, sym, ap, subst, ◌∙◌}
+use Rattle.std.proofs.Common.{◌≡◌, inl, inr, Result, Ok, Err, ap, subst, ◌∙◌}
 use Rattle.api_listing.specs.declared.types.Listing.{Listing}
 use Rattle.conspec_automaton.specs.Building.{built}
 use Rattle.conspec_tree.specs.declared.types.PolicyTree.{PolicyTree}

@@ -21,7 +21,9 @@ mod Encoded
 mod Expected
 mod Planned
 mod MadeOf
+pub mod Runs
 pub mod CheckDecision
+mod RunDecided
 pub mod InlineDecision
 mod Written
 pub mod Rechecking

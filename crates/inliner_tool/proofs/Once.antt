@@ -5,7 +5,7 @@ use Rattle.bytecode_model.specs.declared.program.LinkedClass.{LinkedClass}
 use Rattle.bytecode_model.specs.declared.program.Method.{Method}
 use Rattle.bytecode_model.specs.declared.program.Program.{Program}
 use Rattle.cert_format.specs.declared.typing.Typing.{Typing}
-use Rattle.command_words.specs.Words.{Check, Inline, NamedCommand, Policy, Race, Replay, Show}
+use Rattle.command_words.specs.Words.{Check, Inline, NamedCommand, Policy, Race, Replay, Run, Show}
 use Rattle.conspec_automaton.specs.Building.{built}
 use Rattle.input_files.specs.declared.check_inputs.CheckInputs.{CheckInputs}
 use Rattle.race_free_check.specs.Deciding.{decided}
@@ -20,7 +20,7 @@ use Rattle.inliner_tool.specs.declared.refusal.Ended.{Ended}
 use Rattle.inliner_tool.specs.declared.refusal.Refusal.{Refusal}
 use Rattle.inliner_tool.specs.Check.{Checks, judged_step, link_inputs}
 use Rattle.inliner_tool.specs.Commands.{Makes, readings_in}
-use Rattle.inliner_tool.specs.Decides.{GivesOnce, IsNoInline}
+use Rattle.inliner_tool.specs.Decides.{GivesOnce, IsDetermined}
 use Rattle.inliner_tool.specs.Policy.{Judges}
 use Rattle.inliner_tool.specs.Programs.{Types}
 use Rattle.inliner_tool.specs.Race.{Races, race_step}
@@ -206,7 +206,7 @@ checks_once main inputs =
     then_once (Equals (link_inputs main inputs)) (λ program. Then (Equals (judged_step inputs.policy inputs.certificate program)) (λ accepted. Just (answers.Accepted accepted))) (equals_once _)
     (λ program. then_once (Equals (judged_step inputs.policy inputs.certificate program)) (λ accepted. Just (answers.Accepted accepted)) (equals_once _) (λ accepted. yields_once _))
 
-makes_once : (contents : Contents) (named : NamedCommand) → IsNoInline named → Once (Makes (readings_in contents) named)
+makes_once : (contents : Contents) (named : NamedCommand) → IsDetermined named → Once (Makes (readings_in contents) named)
 makes_once contents (Check named) other = then_once (Reading (λ r. r ≡ check_read contents named)) (Checks named.main) (reading_once _) (checks_once named.main)
 makes_once contents (Show named) other =
     then_once (Reading (λ r. r ≡ show_read contents named)) Shows (reading_once _)
@@ -219,6 +219,7 @@ makes_once contents (Inline named) other = absurd other
 makes_once contents (Replay named) other =
     then_once (Reading (λ r. r ≡ replay_read contents named)) (Replays named.main) (reading_once _)
     (λ inputs. then_once (Tells named.main inputs) (λ text. Just (answers.Replayed text)) (tells_once named.main inputs) (λ text. yields_once _))
+makes_once contents (Run named) other = absurd other
 
 outcome_once : (a b : Outcome) → outcome_step a ≡ outcome_step b → a ≡ b
 outcome_once (Ok x) (Ok y) same =

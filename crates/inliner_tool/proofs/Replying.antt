@@ -1,8 +1,9 @@
 -- What the status of a call says of its outcome.
-use Rattle.std.proofs.Common.{◌≡◌, inl, inr, ℕ, List, Option, Err, sym, subst}
+use Rattle.std.proofs.Common.{◌≡◌, inl, inr, ℕ, List, Option, Ok, Err, sym, subst, ◌∙◌}
+use Rattle.std.specs.Prelude.{IfSome}
 use Rattle.command_words.specs.InlineWords.{IsInline, NamedInline}
 use Rattle.command_words.specs.ReplayWords.{IsReplay, NamedReplay}
-use Rattle.command_words.specs.Words.{Check, Inline, IsCheck, IsCommand, NamedCheck, NamedCommand, Replay}
+use Rattle.command_words.specs.Words.{Check, Inline, IsCheck, IsCommand, IsRunCommand, NamedCheck, NamedCommand, NamedRun, Policy, Race, Replay, Run, Show}
 use Rattle.command_words.proofs.NamedOnce.{command_once}
 use Rattle.mon_store.specs.Sink.{Appends, AppendsFront}
 use Rattle.inliner_tool.specs.declared.answer.Answer.{Answer}
@@ -12,6 +13,7 @@ use Rattle.inliner_tool.specs.declared.refusal.Refusal.{Refusal}
 use Rattle.inliner_tool.specs.declared.tool.Status.{Status}
 use Rattle.inliner_tool.specs.declared.tool.Status.TheVariants as statuses
 use Rattle.inliner_tool.specs.Replies.{outcome_encoded, usage_encoded}
+use Rattle.inliner_tool.specs.Run.{IsRunStatus, IsWithinIfRun, PrintsRun, TellsKept, Told}
 use Rattle.inliner_tool.specs.Seen.{Seen}
 use Rattle.inliner_tool.specs.Steps.{Outcome, Step, UnlessMemory, outcome_step}
 use Rattle.inliner_tool.specs.Tool.{CheckedRuns, Holds, IsOutcomeStatus, NamesNone, Puts, Replies, Says, status_of}
@@ -28,6 +30,19 @@ is_replay words command is named encoded = command_once words command (Replay na
 
 pub is_inline : (words : List (List ℕ)) (command : NamedCommand) → IsCommand words command → (named : NamedInline) → IsInline words named → command ≡ Inline named
 is_inline words command is named encoded = command_once words command (Inline named) is (record { encoded = encoded; full = is.full })
+
+pub is_run : (words : List (List ℕ)) (command : NamedCommand) → IsCommand words command → (named : NamedRun) → IsRunCommand words named → command ≡ Run named
+is_run words command is named encoded = command_once words command (Run named) is (record { encoded = encoded; full = is.full })
+
+-- The words of `run` say how many workers there are, and how many steps there may be.
+pub within : (words : List (List ℕ)) (command : NamedCommand) → IsCommand words command → IsWithinIfRun command
+within words (Check named) is = tt
+within words (Show named) is = tt
+within words (Policy named) is = tt
+within words (Race named) is = tt
+within words (Inline named) is = tt
+within words (Replay named) is = tt
+within words (Run named) is = record { some = is.encoded.workers.some; most = is.encoded.workers.within; steps = is.encoded.budget.within }
 
 -- A program that was checked runs as its certificate types it.
 pub checked_runs : (seen : Seen) (named : NamedCheck) → Holds seen named → CheckedRuns seen named
@@ -56,6 +71,21 @@ puts_plain text after rose printed status result (inl is) no_rise other = is
 puts_plain text after rose printed status result (inr (inl (same, risen, front))) no_rise other = absurd (no_rise risen)
 puts_plain text after rose printed status result (inr (inr (memory, same))) no_rise other = absurd (other memory)
 
+pub no_run_status : IsRunStatus statuses.Usage → ⊥
+no_run_status (inl e) = absurd cc
+no_run_status (inr (inl e)) = absurd cc
+no_run_status (inr (inr e)) = absurd cc
+
+no_sink_status : IsRunStatus statuses.SinkFault → ⊥
+no_sink_status (inl e) = absurd cc
+no_sink_status (inr (inl e)) = absurd cc
+no_sink_status (inr (inr e)) = absurd cc
+
+no_memory_status : IsRunStatus statuses.Memory → ⊥
+no_memory_status (inl e) = absurd cc
+no_memory_status (inr (inl e)) = absurd cc
+no_memory_status (inr (inr e)) = absurd cc
+
 -- It ends well only where it was to.
 pub puts_no : (text after : Option (List ℕ)) (rose : Type 0) (printed : List ℕ) (status result : Status) → Puts text after rose printed status result → (status ≡ statuses.Done → ⊥) → result ≡ statuses.Done → ⊥
 puts_no text after rose printed status result (inl (is, appends)) never done = never (rw (← is) done)
@@ -65,6 +95,22 @@ puts_no text after rose printed status result (inr (inl (same, risen, front))) n
 puts_no text after rose printed status result (inr (inr (memory, same))) never done =
     let wrong : statuses.Memory ≡ statuses.Done = rw (← memory) done in
     absurd cc
+
+-- It ends as a run only where it was to.
+pub puts_run : (text after : Option (List ℕ)) (rose : Type 0) (printed : List ℕ) (status result : Status) → Puts text after rose printed status result → IsRunStatus result
+    → (result ≡ status) × Appends text after printed
+puts_run text after rose printed status result (inl is) ended = is
+puts_run text after rose printed status result (inr (inl (same, risen, front))) ended = absurd (no_sink_status (subst IsRunStatus same ended))
+puts_run text after rose printed status result (inr (inr (memory, same))) ended = absurd (no_memory_status (subst IsRunStatus memory ended))
+
+-- The run that is kept is the one of the words, and what is printed is its record.
+pub prints_run : (So : NamedRun → Told → Type 0) (command : NamedCommand) (named : NamedRun) → command ≡ Run named → (kept : Option Told) (answer : Answer) → TellsKept kept answer
+    → IfSome kept (λ told. (n : NamedRun) × (command ≡ Run n) × So n told) → (text after : Option (List ℕ)) → Appends text after (outcome_encoded (Ok answer)) → PrintsRun (So named) kept text after
+prints_run So command named is kept answer (told, kept_is, same) so text after appends =
+    let run = subst (λ (k : Option Told). IfSome k (λ told. (n : NamedRun) × (command ≡ Run n) × So n told)) kept_is so in
+    let runs : Run run.0 ≡ Run named = sym run.1 ∙ is in
+    let one : run.0 ≡ named = cc in
+    (told, kept_is, subst (λ (n : NamedRun). So n told) one run.2, subst (λ (a : Answer). Appends text after (outcome_encoded (Ok a))) same appends)
 
 module _ (seen : Seen) (words : List (List ℕ)) (text after : Option (List ℕ)) (rose : Type 0) where
   -- ---- the usage line
@@ -89,6 +135,9 @@ module _ (seen : Seen) (words : List (List ℕ)) (text after : Option (List ℕ)
     plain statuses.StoreFault kind same appends = says (λ o. (statuses.StoreFault ≡ status_of o) × Appends text after (outcome_encoded o)) (same, appends)
     plain statuses.SinkFault kind same appends = absurd kind
     plain statuses.Memory kind same appends = absurd kind
+    plain statuses.Device kind same appends = says (λ o. (statuses.Device ≡ status_of o) × Appends text after (outcome_encoded o)) (same, appends)
+    plain statuses.Budget kind same appends = says (λ o. (statuses.Budget ≡ status_of o) × Appends text after (outcome_encoded o)) (same, appends)
+    plain statuses.Mismatch kind same appends = absurd kind
 
     pub outcome_replied : (status : Status) → IsOutcomeStatus status → status ≡ status_of outcome → (result : Status) → Puts text after rose (outcome_encoded outcome) status result
         → Replies seen words text after rose result

@@ -3,7 +3,7 @@
 use Rattle.std.specs.Prelude.{◌≡◌, Result}
 use Rattle.command_words.specs.InlineWords.{NamedInline}
 use Rattle.command_words.specs.ReplayWords.{NamedReplay}
-use Rattle.command_words.specs.Words.{Check, Inline, NamedCheck, NamedCommand, NamedPolicy, NamedRace, NamedShow, Policy, Race, Replay, Show}
+use Rattle.command_words.specs.Words.{Check, Inline, NamedCheck, NamedCommand, NamedPolicy, NamedRace, NamedShow, Policy, Race, Replay, Run, Show}
 use Rattle.input_files.specs.declared.check_inputs.CheckInputs.{CheckInputs}
 use Rattle.input_files.specs.declared.files.Stop.{Stop}
 use Rattle.input_files.specs.declared.inline_inputs.InlineInputs.{InlineInputs}
@@ -25,6 +25,7 @@ use Rattle.inliner_tool.specs.Inline.{Inlines}
 use Rattle.inliner_tool.specs.Policy.{Judges}
 use Rattle.inliner_tool.specs.Race.{Races}
 use Rattle.inliner_tool.specs.Replay.{Replays}
+use Rattle.inliner_tool.specs.Run.{Runs}
 use Rattle.inliner_tool.specs.Seen.{Seen}
 use Rattle.inliner_tool.specs.Show.{Shows}
 use Rattle.inliner_tool.specs.Steps.{Reading, Step}
@@ -72,3 +73,4 @@ Makes reads (Policy named) = Then (Reading (reads.policy named)) Judges
 Makes reads (Race named) = Then (Reading (reads.race named)) Races
 Makes reads (Inline named) = Then (Reading (reads.inline named)) (Inlines named)
 Makes reads (Replay named) = Then (Reading (reads.replay named)) (Replays named.main)
+Makes reads (Run named) = Then (Reading (reads.check named.check)) (Runs named)

@@ -1,6 +1,6 @@
 -- What a command comes to where the store tells its files, and neither it nor the sink has a fault. (docs/COMMANDS.md)
 use Rattle.std.specs.Prelude.{◌≡◌, ℕ, List, Option}
-use Rattle.command_words.specs.Words.{Check, Inline, IsCommand, NamedCommand, Policy, Race, Replay, Show}
+use Rattle.command_words.specs.Words.{Check, Inline, IsCommand, NamedCommand, Policy, Race, Replay, Run, Show}
 use Rattle.input_files.specs.Contents.{Contents}
 use Rattle.input_files.specs.Forms.{Then, Yields}
 use Rattle.mon_store.specs.Sink.{Appends}
@@ -33,14 +33,17 @@ pub record Decides (contents : Contents) (words : List (List ℕ)) (text after :
 
 -- ---- one outcome
 
-abbrev pub IsNoInline : NamedCommand → Type 0
-IsNoInline (Check named) = Unit {0}
-IsNoInline (Show named) = Unit {0}
-IsNoInline (Policy named) = Unit {0}
-IsNoInline (Race named) = Unit {0}
-IsNoInline (Inline named) = ⊥
-IsNoInline (Replay named) = Unit {0}
+-- The definition of the command leaves nothing open.
+abbrev pub IsDetermined : NamedCommand → Type 0
+IsDetermined (Check named) = Unit {0}
+IsDetermined (Show named) = Unit {0}
+IsDetermined (Policy named) = Unit {0}
+IsDetermined (Race named) = Unit {0}
+IsDetermined (Inline named) = ⊥
+IsDetermined (Replay named) = Unit {0}
+IsDetermined (Run named) = ⊥
 
--- A command comes to one outcome over the same files; but of `inline` it is left open which of the least typings a certificate tells.
+-- A command comes to one outcome over the same files; but of `inline` it is left open which of the least typings a certificate tells,
+-- and of `run` which thread makes which step.
 abbrev pub GivesOnce : Type 0
-GivesOnce = (contents : Contents) (named : NamedCommand) (a b : Outcome) → IsNoInline named → Gives contents named a → Gives contents named b → a ≡ b
+GivesOnce = (contents : Contents) (named : NamedCommand) (a b : Outcome) → IsDetermined named → Gives contents named a → Gives contents named b → a ≡ b

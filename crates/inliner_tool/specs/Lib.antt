@@ -8,6 +8,8 @@ pub mod Policy
 pub mod Race
 pub mod Numbers
 pub mod Replies
+pub mod Run
+pub mod RunDecision
 pub mod Status
 pub mod Programs
 pub mod Weaving

@@ -17,6 +17,7 @@ use Rattle.inliner_tool.specs.declared.tool.Status.{Status}
 use Rattle.inliner_tool.specs.declared.tool.Status.TheVariants as statuses
 use Rattle.inliner_tool.specs.Check.{IsChecked, link_inputs}
 use Rattle.inliner_tool.specs.Replies.{outcome_encoded, usage_encoded}
+use Rattle.inliner_tool.specs.Run.{run_status}
 use Rattle.inliner_tool.specs.Running.{RunsTyped}
 use Rattle.inliner_tool.specs.Seen.{Seen}
 use Rattle.inliner_tool.specs.Steps.{Outcome, outcome_step}
@@ -55,6 +56,7 @@ answer_status (answers.Judged verdict) = judged_status verdict
 answer_status answers.RaceFree = statuses.Done
 answer_status (answers.Inlined accepted classes) = statuses.Done
 answer_status (answers.Replayed text) = statuses.Done
+answer_status (answers.Ran end text) = run_status end
 
 abbrev pub refusal_status : Refusal → Status
 refusal_status (refusals.Input name fault) = statuses.Input
@@ -84,6 +86,9 @@ IsOutcomeStatus statuses.Overflow = Unit {0}
 IsOutcomeStatus statuses.StoreFault = Unit {0}
 IsOutcomeStatus statuses.SinkFault = ⊥
 IsOutcomeStatus statuses.Memory = ⊥
+IsOutcomeStatus statuses.Device = Unit {0}
+IsOutcomeStatus statuses.Budget = Unit {0}
+IsOutcomeStatus statuses.Mismatch = ⊥
 
 -- ---- the reply
 
@@ -107,9 +112,11 @@ pub record Says (seen : Seen) (words : List (List ℕ)) (So : Outcome → Type 0
   pub so : So outcome
 
 -- The status of a call, and what became of the sink's text. A fault of the sink takes the place of the status that would
--- have come; its text may then have a front of the output. Without memory nothing is printed.
+-- have come; its text may then have a front of the output. Without memory nothing is printed. A book that is of no run, or of another,
+-- never comes back.
 abbrev pub Replies : Seen → List (List ℕ) → Option (List ℕ) → Option (List ℕ) → Type 0 → Status → Type 0
 Replies seen words text after rose statuses.Memory = after ≡ text
+Replies seen words text after rose statuses.Mismatch = ⊥
 Replies seen words text after rose statuses.Usage = NamesNone words × (seen.new ≡ seen.old) × Appends text after usage_encoded
 Replies seen words text after rose statuses.SinkFault =
     rose × ((NamesNone words × (seen.new ≡ seen.old) × AppendsFront text after usage_encoded) ⊎ Says seen words (λ outcome. AppendsFront text after (outcome_encoded outcome)))

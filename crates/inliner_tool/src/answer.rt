@@ -5,6 +5,7 @@ ghost use Rattle.inliner_tool.specs.Steps.{just};
 
 use cert_checker::Accepted;
 use conspec_automaton::Verdict;
+use event_record::EndLine;
 use mon_base::{Bytes, List};
 use mon_store::Output;
 use std::alloc::Global;
@@ -24,6 +25,8 @@ pub enum Answer {
     Inlined { accepted: Accepted, classes: u64 },
     /// The events of a run and its end, as they are printed.
     Replayed(Bytes),
+    /// The record of a run that was made, as it is printed, and how it ended.
+    Ran { end: EndLine, text: Bytes },
 }
 
 /// What a command makes of its inputs: its answer, and the files that are written, in their order, before it is given.

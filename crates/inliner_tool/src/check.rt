@@ -90,9 +90,10 @@ fn check_made(alloc: Global, inputs: CheckInputs, main: &Bytes) -> Result<Made, 
 }
 
 /// Links the class files of these inputs and checks the program: what was accepted, or why nothing was.
-fn inputs_checked(alloc: Global, inputs: CheckInputs, main: &Bytes) -> Result<Checked, Ended>
+pub fn inputs_checked(alloc: Global, inputs: CheckInputs, main: &Bytes) -> Result<Checked, Ended>
     requires { AreSound inputs }
     ensures checked { IfOk result (IsCheckedAs main.now inputs) }
+    ensures linked { IfOk result (λ checked. IsLinkedProgram checked.program) }
     ensures ends { IfErr result (λ ended. UnlessMemory (Checks main.now inputs) (Err ended)) }
 {
     let CheckInputs {
@@ -118,6 +119,7 @@ fn linked_checked(
     requires linked { IfOk linked IsLinkedProgram }
     requires policy { IfOk linked (λ program. IsPolicyOf program.listing policy.now) }
     ensures program { IfOk result (λ checked. linked ≡ Ok checked.program) }
+    ensures linked { IfOk result (λ checked. IsLinkedProgram checked.program) }
     ensures checked { IfOk result (λ checked.
         ProgramIsCheckedAs policy.now certificate.now checked.program checked.policy checked.accepted) }
     ensures ends { (step : Step Program) → UnlessMemory (Equals step) linked

@@ -61,6 +61,7 @@ fn answer_reply(alloc: Global, answer: Answer) -> Result<Reply, NoMemory>
         Answer::RaceFree => Ok(Reply::Line(Line::Free)),
         Answer::Inlined { accepted, classes } => inlined_reply(alloc, accepted, classes),
         Answer::Replayed(text) => Ok(Reply::Text(text)),
+        Answer::Ran { end: _, text } => Ok(Reply::Text(text)),
     }
 }
 

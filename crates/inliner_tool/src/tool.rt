@@ -1,15 +1,30 @@
 //! The top call: the words of a command, the answer over a store, and the output that a sink takes.
 
-ghost use Rattle.std.specs.Prelude.{◌≡◌, ◌≢◌, ◌≤◌, ℕ, List, Some, IfOk};
+ghost use Rattle.std.specs.Prelude.{◌≡◌, ◌≢◌, ◌≤◌, ℕ, List, None, Some, IfOk, IfSome};
+ghost use Rattle.api_shelf.specs.Shelf.{AllAreSilent, views};
 ghost use Rattle.command_words.specs.InlineWords.{IsInline, NamedInline};
 ghost use Rattle.command_words.specs.ReplayWords.{IsReplay, NamedReplay};
-ghost use Rattle.command_words.specs.Words.{Check, Inline, IsCheck, NamedCheck, Replay, named_by};
+ghost use Rattle.command_words.specs.Words.{
+  Check,
+  Inline,
+  IsCheck,
+  IsOverFiles,
+  IsRunCommand,
+  NamedCheck,
+  NamedRun,
+  Replay,
+  Run,
+  files_named,
+  named_by,
+  run_named,
+};
 ghost use Rattle.input_files.specs.Contents.{Contents};
 ghost use Rattle.inliner_tool.specs.Commands.{Makes, readings_of};
 ghost use Rattle.inliner_tool.specs.Decides.{Decides, GivesOnce};
 ghost use Rattle.inliner_tool.specs.Headline.{Obeyed};
 ghost use Rattle.inliner_tool.specs.Inline.{IsInlined, IsReadyToWrite};
 ghost use Rattle.inliner_tool.specs.Replay.{ReplayedRuns};
+ghost use Rattle.inliner_tool.specs.Run.{IsKept, IsRunStatus, IsWithin, IsWithinIfRun, PrintsRun, TellsKept, run_status, told_of};
 ghost use Rattle.inliner_tool.specs.Seen.{seen};
 ghost use Rattle.inliner_tool.specs.Status.{code_of};
 ghost use Rattle.inliner_tool.specs.Steps.{UnlessMemory};
@@ -34,14 +49,20 @@ use crate::race::make_race;
 use crate::refusal::{Ended, Refusal};
 use crate::replay::make_replay;
 use crate::replies::{answer_encoded, refusal_encoded, usage_encoded};
+use crate::run::{RunAnswer, make_run};
 use crate::show::make_show;
 use crate::writing::write_made;
-use command_words::{Command, command_of};
+use api_shelf::{ApiDevice, SlotOf};
+use command_words::{Command, FileCommand, RunWords, command_of};
 use conspec_automaton::Verdict;
+use event_record::EndLine;
+use guest_runner::Gate;
 use input_files::told_files_are_read;
 use mon_base::{Bytes, NoMemory};
 use mon_store::{Sink, SinkFault, Store};
 use std::alloc::Global;
+use std::sync::Wait;
+use std::thread::Threads;
 
 /// How a command ended.
 #[derive(Clone, Copy)]
@@ -62,6 +83,12 @@ pub enum Status {
     SinkFault,
     /// Memory ran out. Nothing is printed.
     Memory,
+    /// A device stopped the run. The record up to there was printed.
+    Device,
+    /// The run has as many steps as it may have, and could go on. The record was printed.
+    Budget,
+    /// The book that came back from the workers is of another run. This never comes.
+    Mismatch,
 }
 
 impl Status {
@@ -78,6 +105,9 @@ impl Status {
             Status::StoreFault => 5,
             Status::SinkFault => 6,
             Status::Memory => 7,
+            Status::Device => 8,
+            Status::Budget => 9,
+            Status::Mismatch => 10,
         }
     }
 }
@@ -87,15 +117,24 @@ impl Status {
 /// they obey the policy; `race POLICY LISTING` says of a policy whether its events race;
 /// `inline POLICY LISTING MAIN OUTDIR MODE CLASS..` weaves blocks into the classes, checks the program that they make with
 /// its certificate, and writes all of it; `replay LISTING MAIN RECORD CLASS..` links and types the classes, makes the steps of
-/// a recorded run, and gives the events that the library sees and the end.
+/// a recorded run, and gives the events that the library sees and the end; `run POLICY LISTING CERT MAIN WORKERS BUDGET CLASS..`
+/// checks the program, and has so many worker threads run it, in at most so many steps, and gives the record of the run.
 ///
-/// Other commands change no file. One output is put into the sink, which says the answer.
-pub fn run_tool<S: Store, K: Sink>(
+/// Other commands than `inline` change no file. One output is put into the sink, which says the answer. The devices answer the calls
+/// of the library in a run, the workers pass the gate, and the run is kept. The other commands have no part in threads
+/// ([`carry_out_files`]), so they end.
+pub fn run_tool<S: Store, K: Sink, D: ApiDevice + Send, G: Gate + Sync, R: Threads + Wait + Sync>(
+    rt: &R,
     alloc: Global,
     words: &[Bytes],
     store: &mut S,
     out: &mut K,
+    slots: Vec<SlotOf<D>>,
+    gate: &G,
+    kept: &mut Option<RunAnswer<D>>,
 ) -> Status
+    requires silent { AllAreSilent (views D.told D.faults slots.items) }
+    requires none { kept.old ≡ None }
     // Whoever made the files: where the check ends well, the program that they link to obeys the policy for every list
     // of guest steps.
     ensures headline { (named : NamedCheck) → IsCheck words.now named → result ≡ Status.Done → Obeyed (S.files store.old) named }
@@ -111,6 +150,17 @@ pub fn run_tool<S: Store, K: Sink>(
         → CheckedRuns (seen S.files S.faults S.last store.old store.new) named }
     ensures replay_runs { (named : NamedReplay) → IsReplay words.now named → result ≡ Status.Done
         → ReplayedRuns (seen S.files S.faults S.last store.old store.new) named }
+
+    // Where a run was made, its record is printed: that of the book that is kept. The book is of one run of the program that the files
+    // link to, which `check` accepts, so that what is recorded obeys the policy; it is over the devices that were handed in, which
+    // tell what they answered in it; and it ended as the record says. The record is read as the steps and events of the book, and
+    // `replay` of these steps prints the same events, and the same end where the machine has ended.
+    ensures ran { (named : NamedRun) → IsRunCommand words.now named → IsRunStatus result
+        → PrintsRun (IsKept (seen S.files S.faults S.last store.old store.new) named (views D.told D.faults slots.items))
+        (told_of D.told D.faults kept.new) (K.text out.old) (K.text out.new) }
+    // Whatever is kept is such a run.
+    ensures kept { IfSome (told_of D.told D.faults kept.new) (λ told. (named : NamedRun) × IsRunCommand words.now named
+        × IsKept (seen S.files S.faults S.last store.old store.new) named (views D.told D.faults slots.items) told) }
 
     // Where weaving ends well, what is written is the program with its blocks, and is accepted with its certificate.
     ensures inlined { (named : NamedInline) → IsInline words.now named → result ≡ Status.Done
@@ -135,7 +185,7 @@ pub fn run_tool<S: Store, K: Sink>(
     let Some(command) = command_of(words) else {
         return put(out, Status::Usage, usage_encoded(alloc));
     };
-    match carry_out(alloc, &command, store) {
+    match carry_out(rt, alloc, &command, store, slots, gate, kept) {
         Ok(answer) => put(out, answer_status(&answer), answer_encoded(alloc, answer)),
         Err(Ended::Refused(refusal)) => {
             put(
@@ -149,15 +199,26 @@ pub fn run_tool<S: Store, K: Sink>(
 }
 
 /// A command comes to one outcome over the same files; but of `inline` it is left open which of the least typings a certificate
-/// tells.
+/// tells, and of `run` which thread makes which step.
 pub fn answers_are_one()
     ensures { GivesOnce }
 {}
 
 // ---- commands
 
-/// What a command makes of its files is written, and then answered.
-fn carry_out<S: Store>(alloc: Global, command: &Command, store: &mut S) -> Result<Answer, Ended>
+/// What a command makes of its files is written, and then answered. A run is kept.
+fn carry_out<S: Store, D: ApiDevice + Send, G: Gate + Sync, R: Threads + Wait + Sync>(
+    rt: &R,
+    alloc: Global,
+    command: &Command,
+    store: &mut S,
+    slots: Vec<SlotOf<D>>,
+    gate: &G,
+    kept: &mut Option<RunAnswer<D>>,
+) -> Result<Answer, Ended>
+    requires silent { AllAreSilent (views D.told D.faults slots.items) }
+    requires none { kept.old ≡ None }
+    requires within { IsWithinIfRun (named_by command.now) }
     ensures carries { UnlessMemory
         (CarriesOut (seen S.files S.faults S.last store.old store.new) (named_by command.now)) result }
     ensures holds { (named : NamedCheck) → named_by command.now ≡ Check named
@@ -166,7 +227,35 @@ fn carry_out<S: Store>(alloc: Global, command: &Command, store: &mut S) -> Resul
         → IfOk result (λ answer. ReplayedRuns (seen S.files S.faults S.last store.old store.new) named) }
     ensures inlined { (named : NamedInline) → named_by command.now ≡ Inline named
         → IfOk result (λ answer. IsInlined (seen S.files S.faults S.last store.old store.new) named) }
+    ensures ran { (named : NamedRun) → named_by command.now ≡ Run named
+        → IfOk result (TellsKept (told_of D.told D.faults kept.new)) }
+    ensures kept { IfSome (told_of D.told D.faults kept.new) (λ told. (named : NamedRun) × (named_by command.now ≡ Run named)
+        × IsKept (seen S.files S.faults S.last store.old store.new) named (views D.told D.faults slots.items) told) }
     ensures files { Begins (seen S.files S.faults S.last store.old store.new) (named_by command.now) }
+    ensures faults { S.faults store.old ≤ S.faults store.new }
+{
+    match command {
+        Command::Files(command) => carry_out_files(alloc, command, store),
+        Command::Run(words) => carry_out_run(rt, alloc, words, store, slots, gate, kept),
+    }
+}
+
+/// What a command over files makes of them is written, and then answered.
+fn carry_out_files<S: Store>(
+    alloc: Global,
+    command: &FileCommand,
+    store: &mut S,
+) -> Result<Answer, Ended>
+    ensures carries { UnlessMemory
+        (CarriesOut (seen S.files S.faults S.last store.old store.new) (files_named command.now)) result }
+    ensures holds { (named : NamedCheck) → files_named command.now ≡ Check named
+        → IfOk result (λ answer. Holds (seen S.files S.faults S.last store.old store.new) named) }
+    ensures replay_runs { (named : NamedReplay) → files_named command.now ≡ Replay named
+        → IfOk result (λ answer. ReplayedRuns (seen S.files S.faults S.last store.old store.new) named) }
+    ensures inlined { (named : NamedInline) → files_named command.now ≡ Inline named
+        → IfOk result (λ answer. IsInlined (seen S.files S.faults S.last store.old store.new) named) }
+    ensures over { IsOverFiles (files_named command.now) }
+    ensures files { Begins (seen S.files S.faults S.last store.old store.new) (files_named command.now) }
     ensures faults { S.faults store.old ≤ S.faults store.new }
 {
     match make(alloc, command, store) {
@@ -175,26 +264,53 @@ fn carry_out<S: Store>(alloc: Global, command: &Command, store: &mut S) -> Resul
     }
 }
 
-/// What a command makes of its files.
-fn make<S: Store>(alloc: Global, command: &Command, store: &mut S) -> Result<Made, Ended>
+/// What the command `run` makes of its files is answered, and the run is kept.
+fn carry_out_run<S: Store, D: ApiDevice + Send, G: Gate + Sync, R: Threads + Wait + Sync>(
+    rt: &R,
+    alloc: Global,
+    words: &RunWords,
+    store: &mut S,
+    slots: Vec<SlotOf<D>>,
+    gate: &G,
+    kept: &mut Option<RunAnswer<D>>,
+) -> Result<Answer, Ended>
+    requires silent { AllAreSilent (views D.told D.faults slots.items) }
+    requires none { kept.old ≡ None }
+    requires within { IsWithin (run_named words.now) }
+    ensures carries { UnlessMemory
+        (CarriesOut (seen S.files S.faults S.last store.old store.new) (Run (run_named words.now))) result }
+    ensures ran { IfOk result (TellsKept (told_of D.told D.faults kept.new)) }
+    ensures kept { IfSome (told_of D.told D.faults kept.new) (IsKept (seen S.files S.faults S.last store.old store.new)
+        (run_named words.now) (views D.told D.faults slots.items)) }
+    ensures files { Begins (seen S.files S.faults S.last store.old store.new) (Run (run_named words.now)) }
+    ensures faults { S.faults store.old ≤ S.faults store.new }
+{
+    match make_run(rt, alloc, words, store, slots, gate, kept) {
+        Ok(made) => write_made(alloc, made, store),
+        Err(ended) => Err(ended),
+    }
+}
+
+/// What a command over files makes of them.
+fn make<S: Store>(alloc: Global, command: &FileCommand, store: &mut S) -> Result<Made, Ended>
     ensures makes { UnlessMemory
-        (Makes (readings_of (seen S.files S.faults S.last store.old store.new)) (named_by command.now)) result }
-    ensures holds { (named : NamedCheck) → named_by command.now ≡ Check named
+        (Makes (readings_of (seen S.files S.faults S.last store.old store.new)) (files_named command.now)) result }
+    ensures holds { (named : NamedCheck) → files_named command.now ≡ Check named
         → IfOk result (λ made. Holds (seen S.files S.faults S.last store.old store.new) named) }
-    ensures replay_runs { (named : NamedReplay) → named_by command.now ≡ Replay named
+    ensures replay_runs { (named : NamedReplay) → files_named command.now ≡ Replay named
         → IfOk result (λ made. ReplayedRuns (seen S.files S.faults S.last store.old store.new) named) }
-    ensures ready { (named : NamedInline) → named_by command.now ≡ Inline named
+    ensures ready { (named : NamedInline) → files_named command.now ≡ Inline named
         → IfOk result (IsReadyToWrite (seen S.files S.faults S.last store.old store.new) named) }
     ensures files { S.files store.new ≡ S.files store.old }
     ensures faults { S.faults store.old ≤ S.faults store.new }
 {
     match command {
-        Command::Check(words) => make_check(alloc, words, store),
-        Command::Show(words) => make_show(alloc, words, store),
-        Command::Policy(words) => make_policy(alloc, words, store),
-        Command::Race(words) => make_race(alloc, words, store),
-        Command::Inline(words) => make_inline(alloc, words, store),
-        Command::Replay(words) => make_replay(alloc, words, store),
+        FileCommand::Check(words) => make_check(alloc, words, store),
+        FileCommand::Show(words) => make_show(alloc, words, store),
+        FileCommand::Policy(words) => make_policy(alloc, words, store),
+        FileCommand::Race(words) => make_race(alloc, words, store),
+        FileCommand::Inline(words) => make_inline(alloc, words, store),
+        FileCommand::Replay(words) => make_replay(alloc, words, store),
     }
 }
 
@@ -228,6 +344,22 @@ fn answer_status(answer: &Answer) -> Status
         Answer::RaceFree => Status::Done,
         Answer::Inlined { .. } => Status::Done,
         Answer::Replayed(_) => Status::Done,
+        Answer::Ran { end, .. } => run_status(*end),
+    }
+}
+
+/// The status of a run that ended so.
+fn run_status(end: EndLine) -> Status
+    ensures is { result ≡ run_status end }
+    ensures kind { IsOutcomeStatus result }
+{
+    match end {
+        EndLine::Finished => Status::Done,
+        EndLine::Deadlock => Status::Done,
+        EndLine::Stopped(_) => Status::Done,
+        EndLine::Budget => Status::Budget,
+        EndLine::Device => Status::Device,
+        EndLine::Running => Status::Done,
     }
 }
 
@@ -247,7 +379,7 @@ fn judged_status(verdict: Verdict) -> Status
 fn refusal_status(refusal: &Refusal) -> Status
     ensures is { result ≡ refusal_status refusal.now }
     ensures kind { IsOutcomeStatus result }
-    ensures no { result ≢ Status.Done }
+    ensures no { IsRunStatus result → ⊥ }
 {
     match refusal {
         Refusal::Input(_, _) => Status::Input,

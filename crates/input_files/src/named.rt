@@ -90,7 +90,8 @@ pub fn certificate_of<S: Store>(
 ) -> Result<Certificate, Stop>
     ensures form { ReadsForm (S.files store.old) (since (S.faults store.old) (S.faults store.new) (S.last store.new))
         name.now (certificate_form vars) result }
-    ensures encodes { IfOk result (λ certificate. HasFile (S.files store.old) name.now (λ bytes. EncodesCertificate bytes vars certificate)) }
+    ensures encodes { IfOk result (λ certificate.
+        HasFile (S.files store.old) name.now (λ bytes. EncodesCertificate bytes vars certificate)) }
     ensures files { S.files store.new ≡ S.files store.old }
     ensures faults { S.faults store.old ≤ S.faults store.new }
 {

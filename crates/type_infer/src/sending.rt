@@ -219,7 +219,8 @@ fn send_on(
 ) -> Result<(), NoMemory>
     requires { StandsIn body.now place.now worklist.old }
     ensures each { HasEach body.now worklist.new }
-    ensures sends { OnOk result (IsReady body.now → SendsTo body.now place.now (next_of place.now.at place.now.insn) worklist.old worklist.new) }
+    ensures sends { OnOk result (IsReady body.now
+        → SendsTo body.now place.now (next_of place.now.at place.now.insn) worklist.old worklist.new) }
 {
     laws_hold();
     if !goes_on(place.insn.opcode()) {

@@ -20,7 +20,8 @@ use std::alloc::Global;
 fn begun(alloc: Global, body: &Body) -> Result<Worklist, NoMemory>
     ensures frames { IfOk result (λ worklist. length worklist.frames ≡ length body.now.method.insns) }
     ensures marks { IfOk result (λ worklist. length worklist.marks ≡ length body.now.method.insns) }
-    ensures holds { IfOk result (λ worklist. (limit : ℕ) (above : Frames) → IsMetBy body.now limit above → Holds body.now limit above worklist) }
+    ensures holds { IfOk result (λ worklist. (limit : ℕ) (above : Frames)
+        → IsMetBy body.now limit above → Holds body.now limit above worklist) }
 {
     laws_hold();
     let mut worklist = Worklist::new(alloc, body.method.insns.len())?;

@@ -3,7 +3,7 @@ use Rattle.std.proofs.Common.{◌≡◌, ℕ, zero, suc, ◌+◌, ◌<◌, List,
 use Rattle.std.specs.Prelude.{slice_get, nat_eq}
 use Rattle.std.proofs.lemmas.Bool.{cases_Bool, false≢true, eq-eqb, eqb-true}
 use Rattle.type_lattice.specs.declared.skip_pointers.SkipPointer.{SkipPointer}
-use Rattle.type_lattice.specs.SkipPointers.{parent_of, parents_of, unknown, skip_pointer, AreParents, IsSkipPointer, IsKnown, IsOpen, AreBegun, AreSkipPointers}
+use Rattle.type_lattice.specs.SkipPointers.{parent_of, parents_of, unknown, path_up, AreParents, IsSkipPointer, IsKnown, IsOpen, AreBegun, AreSkipPointers}
 use Rattle.type_lattice.proofs.Ascending.{some_is, there_within, parents-length, unknown_parents, unknown_height, not_empty, goes_on, stays_in, last_of}
 
 set_parents : (skip_pointers : List SkipPointer) (at : ℕ) (kept : SkipPointer) → at < length skip_pointers → kept.parent ≡ parent_of (parents_of skip_pointers) at → parents_of (set skip_pointers at kept) ≡ parents_of skip_pointers
@@ -86,8 +86,8 @@ module _ (skip_pointers : List SkipPointer) (begun : AreBegun skip_pointers) (st
   longer : length path ≡ length rest + 1
   longer = ap length is ∙ length-append rest (at ∷ [])
 
-  cut : (slice_get (skip_pointer (parents_of skip_pointers) start) (length rest) ≡ Some at) × (rest ≡ take (length rest) (skip_pointer (parents_of skip_pointers) start))
-  cut = last_of (skip_pointer (parents_of skip_pointers) start) rest at (sym is ∙ is_open.front ∙ ap (λ (n : ℕ). take n (skip_pointer (parents_of skip_pointers) start)) longer)
+  cut : (slice_get (path_up (parents_of skip_pointers) start) (length rest) ≡ Some at) × (rest ≡ take (length rest) (path_up (parents_of skip_pointers) start))
+  cut = last_of (path_up (parents_of skip_pointers) start) rest at (sym is ∙ is_open.front ∙ ap (λ (n : ℕ). take n (path_up (parents_of skip_pointers) start)) longer)
 
   pub last_within : start < length skip_pointers → at < length skip_pointers
   last_within less =
@@ -95,14 +95,14 @@ module _ (skip_pointers : List SkipPointer) (begun : AreBegun skip_pointers) (st
       let all = stays_in (parents_of skip_pointers) begun.parents (length rest) start at (omega arith) cut.0 in
       omega arith
 
-  pub above_known : (above : ℕ) → slice_get (skip_pointer (parents_of skip_pointers) at) 1 ≡ Some above → IsKnown skip_pointers above
+  pub above_known : (above : ℕ) → slice_get (path_up (parents_of skip_pointers) at) 1 ≡ Some above → IsKnown skip_pointers above
   above_known above e =
-      is_open.next above (ap (slice_get (skip_pointer (parents_of skip_pointers) start)) longer ∙ goes_on (parents_of skip_pointers) begun.parents (length rest) 1 start at cut.0 ∙ e)
+      is_open.next above (ap (slice_get (path_up (parents_of skip_pointers) start)) longer ∙ goes_on (parents_of skip_pointers) begun.parents (length rest) 1 start at cut.0 ∙ e)
 
   pub still_open : (new : List SkipPointer) → parents_of new ≡ parents_of skip_pointers → IsKnown new at → IsOpen new start rest
   still_open new same known = record {
-    front = cut.1 ∙ ap (λ (l : List (Option ℕ)). take (length rest) (skip_pointer l start)) (sym same);
+    front = cut.1 ∙ ap (λ (l : List (Option ℕ)). take (length rest) (path_up l start)) (sym same);
     next = λ x e.
-        let there : slice_get (skip_pointer (parents_of skip_pointers) start) (length rest) ≡ Some x = ap (λ (l : List (Option ℕ)). slice_get (skip_pointer l start) (length rest)) (sym same) ∙ e in
+        let there : slice_get (path_up (parents_of skip_pointers) start) (length rest) ≡ Some x = ap (λ (l : List (Option ℕ)). slice_get (path_up l start) (length rest)) (sym same) ∙ e in
         subst (IsKnown new) (some_is at x (sym cut.0 ∙ there)) known;
   }

@@ -12,7 +12,7 @@ use Rattle.bytecode_model.specs.Order.{EachWayEnds}
 use Rattle.type_lattice.specs.Hierarchy.{is_up, nearest_common, parents_in}
 use Rattle.bytecode_model.specs.Places.{class_place}
 use Rattle.bytecode_model.specs.SearchOrder.{superclasses}
-use Rattle.type_lattice.specs.SkipPointers.{parent_of, skips_up, skip_pointer, AreParents, has_place, meeting}
+use Rattle.type_lattice.specs.SkipPointers.{parent_of, skips_up, path_up, AreParents, has_place, meeting}
 use Rattle.type_lattice.proofs.Ascending.{some_is, there_within}
 use Rattle.bytecode_model.proofs.Placing.{find_at}
 
@@ -214,7 +214,7 @@ module _ (classes : List ListedClass) where
     all_up : (name : List ℕ) → superclasses classes name ≡ upwards (suc (length skip_pointers)) classes name
     all_up name = sym (ends name) ∙ ap (λ (n : ℕ). upwards (suc n) classes name) (sym size)
 
-    pub up_is : (class above : List ℕ) (p q : ℕ) → class_place classes class ≡ Some p → class_place classes above ≡ Some q → is_up classes class above ≡ has_place (skip_pointer skip_pointers p) q
+    pub up_is : (class above : List ℕ) (p q : ℕ) → class_place classes class ≡ Some p → class_place classes above ≡ Some q → is_up classes class above ≡ has_place (path_up skip_pointers p) q
     up_is class above p q e f =
         ap (has_named above) (all_up class) ∙ named_is above q f (length skip_pointers) class ∙ ap (λ (o : Option ℕ). has_place (from_place (length skip_pointers) o) q) e
 
@@ -228,8 +228,8 @@ module _ (classes : List ListedClass) where
     pub common_is : (a b : List ℕ) (p q : ℕ) → class_place classes a ≡ Some p → class_place classes b ≡ Some q → nearest_common classes a b ≡ name_at (meeting skip_pointers p q)
     common_is a b p q e f =
         ap (λ (cs : List ListedClass). option_map (λ (c : ListedClass). c.name) (find (λ (c : ListedClass). is_up classes b c.name) cs)) (all_up a)
-        ∙ first_is_at (is_up classes b) (has_place (skip_pointer skip_pointers q)) (λ name place h. up_is b name q place f h) (length skip_pointers) a
-        ∙ ap (λ (o : Option ℕ). name_at (find (has_place (skip_pointer skip_pointers q)) (from_place (length skip_pointers) o))) e
+        ∙ first_is_at (is_up classes b) (has_place (path_up skip_pointers q)) (λ name place h. up_is b name q place f h) (length skip_pointers) a
+        ∙ ap (λ (o : Option ℕ). name_at (find (has_place (path_up skip_pointers q)) (from_place (length skip_pointers) o))) e
 
     pub none_common_first : (a b : List ℕ) → class_place classes a ≡ None → nearest_common classes a b ≡ None
     none_common_first a b e =

@@ -14,12 +14,12 @@ skips_up zero parents at = at ∷ []
 skips_up (suc n) parents at = at ∷ option_map_or (skips_up n parents) (parent_of parents at) []
 
 -- the place and those above it, the nearest first
-abbrev pub skip_pointer : List (Option ℕ) → ℕ → List ℕ
-skip_pointer parents at = skips_up (length parents) parents at
+abbrev pub path_up : List (Option ℕ) → ℕ → List ℕ
+path_up parents at = skips_up (length parents) parents at
 
 -- Each way ends, and no place is beyond the list.
 pub record AreParents (parents : List (Option ℕ)) : Type 0 where
-  pub ends : (at : ℕ) → skips_up (suc (length parents)) parents at ≡ skip_pointer parents at
+  pub ends : (at : ℕ) → skips_up (suc (length parents)) parents at ≡ path_up parents at
   pub within : (at above : ℕ) → parent_of parents at ≡ Some above → above < length parents
 
 -- whether the place is one of these
@@ -28,7 +28,7 @@ has_place places at = list_any (λ (p : ℕ). p == at) places
 
 -- the first on the one way that is on the other, too
 abbrev pub meeting : List (Option ℕ) → ℕ → ℕ → Option ℕ
-meeting parents a b = find (has_place (skip_pointer parents b)) (skip_pointer parents a)
+meeting parents a b = find (has_place (path_up parents b)) (path_up parents a)
 
 -- ---- what is kept of a place
 
@@ -41,8 +41,8 @@ unknown parent = record { parent = parent; height = 0; steps = 0; jump = 0 }
 
 -- What is kept tells how many places the way has, and one of them further up, so many steps away.
 pub record IsSkipPointer (parents : List (Option ℕ)) (at : ℕ) (kept : SkipPointer) : Type 0 where
-  pub height : kept.height ≡ length (skip_pointer parents at)
-  pub jump : slice_get (skip_pointer parents at) kept.steps ≡ Some kept.jump
+  pub height : kept.height ≡ length (path_up parents at)
+  pub jump : slice_get (path_up parents at) kept.steps ≡ Some kept.jump
   pub moves : (above : ℕ) → parent_of parents at ≡ Some above → 0 < kept.steps
 
 -- The height of the place is known.
@@ -63,19 +63,19 @@ pub record AreSkipPointers (skip_pointers : List SkipPointer) : Type 0 where
 
 -- The path is the front of the way, and the next place on the way is known.
 pub record IsOpen (skip_pointers : List SkipPointer) (start : ℕ) (path : List ℕ) : Type 0 where
-  pub front : path ≡ take (length path) (skip_pointer (parents_of skip_pointers) start)
-  pub next : (at : ℕ) → slice_get (skip_pointer (parents_of skip_pointers) start) (length path) ≡ Some at → IsKnown skip_pointers at
+  pub front : path ≡ take (length path) (path_up (parents_of skip_pointers) start)
+  pub next : (at : ℕ) → slice_get (path_up (parents_of skip_pointers) start) (length path) ≡ Some at → IsKnown skip_pointers at
 
 -- So far up the way there is this place.
 pub record LeadsUp (parents : List (Option ℕ)) (at most above gone : ℕ) : Type 0 where
   pub some : 0 < gone
   pub few : gone ≤ most
-  pub there : slice_get (skip_pointer parents at) gone ≡ Some above
+  pub there : slice_get (path_up parents at) gone ≡ Some above
 
 -- As far up both ways there are these places, and the ways do not meet before.
 pub record LeadBothUp (parents : List (Option ℕ)) (a b above beyond : ℕ) : Type 0 where
   pub gone : ℕ
-  pub one : slice_get (skip_pointer parents a) gone ≡ Some above
-  pub other : slice_get (skip_pointer parents b) gone ≡ Some beyond
+  pub one : slice_get (path_up parents a) gone ≡ Some above
+  pub other : slice_get (path_up parents b) gone ≡ Some beyond
   pub some : 0 < gone
-  pub apart : (k c : ℕ) → k < gone → slice_get (skip_pointer parents a) k ≡ Some c → slice_get (skip_pointer parents b) k ≡ Some c → ⊥
+  pub apart : (k c : ℕ) → k < gone → slice_get (path_up parents a) k ≡ Some c → slice_get (path_up parents b) k ≡ Some c → ⊥

@@ -1,8 +1,17 @@
 //! Ways up, from places to the places above them, of which each is gone in few steps.
 
 ghost use Rattle.std.specs.Prelude.{◌≡◌, ◌<◌, ◌-◌, ◌+◌, ◌≢◌, ℕ, Some, None, length, map, slice_get, IfOk, OnOk, IfSome, MatchOption};
-ghost use Rattle.type_lattice.specs.SkipPointers.{AreBegun, AreParents, AreSkipPointers, IsKnown, IsOpen, IsSkipPointer, LeadsUp, LeadBothUp};
-ghost use Rattle.type_lattice.specs.SkipPointers.{has_place, meeting, parent_of, parents_of, unknown, skip_pointer};
+ghost use Rattle.type_lattice.specs.SkipPointers.{
+  AreBegun,
+  AreParents,
+  AreSkipPointers,
+  IsKnown,
+  IsOpen,
+  IsSkipPointer,
+  LeadsUp,
+  LeadBothUp,
+};
+ghost use Rattle.type_lattice.specs.SkipPointers.{has_place, meeting, parent_of, parents_of, unknown, path_up};
 
 use mon_base::NoMemory;
 use std::alloc::Global;
@@ -52,7 +61,7 @@ impl SkipPointers {
         requires { at < length self.now }
         ensures parents { AreParents self.now }
         ensures parent { result.parent ≡ parent_of self.now at }
-        ensures skip_pointer { IsSkipPointer self.now at result }
+        ensures path_up { IsSkipPointer self.now at result }
     {
         self.items[at]
     }
@@ -60,7 +69,7 @@ impl SkipPointers {
     /// How many places the way from this one has.
     pub fn height(&self, at: usize) -> usize
         requires { at < length self.now }
-        ensures { result ≡ length (skip_pointer self.now at) }
+        ensures { result ≡ length (path_up self.now at) }
     {
         self.kept(at).height
     }
@@ -68,7 +77,7 @@ impl SkipPointers {
     /// The place so many steps up, where the way goes as far.
     pub fn up(&self, at: usize, steps: usize) -> Option<usize>
         requires { at < length self.now }
-        ensures { result ≡ slice_get (skip_pointer self.now at) steps }
+        ensures { result ≡ slice_get (path_up self.now at) steps }
     {
         let mut at = at;
         let mut left = steps;
@@ -87,7 +96,7 @@ impl SkipPointers {
         requires at { at < length self.now }
         requires most { 0 < most }
         ensures parents { AreParents self.now }
-        ensures leads { MatchOption result (length (skip_pointer self.now at) ≡ 1) (λ r. LeadsUp self.now at most r.0 r.1) }
+        ensures leads { MatchOption result (length (path_up self.now at) ≡ 1) (λ r. LeadsUp self.now at most r.0 r.1) }
     {
         let kept = self.kept(at);
         let Some(parent) = kept.parent else {
@@ -103,7 +112,7 @@ impl SkipPointers {
     pub fn leads_to(&self, at: usize, above: usize) -> bool
         requires at { at < length self.now }
         requires above { above < length self.now }
-        ensures { result ≡ has_place (skip_pointer self.now at) above }
+        ensures { result ≡ has_place (path_up self.now at) above }
     {
         let low = self.kept(at).height;
         let high = self.kept(above).height;
@@ -137,8 +146,8 @@ impl SkipPointers {
         requires a { a < length self.now }
         requires b { b < length self.now }
         requires apart { a ≢ b }
-        requires level { length (skip_pointer self.now a) ≡ length (skip_pointer self.now b) }
-        ensures { MatchOption result (length (skip_pointer self.now a) ≡ 1) (λ r. LeadBothUp self.now a b r.0 r.1) }
+        requires level { length (path_up self.now a) ≡ length (path_up self.now b) }
+        ensures { MatchOption result (length (path_up self.now a) ≡ 1) (λ r. LeadBothUp self.now a b r.0 r.1) }
     {
         let low = self.kept(a);
         let high = self.kept(b);
@@ -223,8 +232,8 @@ fn known(items: &[SkipPointer], at: usize) -> SkipPointer
 fn skip_over(items: &[SkipPointer], at: usize) -> SkipPointer
     requires begun { AreBegun items.now }
     requires at { at < length items.now }
-    requires above { (above : ℕ) → slice_get (skip_pointer (parents_of items.now) at) 1 ≡ Some above → IsKnown items.now above }
-    ensures skip_pointer { IsSkipPointer (parents_of items.now) at result }
+    requires above { (above : ℕ) → slice_get (path_up (parents_of items.now) at) 1 ≡ Some above → IsKnown items.now above }
+    ensures path_up { IsSkipPointer (parents_of items.now) at result }
     ensures parent { result.parent ≡ parent_of (parents_of items.now) at }
 {
     let Some(parent) = items[at].parent else {

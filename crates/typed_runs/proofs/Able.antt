@@ -28,7 +28,7 @@ use Rattle.typed_runs.specs.Machines.{CanBegin, MachineFits}
 use Rattle.typed_runs.specs.Programs.{IsTypedProgram}
 use Rattle.typed_runs.proofs.Acting.{CallsOperate, alone_shape, heap_shape}
 use Rattle.typed_runs.proofs.Going.{steps_alone}
-use Rattle.typed_runs.proofs.Returning.{gives}
+use Rattle.typed_runs.proofs.Calling.Returning.{gives}
 use Rattle.typed_runs.proofs.Rows.{insn_is}
 use Rattle.typed_runs.proofs.Topmost.{one_taken}
 use Rattle.typed_runs.proofs.Types.{reference_is, type_fits_over, wanted_made, wanted_object}

@@ -57,7 +57,7 @@ use Rattle.typed_runs.proofs.Changed.{ChangeFits, OperationFits, WorldFits, goes
 use Rattle.typed_runs.proofs.Going.{AfterInsn, heap_holds, locals_stay, runs_after, stack_following, steps_alone, went}
 use Rattle.typed_runs.proofs.Growing.{all_waiting_grown, grows_itself, type_grown}
 use Rattle.typed_runs.proofs.Pairs.{paired_also}
-use Rattle.typed_runs.proofs.Returning.{gives, returned_fits}
+use Rattle.typed_runs.proofs.Calling.Returning.{gives, returned_fits}
 use Rattle.typed_runs.proofs.Rows.{insn_is}
 use Rattle.typed_runs.proofs.Taken.{One}
 use Rattle.typed_runs.proofs.Throwing.{AreLeft, throws_fits, throws_new_fits}

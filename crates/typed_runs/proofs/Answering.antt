@@ -40,7 +40,7 @@ use Rattle.typed_runs.proofs.Above.{below_fits, interface_fits}
 use Rattle.typed_runs.proofs.Arrays.{instance_fits, reference_described}
 use Rattle.typed_runs.proofs.Changed.{WorldFits}
 use Rattle.typed_runs.proofs.Growing.{get_after, grows_after, grows_on, heap_after, statics_grown}
-use Rattle.typed_runs.proofs.Returning.{ResultFits}
+use Rattle.typed_runs.proofs.Calling.Returning.{ResultFits}
 use Rattle.typed_runs.proofs.Thrown.{bare_fits}
 use Rattle.typed_runs.proofs.Types.{holds_at, of_class}
 

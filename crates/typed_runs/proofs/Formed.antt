@@ -33,9 +33,9 @@ use Rattle.guest_model.proofs.Options.{all_get, find_is, map_of}
 use Rattle.guest_model.specs.Numbers.{IsWordSeen, IsReturned, IsInRange, SeesInRange, is_of_numbers, is_primitive}
 use Rattle.guest_model.specs.Runs.{trace}
 use Rattle.typed_runs.specs.Formed.{SeesWellFormed, TellsTypes}
-use Rattle.typed_runs.proofs.Called.{there_and}
+use Rattle.typed_runs.proofs.Calling.Called.{there_and}
 use Rattle.typed_runs.proofs.Changed.{ArePassedNumbers, PassesNumbers}
-use Rattle.typed_runs.proofs.CallsOperate.{calls_operate}
+use Rattle.typed_runs.proofs.Calling.CallsOperate.{calls_operate}
 use Rattle.typed_runs.proofs.Runs.{runs_pass_numbers}
 use Rattle.typed_runs.proofs.Within.{among}
 

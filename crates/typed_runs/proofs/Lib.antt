@@ -13,7 +13,7 @@ pub mod Thrown
 pub mod Throwing
 pub mod Entering
 pub mod Topmost
-pub mod Returning
+pub mod Calling
 pub mod Declared
 pub mod Answering
 pub mod Taken
@@ -25,15 +25,8 @@ pub mod HeapResult
 pub mod Able
 pub mod Acting
 pub mod Beginning
-pub mod BuiltIn
-pub mod Called
-pub mod Calls
-pub mod CallsOperate
 pub mod Found
-pub mod GivenCalls
 pub mod Library
-pub mod Passed
-pub mod Receiver
 pub mod Runs
 pub mod Formed
 pub mod IllFormed

@@ -48,10 +48,10 @@ use Rattle.typed_runs.specs.Frames.{AreWaiting, IsReady}
 use Rattle.typed_runs.specs.Machines.{CanBegin, IsCalledOn, MachineFits}
 use Rattle.typed_runs.specs.Programs.{ImplementsInterfaces, IsTypedProgram}
 use Rattle.typed_runs.proofs.Above.{looked_fairly}
-use Rattle.typed_runs.proofs.Calls.{Fits, call_here, callers, shared, shared_fits}
+use Rattle.typed_runs.proofs.Calling.Calls.{Fits, call_here, callers, shared, shared_fits}
 use Rattle.typed_runs.proofs.Changed.{ArePassedNumbers}
-use Rattle.typed_runs.proofs.Passed.{Arguments, Passing, Received, none_received, read_type, received_by, receiver_reference, referred_desc, spot}
-use Rattle.typed_runs.proofs.Receiver.{reaches}
+use Rattle.typed_runs.proofs.Calling.Passed.{Arguments, Passing, Received, none_received, read_type, received_by, receiver_reference, referred_desc, spot}
+use Rattle.typed_runs.proofs.Calling.Receiver.{reaches}
 use Rattle.typed_runs.proofs.Types.{class_of, just_is_of}
 use Rattle.typed_runs.proofs.Operates.{number_value}
 

@@ -29,7 +29,7 @@ use Rattle.typed_runs.specs.Runs.{NeverStuck, RunsFit}
 use Rattle.typed_runs.proofs.Able.{can_run}
 use Rattle.typed_runs.proofs.Acting.{CallsOperate, frames_fit}
 use Rattle.typed_runs.proofs.Beginning.{start_fits}
-use Rattle.typed_runs.proofs.Called.{call_stepped_fits, can_take}
+use Rattle.typed_runs.proofs.Calling.Called.{call_stepped_fits, can_take}
 use Rattle.typed_runs.proofs.Changed.{ChangeFits, PassesNumbers, WorldFits}
 use Rattle.typed_runs.proofs.Growing.{all_also, begins_grown, grows_itself, thread_grown}
 

@@ -3,4 +3,5 @@
 mod class_files;
 mod devices;
 mod records;
+mod runs;
 mod stores;

@@ -14,7 +14,8 @@ use guest_tables::Guest;
 
 /// Puts what a constant names on top.
 pub fn constant(guest: &Guest, target: &Target, stack: &mut Stack) -> Option<Completion>
-    ensures { (heap : List Object) (statics : List (List Value)) → Operates (Ok result) (at heap statics stack.old) (at heap statics stack.new)
+    ensures { (heap : List Object) (statics : List (List Value))
+        → Operates (Ok result) (at heap statics stack.old) (at heap statics stack.new)
         (λ (world : World). option_map (λ (v : Value). Ok (world, v ∷ stack.old.items)) (constant_value guest.now target.now)) }
 {
     let came = constant_named(guest, target);

@@ -1,12 +1,17 @@
-use Rattle.inliner_tool.proofs.Carrying.{holds_still, inlined_if, runs_still}
-use Rattle.inliner_tool.proofs.TypedRuns.{so_of_any}
+use Rattle.std.proofs.Common.{ap, subst, sym, ◌∙◌}
+use Rattle.command_words.specs.Words.{NamedCommand, named_by}
+use Rattle.inliner_tool.specs.Seen.{seen}
+use Rattle.inliner_tool.specs.Steps.{UnlessMemory}
+use Rattle.inliner_tool.specs.Writing.{CarriesOut}
 use Rattle.inliner_tool.proofs.tool.carry_out.Goals as goal
 
-pub returns-in-Ok-clause-replay_runs : goal.returns-in-Ok-clause-replay_runs
-returns-in-Ok-clause-replay_runs g c = λ named is. so_of_any _ c.write_made.result (runs_still _ _ _ _ _ named (c.in-Ok.ensures.replay_runs named is))
+pub returns-in-Files-clause-carries : goal.returns-in-Files-clause-carries
+returns-in-Files-clause-carries g c =
+    subst (λ (n : NamedCommand). UnlessMemory (CarriesOut (seen g.S.Store.files g.S.Store.faults g.S.Store.last c.args.store.now c.carry_out_files.new.store) n) c.carry_out_files.result) (sym (ap named_by c.in-Files.is)) c.carry_out_files.ensures.carries
 
-pub returns-in-Ok-clause-inlined : goal.returns-in-Ok-clause-inlined
-returns-in-Ok-clause-inlined g c = λ named is. inlined_if _ _ _ _ _ _ named c.in-Ok.made (c.in-Ok.ensures.ready named is) c.in-Ok.ensures.files c.write_made.result c.write_made.ensures.writes
+pub returns-in-Files-clause-inlined : goal.returns-in-Files-clause-inlined
+returns-in-Files-clause-inlined g c = λ named is. c.carry_out_files.ensures.inlined named (sym (ap named_by c.in-Files.is) ∙ is)
 
-pub returns-in-Ok-clause-holds : goal.returns-in-Ok-clause-holds
-returns-in-Ok-clause-holds g c = λ named is. so_of_any _ c.write_made.result (holds_still _ _ _ _ _ named (c.in-Ok.ensures.holds named is))
+pub returns-in-Run-clause-carries : goal.returns-in-Run-clause-carries
+returns-in-Run-clause-carries g c =
+    subst (λ (n : NamedCommand). UnlessMemory (CarriesOut (seen g.S.Store.files g.S.Store.faults g.S.Store.last c.args.store.now c.carry_out_run.new.store) n) c.carry_out_run.result) (sym (ap named_by c.in-Run.is)) c.carry_out_run.ensures.carries

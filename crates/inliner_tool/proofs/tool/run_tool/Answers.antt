@@ -1,15 +1,16 @@
-use Rattle.std.proofs.Common.{◌≡◌, ◌∙◌, Ok, Err, refl, subst, sym}
+use Rattle.std.proofs.Common.{◌∙◌, Ok, Err, inl, refl, subst}
 use Rattle.input_files.specs.Forms.{Count, since}
 use Rattle.mon_store.specs.Store.{Files}
 use Rattle.inliner_tool.specs.declared.tool.Status.TheVariants as statuses
 use Rattle.command_words.specs.Words.{named_by}
 use Rattle.inliner_tool.specs.Replies.{usage_encoded}
+use Rattle.inliner_tool.specs.Run.{IsRunStatus}
 use Rattle.inliner_tool.specs.Seen.{Seen}
 use Rattle.inliner_tool.specs.Steps.{outcome_step}
 use Rattle.inliner_tool.specs.Writing.{CarriesOut}
 use Rattle.inliner_tool.proofs.Decides.{outcome_decides, usage_decides}
 use Rattle.inliner_tool.proofs.Headlines.{obeyed}
-use Rattle.inliner_tool.proofs.Replying.{checked_runs, is_check, is_inline, outcome_replied, puts_no, puts_plain, refused_so, usage_replied}
+use Rattle.inliner_tool.proofs.Replying.{checked_runs, no_run_status, is_check, is_inline, is_replay, is_run, outcome_replied, prints_run, puts_no, puts_run, puts_plain, refused_so, usage_replied}
 use Rattle.inliner_tool.proofs.tool.run_tool.Goals as goal
 
 pub returns-in-Ok-clause-headline : goal.returns-in-Ok-clause-headline
@@ -23,6 +24,22 @@ returns-in-Ok-clause-runs g c = λ named is done. checked_runs _ named (c.in-Ok.
 
 pub returns-in-Ok-clause-inlined : goal.returns-in-Ok-clause-inlined
 returns-in-Ok-clause-inlined g c = λ named is done. c.in-Ok.ensures.inlined named (is_inline c.args.words.now (named_by c.in-Some.command) c.in-Some.ensures.found named is)
+
+pub returns-in-Ok-clause-replay_runs : goal.returns-in-Ok-clause-replay_runs
+returns-in-Ok-clause-replay_runs g c = λ named is done. c.in-Ok.ensures.replay_runs named (is_replay c.args.words.now (named_by c.in-Some.command) c.in-Some.ensures.found named is)
+
+pub returns-in-Ok-clause-ran : goal.returns-in-Ok-clause-ran
+returns-in-Ok-clause-ran g c = λ named is ended.
+    let run = is_run c.args.words.now (named_by c.in-Some.command) c.in-Some.ensures.found named is in
+    prints_run _ (named_by c.in-Some.command) named run _ c.in-Ok.answer (c.in-Ok.ensures.ran named run) c.in-Ok.ensures.kept _ _
+    (puts_run _ _ _ _ _ c.put-in-Ok.result (c.put-in-Ok.ensures.puts _ c.answer_encoded.ensures) ended).1
+
+pub returns-in_default-clause-ran : goal.returns-in_default-clause-ran
+returns-in_default-clause-ran g c = λ named is ended. absurd (no_run_status (subst IsRunStatus (puts_run _ _ _ _ statuses.Usage c.put.result (c.put.ensures.puts usage_encoded c.usage_encoded.ensures) ended).0 ended))
+
+pub returns-in-Err-Refused-clause-ran : goal.returns-in-Err-Refused-clause-ran
+returns-in-Err-Refused-clause-ran g c = λ named is ended.
+    absurd (c.refusal_status.ensures.no (subst IsRunStatus (puts_run _ _ _ _ _ c.put-in-Err-Refused.result (c.put-in-Err-Refused.ensures.puts _ c.refusal_encoded.ensures) ended).0 ended))
 
 pub returns-in_default-clause-headline : goal.returns-in_default-clause-headline
 returns-in_default-clause-headline g c = λ named is done. absurd (puts_no _ _ _ _ statuses.Usage c.put.result (c.put.ensures.puts usage_encoded c.usage_encoded.ensures) (λ e. absurd cc) done)
@@ -40,19 +57,19 @@ pub returns-in_default-clause-inlined : goal.returns-in_default-clause-inlined
 returns-in_default-clause-inlined g c = λ named is done. absurd (puts_no _ _ _ _ statuses.Usage c.put.result (c.put.ensures.puts usage_encoded c.usage_encoded.ensures) (λ e. absurd cc) done)
 
 pub returns-in-Err-Refused-clause-headline : goal.returns-in-Err-Refused-clause-headline
-returns-in-Err-Refused-clause-headline g c = λ named is done. absurd (puts_no _ _ _ _ _ c.put-in-Err-Refused.result (c.put-in-Err-Refused.ensures.puts _ c.refusal_encoded.ensures) c.refusal_status.ensures.no done)
+returns-in-Err-Refused-clause-headline g c = λ named is done. absurd (puts_no _ _ _ _ _ c.put-in-Err-Refused.result (c.put-in-Err-Refused.ensures.puts _ c.refusal_encoded.ensures) (λ e. c.refusal_status.ensures.no (inl e)) done)
 
 pub returns-in-Err-Refused-clause-accepted : goal.returns-in-Err-Refused-clause-accepted
-returns-in-Err-Refused-clause-accepted g c = λ named is done. absurd (puts_no _ _ _ _ _ c.put-in-Err-Refused.result (c.put-in-Err-Refused.ensures.puts _ c.refusal_encoded.ensures) c.refusal_status.ensures.no done)
+returns-in-Err-Refused-clause-accepted g c = λ named is done. absurd (puts_no _ _ _ _ _ c.put-in-Err-Refused.result (c.put-in-Err-Refused.ensures.puts _ c.refusal_encoded.ensures) (λ e. c.refusal_status.ensures.no (inl e)) done)
 
 pub returns-in-Err-Refused-clause-runs : goal.returns-in-Err-Refused-clause-runs
-returns-in-Err-Refused-clause-runs g c = λ named is done. absurd (puts_no _ _ _ _ _ c.put-in-Err-Refused.result (c.put-in-Err-Refused.ensures.puts _ c.refusal_encoded.ensures) c.refusal_status.ensures.no done)
+returns-in-Err-Refused-clause-runs g c = λ named is done. absurd (puts_no _ _ _ _ _ c.put-in-Err-Refused.result (c.put-in-Err-Refused.ensures.puts _ c.refusal_encoded.ensures) (λ e. c.refusal_status.ensures.no (inl e)) done)
 
 pub returns-in-Err-Refused-clause-replay_runs : goal.returns-in-Err-Refused-clause-replay_runs
-returns-in-Err-Refused-clause-replay_runs g c = λ named is done. absurd (puts_no _ _ _ _ _ c.put-in-Err-Refused.result (c.put-in-Err-Refused.ensures.puts _ c.refusal_encoded.ensures) c.refusal_status.ensures.no done)
+returns-in-Err-Refused-clause-replay_runs g c = λ named is done. absurd (puts_no _ _ _ _ _ c.put-in-Err-Refused.result (c.put-in-Err-Refused.ensures.puts _ c.refusal_encoded.ensures) (λ e. c.refusal_status.ensures.no (inl e)) done)
 
 pub returns-in-Err-Refused-clause-inlined : goal.returns-in-Err-Refused-clause-inlined
-returns-in-Err-Refused-clause-inlined g c = λ named is done. absurd (puts_no _ _ _ _ _ c.put-in-Err-Refused.result (c.put-in-Err-Refused.ensures.puts _ c.refusal_encoded.ensures) c.refusal_status.ensures.no done)
+returns-in-Err-Refused-clause-inlined g c = λ named is done. absurd (puts_no _ _ _ _ _ c.put-in-Err-Refused.result (c.put-in-Err-Refused.ensures.puts _ c.refusal_encoded.ensures) (λ e. c.refusal_status.ensures.no (inl e)) done)
 
 pub returns-in_default-clause-answer : goal.returns-in_default-clause-answer
 returns-in_default-clause-answer g c =

@@ -46,8 +46,8 @@ overflow_add-result-then-further-above-2 c =
     let fits = steps_fit items c.requires.begun.parents c.args.at c.in-Some.parent some above c.known-above.ensures _ right in
     omega arith
 
-pub returns-then-further-above-clause-skip_pointer : goal.returns-then-further-above-clause-skip_pointer
-returns-then-further-above-clause-skip_pointer c =
+pub returns-then-further-above-clause-path_up : goal.returns-then-further-above-clause-path_up
+returns-then-further-above-clause-path_up c =
     let items = c.args.items.now in
     let above = c.known-above.result in
     let some : parent_of (parents_of items) c.args.at ≡ Some c.in-Some.parent = parent_kept items c.args.at _ (there_is items c.args.at _ c.requires.at) ∙ c.in-Some.is in
@@ -58,8 +58,8 @@ returns-then-further-above-clause-skip_pointer c =
 pub returns-then-further-above-clause-parent : goal.returns-then-further-above-clause-parent
 returns-then-further-above-clause-parent c = sym (parent_kept c.args.items.now c.args.at _ (there_is c.args.items.now c.args.at _ c.requires.at) ∙ c.in-Some.is)
 
-pub returns-clause-skip_pointer : goal.returns-clause-skip_pointer
-returns-clause-skip_pointer c =
+pub returns-clause-path_up : goal.returns-clause-path_up
+returns-clause-path_up c =
     let some : parent_of (parents_of c.args.items.now) c.args.at ≡ Some c.in-Some.parent = parent_kept c.args.items.now c.args.at _ (there_is c.args.items.now c.args.at _ c.requires.at) ∙ c.in-Some.is in
     near c.args.items.now c.requires.begun.parents c.args.at c.in-Some.parent some c.known-above.result c.known-above.ensures
 

@@ -1,4 +1,4 @@
-use Rattle.typed_runs.proofs.CallsOperate.{calls_operate}
+use Rattle.typed_runs.proofs.Calling.CallsOperate.{calls_operate}
 use Rattle.typed_runs.proofs.Runs.{never_stuck, runs_fit}
 use Rattle.typed_runs.proofs.laws.typed_programs_run.Goals as goal
 

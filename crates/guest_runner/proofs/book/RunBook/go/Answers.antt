@@ -13,4 +13,4 @@ returns-clause-run g c =
     let line : Line = record { step = record { thread = c.args.thread; choice = choices.Plain }; event = c.in_ok-event.event } in
     let lines : c.push.new.self.items ≡ c.args.self.now.lines.items ++ line ∷ [] = search rules in
     line_more old new [] line (keeps_nothing old c.requires.run c.requires.unstopped) c.requires.unstopped c.go.ensures.program lines refl refl refl c.requires.room
-    c.in_ok-event.ensures.made refl
+    c.in_ok-event.ensures.made tt refl

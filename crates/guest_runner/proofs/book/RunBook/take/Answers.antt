@@ -22,4 +22,4 @@ returns-clause-run g c =
     let lines : c.push.new.self.items ≡ c.args.self.now.lines.items ++ line ∷ [] = search rules in
     let more = answered_by old.program old.machine c.args.thread (choices.Answer c.args.answer) in
     line_more old new more line (unstopped old more c.requires.keeps) c.requires.unstopped c.take-event.ensures.program lines refl refl refl
-    c.requires.room c.take-event.ensures.made refl
+    c.requires.room c.take-event.ensures.made c.answers_bytes.ensures refl

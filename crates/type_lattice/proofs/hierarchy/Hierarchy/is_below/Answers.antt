@@ -2,7 +2,7 @@ use Rattle.std.proofs.Common.{◌≡◌, ℕ, ◌<◌, List, length, Option, Som
 use Rattle.api_listing.specs.declared.types.ListedClass.{ListedClass}
 use Rattle.type_lattice.specs.Hierarchy.{is_up}
 use Rattle.bytecode_model.specs.Places.{class_place}
-use Rattle.type_lattice.specs.SkipPointers.{has_place, skip_pointer}
+use Rattle.type_lattice.specs.SkipPointers.{has_place, path_up}
 use Rattle.type_lattice.proofs.OnNames.{place_within, up_is, nothing_below, nothing_above}
 use Rattle.type_lattice.proofs.hierarchy.Hierarchy.is_below.Goals as goal
 
@@ -33,6 +33,6 @@ returns-in-Some-noted c =
     let classes = c.self.inside.classes in
     let at : class_place classes c.args.class.now ≡ Some c.in-Some.class = sym (c.in-Some.ensures ∙ c.self.invariant.placed c.args.class.now) in
     let up : class_place classes c.args.above.now ≡ Some c.in-Some-noted.above = sym (c.in-Some-noted.ensures ∙ c.self.invariant.placed c.args.above.now) in
-    c.leads_to.ensures ∙ ap (λ (l : List (Option ℕ)). has_place (skip_pointer l c.in-Some.class) c.in-Some-noted.above) c.self.invariant.parents
+    c.leads_to.ensures ∙ ap (λ (l : List (Option ℕ)). has_place (path_up l c.in-Some.class) c.in-Some-noted.above) c.self.invariant.parents
     ∙ sym (up_is classes c.self.invariant.ends c.args.class.now c.args.above.now c.in-Some.class c.in-Some-noted.above at up)
     ∙ ap (λ (cs : List ListedClass). is_up cs c.args.class.now c.args.above.now) c.self.view_is

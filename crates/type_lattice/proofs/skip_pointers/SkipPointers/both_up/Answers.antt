@@ -1,14 +1,14 @@
 use Rattle.std.proofs.Common.{◌≡◌, Some, sym, ap, ◌∙◌, arith}
 use Rattle.std.specs.Prelude.{slice_get}
-use Rattle.type_lattice.specs.SkipPointers.{skip_pointer}
+use Rattle.type_lattice.specs.SkipPointers.{path_up}
 use Rattle.type_lattice.proofs.Ascending.{next_is, together, at_first}
 use Rattle.type_lattice.proofs.skip_pointers.SkipPointers.both_up.Goals as goal
 
 pub returns-then-low-high-2 : goal.returns-then-low-high-2
 returns-then-low-high-2 c =
     let ps = c.args.self.now in
-    let low = c.kept-low.ensures.skip_pointer in
-    let other : slice_get (skip_pointer ps c.args.b) c.kept-low.result.steps ≡ Some c.kept-high.result.jump = ap (slice_get (skip_pointer ps c.args.b)) c.if-low-high.true ∙ c.kept-high.ensures.skip_pointer.jump in
+    let low = c.kept-low.ensures.path_up in
+    let other : slice_get (path_up ps c.args.b) c.kept-low.result.steps ≡ Some c.kept-high.result.jump = ap (slice_get (path_up ps c.args.b)) c.if-low-high.true ∙ c.kept-high.ensures.path_up.jump in
     record {
       gone = c.kept-low.result.steps;
       one = low.jump;

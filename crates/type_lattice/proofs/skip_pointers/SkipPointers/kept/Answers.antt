@@ -16,7 +16,7 @@ returns c =
     record {
       parents = subst AreParents c.self.view_is c.self.invariant.parents;
       parent = sym (parent_kept items c.args.at kept there) ∙ ap (λ (l : List (Option ℕ)). parent_of l c.args.at) c.self.view_is;
-      skip_pointer = subst (λ (l : List (Option ℕ)). IsSkipPointer l c.args.at kept) c.self.view_is (c.self.invariant.right c.args.at kept there);
+      path_up = subst (λ (l : List (Option ℕ)). IsSkipPointer l c.args.at kept) c.self.view_is (c.self.invariant.right c.args.at kept there);
     }
 
 pub index-requires : goal.index-requires

@@ -1,6 +1,6 @@
 use Rattle.std.proofs.Common.{◌≡◌, ℕ, ◌-◌, min, length, Some, sym, ap, ap₂, ◌∙◌, arith}
 use Rattle.std.specs.Prelude.{slice_get}
-use Rattle.type_lattice.specs.SkipPointers.{skip_pointer}
+use Rattle.type_lattice.specs.SkipPointers.{path_up}
 use Rattle.type_lattice.proofs.Ascending.{rest_is, stays_in, up_to_height, as_high, both_on, further_on, apart_at_top, met}
 use Rattle.type_lattice.proofs.skip_pointers.SkipPointers.meeting.Goals as goal
 
@@ -8,15 +8,15 @@ pub loop-one-init : goal.loop-one-init
 loop-one-init c =
     let ps = c.args.self.now in
     let parents = c.kept-low.ensures.parents in
-    let low = c.kept-low.ensures.skip_pointer.height in
-    let high = c.kept-high.ensures.skip_pointer.height in
+    let low = c.kept-low.ensures.path_up.height in
+    let high = c.kept-high.ensures.path_up.height in
     let h = c.min-height.result in
-    let lower : h ≡ min (length (skip_pointer ps c.args.a)) (length (skip_pointer ps c.args.b)) = c.min-height.ensures ∙ ap₂ min low high in
-    let one : slice_get (skip_pointer ps c.args.a) (length (skip_pointer ps c.args.a) - h) ≡ Some c.in_ok-one.one = ap (λ (n : ℕ). slice_get (skip_pointer ps c.args.a) (n - h)) (sym low) ∙ sym c.up.ensures ∙ c.in_ok-one.was in
-    let other : slice_get (skip_pointer ps c.args.b) (length (skip_pointer ps c.args.b) - h) ≡ Some c.in_ok-other.other = ap (λ (n : ℕ). slice_get (skip_pointer ps c.args.b) (n - h)) (sym high) ∙ sym c.up-2.ensures ∙ c.in_ok-other.was in
+    let lower : h ≡ min (length (path_up ps c.args.a)) (length (path_up ps c.args.b)) = c.min-height.ensures ∙ ap₂ min low high in
+    let one : slice_get (path_up ps c.args.a) (length (path_up ps c.args.a) - h) ≡ Some c.in_ok-one.one = ap (λ (n : ℕ). slice_get (path_up ps c.args.a) (n - h)) (sym low) ∙ sym c.up.ensures ∙ c.in_ok-one.was in
+    let other : slice_get (path_up ps c.args.b) (length (path_up ps c.args.b) - h) ≡ Some c.in_ok-other.other = ap (λ (n : ℕ). slice_get (path_up ps c.args.b) (n - h)) (sym high) ∙ sym c.up-2.ensures ∙ c.in_ok-other.was in
     record {
       found = up_to_height ps parents c.args.a c.args.b c.in_ok-one.one h lower one;
-      on = (length (skip_pointer ps c.args.b) - h, other);
+      on = (length (path_up ps c.args.b) - h, other);
       level = as_high ps parents c.args.a c.in_ok-one.one h (omega arith) one ∙ sym (as_high ps parents c.args.b c.in_ok-other.other h (omega arith) other);
       one_within = stays_in ps parents _ c.args.a c.in_ok-one.one c.requires.a one;
       other_within = stays_in ps parents _ c.args.b c.in_ok-other.other c.requires.b other;

@@ -46,11 +46,11 @@ use Rattle.typed_runs.specs.Fitting.{ObjectFits, fits_made}
 use Rattle.typed_runs.specs.Frames.{AreWaiting, IsReady, stands_at}
 use Rattle.typed_runs.specs.Machines.{CanBegin, MachineFits, ThreadFits}
 use Rattle.typed_runs.specs.Programs.{IsTypedProgram}
-use Rattle.typed_runs.proofs.Calls.{IfFits, MayRun, begun_fits, may_run, past_fits, past_nothing, receiver_fits_of, runs_fit, shared_fits, target_runs, thrown_fits}
+use Rattle.typed_runs.proofs.Calling.Calls.{IfFits, MayRun, begun_fits, may_run, past_fits, past_nothing, receiver_fits_of, runs_fit, shared_fits, target_runs, thrown_fits}
 use Rattle.typed_runs.proofs.Changed.{ChangeFits, WorldFits}
 use Rattle.typed_runs.proofs.Growing.{Keeps, changed_keeps, statics_grown, thread_grown}
-use Rattle.typed_runs.proofs.Passed.{Passing, Received, received_by, received_object, receiver_reference}
-use Rattle.typed_runs.proofs.Returning.{ResultFits}
+use Rattle.typed_runs.proofs.Calling.Passed.{Passing, Received, received_by, received_object, receiver_reference}
+use Rattle.typed_runs.proofs.Calling.Returning.{ResultFits}
 use Rattle.typed_runs.proofs.Types.{number_is, reference_is, wanted_reference}
 
 -- ---- the table

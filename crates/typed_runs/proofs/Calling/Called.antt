@@ -40,7 +40,7 @@ use Rattle.typed_runs.proofs.Answering.{GivenWell, gives_well, text_given, type_
 use Rattle.typed_runs.proofs.Changed.{ChangeFits, WorldFits}
 use Rattle.typed_runs.proofs.Declared.{listed_method}
 use Rattle.typed_runs.proofs.Growing.{all_waiting_grown, begins_grown}
-use Rattle.typed_runs.proofs.Returning.{ResultFits, has_room, many_results, returned_fits, some_result}
+use Rattle.typed_runs.proofs.Calling.Returning.{ResultFits, has_room, many_results, returned_fits, some_result}
 use Rattle.typed_runs.proofs.Throwing.{throws_new_fits, waiting_left}
 use Rattle.typed_runs.proofs.Thrown.{built_in_thrown}
 use Rattle.typed_runs.proofs.Types.{holds_at}

@@ -31,7 +31,7 @@ use Rattle.typed_runs.specs.Frames.{IsReady}
 use Rattle.typed_runs.specs.Programs.{IsTypedProgram}
 use Rattle.typed_runs.proofs.Above.{interface_fits, below_fits}
 use Rattle.typed_runs.proofs.Listed.{given_head, given_parent}
-use Rattle.typed_runs.proofs.Passed.{Received, maker_makes, referred_class, spot}
+use Rattle.typed_runs.proofs.Calling.Passed.{Received, maker_makes, referred_class, spot}
 use Rattle.typed_runs.proofs.Types.{is_of_over, just_is_of, type_fits_over}
 
 -- what fits a class, and is not null, is an object of it

@@ -42,10 +42,10 @@ use Rattle.typed_runs.specs.Machines.{CanBegin, MachineFits}
 use Rattle.typed_runs.specs.Programs.{IsTypedProgram}
 use Rattle.typed_runs.proofs.Above.{looked_in}
 use Rattle.typed_runs.proofs.Beginning.{static_has_code}
-use Rattle.typed_runs.proofs.Calls.{IfFits, call_here, entered_on, entered_static, lacked_fits, receiver_fits_of, shared, told_desc}
+use Rattle.typed_runs.proofs.Calling.Calls.{IfFits, call_here, entered_on, entered_static, lacked_fits, receiver_fits_of, shared, told_desc}
 use Rattle.typed_runs.proofs.Found.{Runs, RunsOn, class_runs, itself_runs, same_method, same_owner}
-use Rattle.typed_runs.proofs.Passed.{Passing, Received, received_by, received_object, referred_desc, referred_name, spot}
-use Rattle.typed_runs.proofs.Receiver.{not_null, reaches}
+use Rattle.typed_runs.proofs.Calling.Passed.{Passing, Received, received_by, received_object, referred_desc, referred_name, spot}
+use Rattle.typed_runs.proofs.Calling.Receiver.{not_null, reaches}
 use Rattle.typed_runs.proofs.Types.{class_of, type_fits_over}
 
 module _ (program : Program) (typing : Typing) (ok : IsTypedProgram program typing) (shaped : UsesAreShaped) (machine : Machine)

@@ -30,11 +30,11 @@ use Rattle.typed_runs.specs.Machines.{CanBegin, MachineFits}
 use Rattle.typed_runs.specs.Programs.{IsTypedProgram}
 use Rattle.typed_runs.proofs.Changed.{ChangeFits}
 use Rattle.typed_runs.proofs.Acting.{CallsOperate}
-use Rattle.typed_runs.proofs.BuiltIn.{built_in_operates}
-use Rattle.typed_runs.proofs.Calls.{IfFits, call_here, shared}
-use Rattle.typed_runs.proofs.GivenCalls.{given_fits, given_received}
+use Rattle.typed_runs.proofs.Calling.BuiltIn.{built_in_operates}
+use Rattle.typed_runs.proofs.Calling.Calls.{IfFits, call_here, shared}
+use Rattle.typed_runs.proofs.Calling.GivenCalls.{given_fits, given_received}
 use Rattle.typed_runs.proofs.Library.{library_fits}
-use Rattle.typed_runs.proofs.Passed.{MethodNamed, built_in as built_in_named, given, given_at, listed, named_here, Passing, passing, told_built_in, told_given, told_listed}
+use Rattle.typed_runs.proofs.Calling.Passed.{MethodNamed, built_in as built_in_named, given, given_at, listed, named_here, Passing, passing, told_built_in, told_given, told_listed}
 
 module _ (program : Program) (typing : Typing) (ok : IsTypedProgram program typing) (shaped : UsesAreShaped) (machine : Machine)
     (fit : MachineFits program typing machine) (number : ℕ) (thread : Thread) (later : AllByRecursion (CanBegin program) thread.to_begin)

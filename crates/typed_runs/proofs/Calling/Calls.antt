@@ -48,8 +48,8 @@ use Rattle.typed_runs.proofs.Changed.{ChangeFits, WorldFits, ended_fits, goes_fi
 use Rattle.typed_runs.proofs.Entering.{entered_runs, entry_types}
 use Rattle.typed_runs.proofs.Found.{RunsOn, class_runs}
 use Rattle.typed_runs.proofs.Growing.{all_waiting_grown, grows_itself}
-use Rattle.typed_runs.proofs.Passed.{Arguments, Passing, arguments_fit}
-use Rattle.typed_runs.proofs.Returning.{ResultFits, resumed}
+use Rattle.typed_runs.proofs.Calling.Passed.{Arguments, Passing, arguments_fit}
+use Rattle.typed_runs.proofs.Calling.Returning.{ResultFits, resumed}
 use Rattle.typed_runs.proofs.Throwing.{running_left, throws_new_fits}
 use Rattle.typed_runs.proofs.Thrown.{built_in_thrown, thrown_names}
 use Rattle.typed_runs.proofs.Types.{of_class}

@@ -1,0 +1,25 @@
+-- Words that are the decimal text of a count.
+use Rattle.std.proofs.Common.{◌≡◌, ℕ, ℤ, pos, ◌≤◌, ◌<◌, ◌^◌, List, sym, ◌∙◌, arith, FitsSigned}
+use Rattle.std.specs.Fmt.{signed_decimal}
+use Rattle.std.specs.Int.{w64}
+use Rattle.std.specs.Int.Signed.{mag}
+use Rattle.std.proofs.lemmas.Fmt.{signed_decimal_injective}
+use Rattle.std.proofs.lemmas.Int.{ints}
+use Rattle.command_words.specs.Words.{IsCount}
+
+-- a count has 63 bits
+fits : (most n : ℕ) → most < 2 ^ 32 → n ≤ most → FitsSigned w64 (pos n)
+fits most n small within = omega (arith, ints)
+
+small : (z : ℤ) → FitsSigned w64 z → mag z < 2 ^ 63
+small z is = omega (arith, ints)
+
+-- A word that is no number is no count.
+pub no_number : (word : List ℕ) (most : ℕ) → most < 2 ^ 32 → ((z : ℤ) → FitsSigned w64 z → word ≡ signed_decimal z → ⊥)
+    → (n : ℕ) → IsCount word most n → ⊥
+no_number word most small none n count = none (pos n) (fits most n small count.within) count.encoded
+
+-- The number of a word that is a count is that count.
+pub number_is : (word : List ℕ) (most : ℕ) (z : ℤ) → most < 2 ^ 32 → FitsSigned w64 z → word ≡ signed_decimal z → (n : ℕ) → IsCount word most n → z ≡ pos n
+number_is word most z most_fits z_fits is n count =
+    signed_decimal_injective z (pos n) (small z z_fits) (small (pos n) (fits most n most_fits count.within)) (sym is ∙ count.encoded)
