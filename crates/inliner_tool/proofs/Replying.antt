@@ -1,5 +1,5 @@
 -- What the status of a call says of its outcome.
-use Rattle.std.proofs.Common.{◌≡◌, inl, inr, ℕ, List, Option, Ok, Err, sym, subst, ◌∙◌}
+use Rattle.std.proofs.Common.{◌≡◌, inl, inr, ℕ, List, Option, Ok, Err, sym, subst, ap, ◌∙◌}
 use Rattle.std.specs.Prelude.{IfSome}
 use Rattle.command_words.specs.InlineWords.{IsInline, NamedInline}
 use Rattle.command_words.specs.ReplayWords.{IsReplay, NamedReplay}
@@ -16,7 +16,7 @@ use Rattle.inliner_tool.specs.Replies.{outcome_encoded, usage_encoded}
 use Rattle.inliner_tool.specs.Run.{IsRunStatus, IsWithinIfRun, PrintsRun, TellsKept, Told}
 use Rattle.inliner_tool.specs.Seen.{Seen}
 use Rattle.inliner_tool.specs.Steps.{Outcome, Step, UnlessMemory, outcome_step}
-use Rattle.inliner_tool.specs.Tool.{CheckedRuns, Holds, IsOutcomeStatus, NamesNone, Puts, Replies, Says, status_of}
+use Rattle.inliner_tool.specs.Tool.{CheckedRuns, Holds, IsOutcomeStatus, NamesNone, Puts, Replies, Says, answer_status, status_of}
 use Rattle.inliner_tool.specs.Writing.{CarriesOut}
 
 -- ---- words
@@ -105,12 +105,12 @@ puts_run text after rose printed status result (inr (inr (memory, same))) ended 
 
 -- The run that is kept is the one of the words, and what is printed is its record.
 pub prints_run : (So : NamedRun → Told → Type 0) (command : NamedCommand) (named : NamedRun) → command ≡ Run named → (kept : Option Told) (answer : Answer) → TellsKept kept answer
-    → IfSome kept (λ told. (n : NamedRun) × (command ≡ Run n) × So n told) → (text after : Option (List ℕ)) → Appends text after (outcome_encoded (Ok answer)) → PrintsRun (So named) kept text after
-prints_run So command named is kept answer (told, kept_is, same) so text after appends =
+    → IfSome kept (λ told. (n : NamedRun) × (command ≡ Run n) × So n told) → (text after : Option (List ℕ)) (status : Status) → status ≡ answer_status answer → Appends text after (outcome_encoded (Ok answer)) → PrintsRun (So named) kept text after status
+prints_run So command named is kept answer (told, kept_is, same) so text after status ends appends =
     let run = subst (λ (k : Option Told). IfSome k (λ told. (n : NamedRun) × (command ≡ Run n) × So n told)) kept_is so in
     let runs : Run run.0 ≡ Run named = sym run.1 ∙ is in
     let one : run.0 ≡ named = cc in
-    (told, kept_is, subst (λ (n : NamedRun). So n told) one run.2, subst (λ (a : Answer). Appends text after (outcome_encoded (Ok a))) same appends)
+    (told, kept_is, subst (λ (n : NamedRun). So n told) one run.2, subst (λ (a : Answer). Appends text after (outcome_encoded (Ok a))) same appends, ends ∙ ap answer_status same)
 
 module _ (seen : Seen) (words : List (List ℕ)) (text after : Option (List ℕ)) (rose : Type 0) where
   -- ---- the usage line

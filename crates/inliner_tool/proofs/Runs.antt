@@ -1,5 +1,15 @@
 -- What the command `run` makes, and what is kept of it.
 use Rattle.std.proofs.Common.{◌≡◌, ◌≤◌, inl, inr, ℕ, suc, List, [], ◌∷◌, length, Option, Some, None, Result, Ok, Err, refl, sym, ap, subst, ◌∙◌, arith}
+use Rattle.bytecode_model.specs.Typed.{IsTyped}
+use Rattle.cert_format.specs.declared.typing.Typing.{Typing}
+use Rattle.event_record.specs.declared.reading.Record.{Record}
+use Rattle.guest_model.specs.declared.machine.Step.{Step as GuestStep}
+use Rattle.inliner_tool.specs.declared.answer.Answer.TheVariants as answers
+use Rattle.inliner_tool.specs.Programs.{Types}
+use Rattle.input_files.specs.Forms.{Then}
+use Rattle.inliner_tool.specs.Replay.{link_run}
+use Rattle.inliner_tool.proofs.RunDecision.{types_are_found}
+use Rattle.type_infer.specs.Untyped.{IsTypable}
 use Rattle.std.specs.Prelude.{IfSome, IsOk, IsSomeAnd}
 use Rattle.std.specs.List.{filter_map}
 use Rattle.api_shelf.specs.Shelf.{View}
@@ -28,9 +38,9 @@ use Rattle.inliner_tool.specs.declared.answer.Made.{Made}
 use Rattle.inliner_tool.specs.declared.check.Checked.{Checked}
 use Rattle.inliner_tool.specs.declared.refusal.Ended.{Ended}
 use Rattle.inliner_tool.specs.Check.{Checks, IsCheckedAs, ProgramIsChecked}
-use Rattle.inliner_tool.specs.Run.{Executes, HasBookOrNone, HasStopValue, IsRunAs, IsRunOfInputs, IsWithin, KeepsRun, Runs, TellsBook, Told, record_made, replay_text, told_by}
+use Rattle.inliner_tool.specs.Run.{Executes, HasBookOrNone, HasStopValue, IsRunAs, IsRunOfInputs, IsWithin, KeepsRun, Runs, RunsAreReplayed, TellsBook, Told, record_made, replay_text, told_by}
 use Rattle.inliner_tool.specs.Replay.{end_told, run_told, steps_told}
-use Rattle.inliner_tool.specs.Steps.{Equals, Step, UnlessMemory}
+use Rattle.inliner_tool.specs.Steps.{Equals, Just, Step, UnlessMemory, just}
 use Rattle.typed_runs.specs.Programs.{IsLinkedProgram}
 
 -- ---- what is kept
@@ -157,3 +167,48 @@ module _ (named : NamedRun) (inputs : CheckInputs) (checked : Checked) (is : IsC
         replays = replays_so replays told.0 run.of.run (traces told.0 run.of.run);
         obeys = (subst (ProgramIsChecked inputs.policy inputs.certificate) (sym same) is.is.checked).secure (steps_of told.0.lines);
       }
+
+-- ---- the run, made again
+
+-- a program that was checked has types
+typable : (program : Program) (typing : Typing) → IsTyped program typing → IsTypable program
+typable program typing typed = (typing, typed)
+
+module _ (program : Program) (steps : List GuestStep) (text : List ℕ) (has_types : IsTypable program) (tells : steps_told program steps ≡ Ok text) where
+  -- Its run is told so, and is not refused.
+  told_so : (linked : Step Program) → linked ≡ Ok program → (step : Step (List ℕ))
+      → Then (Equals linked) (λ p. Then (Types p) (λ typing. Equals (steps_told p steps))) step → step ≡ Ok text
+  told_so linked links (Ok told) (p, first, (typing, types, second)) =
+      let right : ◌≡◌ {A = Step Program} (Ok p) (Ok program) = first ∙ links in
+      let same : p ≡ program = cc in
+      second ∙ ap (λ (q : Program). steps_told q steps) same ∙ tells
+  told_so linked links (Err e) (inl unlinked) =
+      let wrong : ◌≡◌ {A = Step Program} (Err e) (Ok program) = unlinked ∙ links in
+      absurd cc
+  told_so linked links (Err e) (inr (p, first, inl untyped)) =
+      let right : ◌≡◌ {A = Step Program} (Ok p) (Ok program) = first ∙ links in
+      let same : p ≡ program = cc in
+      absurd (types_are_found p (subst IsTypable (sym same) has_types) e untyped)
+  told_so linked links (Err e) (inr (p, first, inr (typing, types, second))) =
+      let right : ◌≡◌ {A = Step Program} (Ok p) (Ok program) = first ∙ links in
+      let same : p ≡ program = cc in
+      let wrong : ◌≡◌ {A = Step (List ℕ)} (Err e) (Ok text) = second ∙ ap (λ (q : Program). steps_told q steps) same ∙ tells in
+      absurd cc
+
+  replayed_so : (linked : Step Program) → linked ≡ Ok program → (step : Step Made)
+      → Then (Then (Equals linked) (λ p. Then (Types p) (λ typing. Equals (steps_told p steps)))) (λ told. Just (answers.Replayed told)) step → step ≡ Ok (just (answers.Replayed text))
+  replayed_so linked links (Ok made) (told, tells_it, is) =
+      let right = told_so linked links (Ok told) tells_it in
+      let same : told ≡ text = cc in
+      ap (λ (m : Made). Ok m) (is ∙ ap (λ (t : List ℕ). just (answers.Replayed t)) same)
+  replayed_so linked links (Err e) (inl tells_it) =
+      let wrong : ◌≡◌ {A = Step (List ℕ)} (Err e) (Ok text) = told_so linked links (Err e) tells_it in
+      absurd cc
+  replayed_so linked links (Err e) (inr (told, tells_it, none)) = absurd none
+
+-- A run that was kept is replayed.
+pub runs_are_replayed : RunsAreReplayed
+runs_are_replayed named inputs slots told is again listing classes recorded step replays =
+    replayed_so told.0.program again.recorded.steps (replay_text told.0) (typable told.0.program inputs.certificate.typing is.checked.runs.typed)
+    (ap (λ (r : Record). steps_told told.0.program r.steps) recorded ∙ is.replays) (link_run named.check.main again)
+    (rw (listing, classes) is.links) step replays

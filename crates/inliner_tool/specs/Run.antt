@@ -24,6 +24,7 @@ use Rattle.guest_runner.specs.Runs.{IsTraced}
 use Rattle.guest_step.specs.Rooms.{Run as Interpreted}
 use Rattle.mon_store.specs.Sink.{Appends}
 use Rattle.input_files.specs.declared.check_inputs.CheckInputs.{CheckInputs}
+use Rattle.input_files.specs.declared.replay_inputs.ReplayInputs.{ReplayInputs}
 use Rattle.input_files.specs.CheckInputs.{ReadsCheck}
 use Rattle.input_files.specs.Forms.{Then}
 use Rattle.inliner_tool.specs.declared.answer.Answer.{Answer}
@@ -32,7 +33,7 @@ use Rattle.inliner_tool.specs.declared.answer.Made.{Made}
 use Rattle.inliner_tool.specs.declared.tool.Status.{Status}
 use Rattle.inliner_tool.specs.declared.tool.Status.TheVariants as statuses
 use Rattle.inliner_tool.specs.Check.{ProgramIsChecked, judged_step, link_inputs}
-use Rattle.inliner_tool.specs.Replay.{end_told, steps_told}
+use Rattle.inliner_tool.specs.Replay.{Replays, end_told, steps_told}
 use Rattle.inliner_tool.specs.Seen.{Seen}
 use Rattle.inliner_tool.specs.Steps.{Equals, Step, just}
 
@@ -162,10 +163,6 @@ IsWithinIfRun (Run named) = IsWithin named
 
 -- ---- what is printed
 
--- A run was kept, it is so, and its record is printed.
-abbrev pub PrintsRun : (Told → Type 0) → Option Told → Option (List ℕ) → Option (List ℕ) → Type 0
-PrintsRun So kept text after = (told : Told) × (kept ≡ Some told) × So told × Appends text after (told_text told)
-
 -- the status of a run that ended so
 abbrev pub run_status : EndLine → Status
 run_status lines.Finished = statuses.Done
@@ -175,6 +172,20 @@ run_status lines.Budget = statuses.Budget
 run_status lines.Device = statuses.Device
 run_status lines.Running = statuses.Done
 
+-- A run was kept, it is so, its record is printed, and the status is that of its end.
+abbrev pub PrintsRun : (Told → Type 0) → Option Told → Option (List ℕ) → Option (List ℕ) → Status → Type 0
+PrintsRun So kept text after status = (told : Told) × (kept ≡ Some told) × So told × Appends text after (told_text told) × (status ≡ run_status told.1)
+
 -- The status is that of a run.
 abbrev pub IsRunStatus : Status → Type 0
 IsRunStatus status = (status ≡ statuses.Done) ⊎ ((status ≡ statuses.Budget) ⊎ (status ≡ statuses.Device))
+
+-- ---- the run, made again
+
+-- The files of a run that was kept, with the steps and events that its record is read as, are replayed: the events are printed, and the
+-- end, if the machine has ended.
+abbrev pub RunsAreReplayed : Type 0
+RunsAreReplayed =
+    (named : NamedRun) (inputs : CheckInputs) (slots : List View) (told : Told) → IsRunOfInputs named inputs slots told
+    → (again : ReplayInputs) → again.listing ≡ inputs.listing → again.classes ≡ inputs.classes → again.recorded ≡ run_of told.0.lines
+    → (step : Step Made) → Replays named.check.main again step → step ≡ Ok (just (answers.Replayed (replay_text told.0)))

@@ -29,5 +29,5 @@ pub use inline::{inline_decides, written_is_accepted};
 pub use race::race_decides;
 pub use refusal::Refusal;
 pub use replay::replay_decides;
-pub use run::{RunAnswer, run_decides};
+pub use run::{RunAnswer, run_decides, runs_are_replayed};
 pub use tool::{Status, answers_are_one, run_tool};

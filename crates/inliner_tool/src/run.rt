@@ -20,6 +20,7 @@ ghost use Rattle.inliner_tool.specs.Run.{
   IsRunAs,
   IsRunOfInputs,
   IsWithin,
+  RunsAreReplayed,
   KeepsRun,
   Runs,
   TellsBook,
@@ -220,4 +221,10 @@ fn recorded<D: ApiDevice>(
 /// run, unless memory runs out: its status is 0, 1, 7, 8 or 9.
 pub fn run_decides()
     ensures { RunDecides }
+{}
+
+/// The record of a run is read as its steps and events, and `replay` of these, with the same listing and class files, prints the same
+/// events, and the same end where the machine has ended.
+pub fn runs_are_replayed()
+    ensures { RunsAreReplayed }
 {}

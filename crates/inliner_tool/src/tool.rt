@@ -157,7 +157,7 @@ pub fn run_tool<S: Store, K: Sink, D: ApiDevice + Send, G: Gate + Sync, R: Threa
     // `replay` of these steps prints the same events, and the same end where the machine has ended.
     ensures ran { (named : NamedRun) → IsRunCommand words.now named → IsRunStatus result
         → PrintsRun (IsKept (seen S.files S.faults S.last store.old store.new) named (views D.told D.faults slots.items))
-        (told_of D.told D.faults kept.new) (K.text out.old) (K.text out.new) }
+        (told_of D.told D.faults kept.new) (K.text out.old) (K.text out.new) result }
     // Whatever is kept is such a run.
     ensures kept { IfSome (told_of D.told D.faults kept.new) (λ told. (named : NamedRun) × IsRunCommand words.now named
         × IsKept (seen S.files S.faults S.last store.old store.new) named (views D.told D.faults slots.items) told) }

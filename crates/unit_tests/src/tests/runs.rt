@@ -6,8 +6,8 @@ ghost use Rattle.api_shelf.specs.Shelf.{AllAreSilent, views};
 ghost use Rattle.api_shelf.specs.Telling.{HasLog};
 
 use crate::bytes::bytes_of;
-use api_listing::ApiAnswer;
-use api_shelf::{ApiDevice, Fused, Scripted, SlotOf};
+use api_listing::{ApiAnswer, ApiCall};
+use api_shelf::{ApiDevice, DeviceFault, Fused, Scripted, SlotOf};
 use guest_runner::{DeviceStop, FreeGate, Gate, RunStop};
 use inliner_tool::{RunAnswer, Status, run_tool};
 use mon_base::{Bytes, List, NoMemory};
@@ -37,7 +37,7 @@ const IDLES: [&[&str]; 3] = [
     &[
         "cafebabe000000310011010003612f4e0700010100106a6176612f6c616e672f5468726561640700030100063c696e69743e0100032829560c000500",
         "060a0002000701000573746172740c000900060a0002000a0100046d61696e010016285b4c6a6176612f6c616e672f537472696e673b295601000443",
-        "6f64650a0004000701000372756e0021000200040000000000020009000c000d0001000e000003ff00020001000003f3bb000259b70008b6000b",
+        "6f64650a0004000701000372756e0021000200040000000000030009000c000d0001000e000003ff00020001000003f3bb000259b70008b6000b",
     ],
     &[
         "b1000000000001000500060001000e0000001100010001000000052ab7000fb1000000000001001000060001000e000003f500000001000003e9",
@@ -305,6 +305,74 @@ fn of_two_devices_of_a_class_the_first_is_asked(rt: HostRuntime) -> Result<(), F
         &FreeGate,
     )?;
     assert!(rt; ran.status == 8, "the first fails");
+    Ok(())
+}
+
+/// A device that never has the memory for an answer.
+#[derive(Drop)]
+struct Wanting;
+
+impl ApiDevice for Wanting {
+    ghost use Rattle.std.specs.Prelude.{None};
+
+    ghost told = { λ _. None };
+
+    ghost faults = { λ _. 0 };
+
+    fn answer(&mut self, _call: &ApiCall) -> Result<ApiAnswer, DeviceFault> {
+        Err(DeviceFault::Memory)
+    }
+
+    fn fault_count(&self) -> u64 {
+        0
+    }
+}
+
+#[test]
+fn a_device_without_memory_ends_the_run_with_nothing_printed(rt: HostRuntime) -> Result<(), Fail> {
+    let alloc = rt.alloc();
+    let class = bytes_of(alloc, &SENDS)?;
+    let mut store = store_of(alloc, class.as_slice())?;
+    let woven = weave(&rt, alloc, &mut store, b"a/S")?;
+    assert!(rt; woven.code() == 0, "it is woven");
+    let slots = one_slot(alloc, Wanting)?;
+    let ran = run_woven(
+        &rt,
+        alloc,
+        &mut store,
+        b"a/S",
+        b"out/a/S.class",
+        slots,
+        &FreeGate,
+    )?;
+    assert!(rt; ran.status == 7, "status 7");
+    assert!(rt; ran.printed.is_empty(), "nothing is printed");
+    assert!(rt; ran.stopped_at == None, "no device stopped it");
+    Ok(())
+}
+
+/// Where the device fails at its first call, the second and the third: the program makes two.
+#[test]
+fn a_device_fails_at_each_of_its_calls_in_turn(rt: HostRuntime) -> Result<(), Fail> {
+    let alloc = rt.alloc();
+    let class = bytes_of(alloc, &SENDS)?;
+    let mut store = store_of(alloc, class.as_slice())?;
+    let woven = weave(&rt, alloc, &mut store, b"a/S")?;
+    assert!(rt; woven.code() == 0, "it is woven");
+    for (passes, status, steps) in [(0u64, 8u8, Some(16usize)), (1, 8, Some(33)), (2, 0, None)] {
+        let slots = one_slot(alloc, Fused::new(alloc, passes))?;
+        let ran = run_woven(
+            &rt,
+            alloc,
+            &mut store,
+            b"a/S",
+            b"out/a/S.class",
+            slots,
+            &FreeGate,
+        )?;
+        assert!(rt; ran.status == status, "{passes} calls: the status");
+        assert!(rt; ran.stopped_at == steps, "{passes} calls: the steps");
+    }
     Ok(())
 }
 

@@ -31,7 +31,8 @@ returns-in-Ok-clause-replay_runs g c = λ named is done. c.in-Ok.ensures.replay_
 pub returns-in-Ok-clause-ran : goal.returns-in-Ok-clause-ran
 returns-in-Ok-clause-ran g c = λ named is ended.
     let run = is_run c.args.words.now (named_by c.in-Some.command) c.in-Some.ensures.found named is in
-    prints_run _ (named_by c.in-Some.command) named run _ c.in-Ok.answer (c.in-Ok.ensures.ran named run) c.in-Ok.ensures.kept _ _
+    prints_run _ (named_by c.in-Some.command) named run _ c.in-Ok.answer (c.in-Ok.ensures.ran named run) c.in-Ok.ensures.kept _ _ c.put-in-Ok.result
+    ((puts_run _ _ _ _ _ c.put-in-Ok.result (c.put-in-Ok.ensures.puts _ c.answer_encoded.ensures) ended).0 ∙ c.answer_status.ensures.is)
     (puts_run _ _ _ _ _ c.put-in-Ok.result (c.put-in-Ok.ensures.puts _ c.answer_encoded.ensures) ended).1
 
 pub returns-in_default-clause-ran : goal.returns-in_default-clause-ran
