@@ -1,9 +1,10 @@
 -- The states and events at which it is tried whether the events of one or two clauses race. What a clause does changes only
 -- at its constants, so of all numbers a few are enough: those at a constant and beside it, as far as updates can shift them.
 -- (docs/RACES.md)
-use Rattle.std.specs.Prelude.{ℕ, ◌*◌, ℤ, pos, ◌+ℤ◌, ◌-ℤ◌, ◌==◌, ◌||◌, Bool, true, false, int_lt, if◌then◌else◌, List, [], ◌∷◌, ◌++◌, length, map, filter, Option, Some, None}
+use Rattle.std.specs.Prelude.{ℕ, ◌*◌, ℤ, pos, ◌+ℤ◌, ◌-ℤ◌, ◌==◌, ◌||◌, Bool, true, false, int_lt, if◌then◌else◌, List, [], ◌∷◌, ◌++◌, length, map, filter, slice_get, Option, Some, None}
 use Rattle.std.specs.Ordering.{int_eq}
 use Rattle.std.specs.List.{enumerate_from, filter_map, flat_map, list_any}
+use Rattle.std.specs.Option.{option_map_or}
 use Rattle.api_listing.specs.declared.events.ApiValue.{ApiValue}
 use Rattle.api_listing.specs.declared.events.ApiValue.TheVariants as api
 use Rattle.api_listing.specs.declared.events.Event.{Event}
@@ -22,7 +23,7 @@ use Rattle.conspec_automaton.specs.declared.policy.Branch.{Branch}
 use Rattle.conspec_automaton.specs.declared.policy.Clause.{Clause}
 use Rattle.conspec_automaton.specs.declared.policy.Policy.{Policy}
 use Rattle.conspec_tree.specs.Kinds.{number_range, passed_range}
-use Rattle.conspec_automaton.specs.Next.{Values}
+use Rattle.conspec_automaton.specs.Next.{Values, number_in}
 use Rattle.conspec_automaton.specs.Range.{is_between}
 
 -- ---- what clauses name
@@ -79,7 +80,7 @@ around n = (n -ℤ pos 1) ∷ n ∷ (n +ℤ pos 1) ∷ []
 abbrev pub near : ℤ → ℤ → List ℤ → List ℤ
 near low high numbers = filter (is_between low high) (flat_map around numbers)
 
--- ---- the points of a variable
+-- ---- the numbers of a variable
 
 -- the numbers at which something changes for the variable: its ends, and what it is compared with or set to
 abbrev pub marks : ℤ → ℕ → List Clause → List ℤ
@@ -105,28 +106,36 @@ abbrev pub named_points : ℤ → ℕ → Bool → List Clause → List ℤ
 named_points maxint var true clauses = pos 0 ∷ pos 1 ∷ []
 named_points maxint var false clauses = ascending (near (pos 0) maxint (thresholds maxint var clauses))
 
--- A variable that no clause names has its first value.
-abbrev pub points_of : ℤ → List Clause → ℕ → Var → List ℤ
-points_of maxint clauses i var = if is_named i clauses then named_points maxint i var.is_bool clauses else var.first ∷ []
+-- the numbers that are tried for a variable; one that no clause names has its first value
+abbrev pub variable_numbers : ℤ → List Clause → ℕ → Var → List ℤ
+variable_numbers maxint clauses i var = if is_named i clauses then named_points maxint i var.is_bool clauses else var.first ∷ []
 
--- ---- the points of what is passed or given
+-- ---- the numbers of what is passed or given
 
 -- the ends of the range, and the constants with those beside them; 0 where there are none
 abbrev pub points_between : ℤ → ℤ → List ℤ → List ℤ
 points_between low high [] = pos 0 ∷ []
 points_between low high (c ∷ constants) = ascending (low ∷ high ∷ near low high (c ∷ constants))
 
--- the values that are tried: numbers of the range, or null where there is none
+-- ---- the points of a base
+
+-- a base with what its values are like: a variable by its place, where an int is at most so great, an argument by its place,
+-- or the result
+pub data TypedBase : Type 0 where
+  Variable : ℤ → ℕ → Var → TypedBase
+  Argument : ℕ → Kind → TypedBase
+  Result : Kind → TypedBase
+
+-- numbers of the range, or null where there is none
 abbrev pub values_in : Option (ℤ × ℤ) → List ℤ → List ApiValue
 values_in None constants = api.Null ∷ []
 values_in (Some range) constants = map api.Int (points_between range.0 range.1 constants)
 
-abbrev pub arguments_at : Clause → ℕ → Kind → List ApiValue
-arguments_at clause i kind = values_in (passed_range kind) (constants_of (bases.Arg i) (clause ∷ []))
-
-abbrev pub results_of : Clause → Option Kind → List (Option ApiValue)
-results_of clause None = None ∷ []
-results_of clause (Some kind) = map Some (values_in (number_range kind) (constants_of bases.Result (clause ∷ [])))
+-- the values that are tried for the base, where these clauses are
+unfoldable pub points_at : List Clause → TypedBase → List ApiValue
+points_at clauses (Variable maxint i var) = map api.Int (variable_numbers maxint clauses i var)
+points_at clauses (Argument i kind) = values_in (passed_range kind) (constants_of (bases.Arg i) clauses)
+points_at clauses (Result kind) = values_in (number_range kind) (constants_of bases.Result clauses)
 
 -- ---- all choices
 
@@ -135,21 +144,50 @@ abbrev pub each_choice : {X : Type 0} → List (List X) → List (List X)
 each_choice [] = [] ∷ []
 each_choice (xs ∷ others) = flat_map (λ x. map (λ ys. x ∷ ys) (each_choice others)) xs
 
-abbrev pub choices_of : Policy → List Clause → List (List ℤ)
-choices_of policy clauses = map (λ (v : ℕ × Var). points_of policy.maxint clauses v.0 v.1) (enumerate_from 0 policy.vars)
+-- ---- states
+
+-- the points of each variable
+abbrev pub choices_of : Policy → List Clause → List (List ApiValue)
+choices_of policy clauses = map (λ (v : ℕ × Var). points_at clauses (Variable policy.maxint v.0 v.1)) (enumerate_from 0 policy.vars)
+
+-- what a variable that has the value holds: its number
+abbrev pub held : ApiValue → ℤ
+held value = option_map_or (λ n. n) (number_in value) (pos 0)
+
+-- the state in which the variables have these values
+abbrev pub state_of : List ApiValue → Values
+state_of values = map held values
 
 -- the states that are tried for the clauses
 abbrev pub states_of : Policy → List Clause → List Values
-states_of policy clauses = each_choice (choices_of policy clauses)
+states_of policy clauses = map state_of (each_choice (choices_of policy clauses))
+
+-- ---- events
 
 abbrev pub arguments_of : Clause → List (List ApiValue)
-arguments_of clause = map (λ (a : ℕ × Kind). arguments_at clause a.0 a.1) (enumerate_from 0 clause.args)
+arguments_of clause = map (λ (a : ℕ × Kind). points_at (clause ∷ []) (Argument a.0 a.1)) (enumerate_from 0 clause.args)
+
+abbrev pub results_of : Clause → List (List ApiValue)
+results_of clause = option_map_or (λ kind. points_at (clause ∷ []) (Result kind) ∷ []) clause.result []
+
+-- the points of each argument, of the result, or of nothing
+abbrev pub choices_in : Clause → Phase → List (List ApiValue)
+choices_in clause Before = arguments_of clause
+choices_in clause After = results_of clause
+choices_in clause Exceptional = []
+
+abbrev pub made_in : Clause → Phase → List ApiValue → Event
+made_in clause Before values = events.Call 0 clause.method values
+made_in clause After values = events.Return 0 clause.method (slice_get values 0)
+made_in clause Exceptional values = events.Except 0 clause.method
+
+-- the event of the clause with these values
+abbrev pub made : Clause → List ApiValue → Event
+made clause values = made_in clause clause.phase values
 
 -- the events that are tried for a clause of the phase
 abbrev pub events_in : Clause → Phase → List Event
-events_in clause Before = map (λ arguments. events.Call 0 clause.method arguments) (each_choice (arguments_of clause))
-events_in clause After = map (λ value. events.Return 0 clause.method value) (results_of clause clause.result)
-events_in clause Exceptional = events.Except 0 clause.method ∷ []
+events_in clause phase = map (made_in clause phase) (each_choice (choices_in clause phase))
 
 abbrev pub events_of : Clause → List Event
 events_of clause = events_in clause clause.phase
@@ -169,6 +207,4 @@ states_count policy clauses = size_of (choices_of policy clauses)
 
 -- how many events are tried
 abbrev pub events_count : Clause → Phase → ℕ
-events_count clause Before = size_of (arguments_of clause)
-events_count clause After = length (results_of clause clause.result)
-events_count clause Exceptional = 1
+events_count clause phase = size_of (choices_in clause phase)

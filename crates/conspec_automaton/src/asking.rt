@@ -162,7 +162,8 @@ fn returned(event: &Event) -> Option<i32>
     }
 }
 
-fn number_in(value: &ApiValue) -> Option<i32>
+/// The number, where the value is one.
+pub fn number_in(value: &ApiValue) -> Option<i32>
     ensures { result ≡ number_in value.now }
 {
     match value {

@@ -13,7 +13,7 @@ mod policy;
 mod running;
 mod state;
 
-pub use asking::{clause_of, has_clause, is_return};
+pub use asking::{clause_of, has_clause, is_return, number_in};
 pub use building::build;
 pub use laws::{modes_differ, ranges_are_kept, runs_join, seen_is_enough};
 pub use policy::{Branch, Clause, Policy, has_clauses};

@@ -15,7 +15,7 @@ use Rattle.conspec_automaton.specs.declared.policy.Policy.{Policy}
 use Rattle.conspec_automaton.specs.Events.{IsWellFormed}
 use Rattle.conspec_automaton.specs.Next.{Values, clause_of, next, speaks_of}
 use Rattle.conspec_automaton.specs.Obeys.{after}
-use Rattle.conspec_automaton.specs.Points.{choices_of, events_of, states_of, updates_in}
+use Rattle.conspec_automaton.specs.Points.{events_of, states_of, updates_in}
 use Rattle.conspec_automaton.specs.Range.{in_range}
 use Rattle.conspec_automaton.specs.Sound.{IsClauseIn, IsPolicy}
 use Rattle.conspec_automaton.specs.Trying.{is_end, is_turned}
@@ -23,6 +23,7 @@ use Rattle.race_free_check.proofs.EachChoice.{in_each_choice}
 use Rattle.race_free_check.proofs.Choosing.{chosen, chosen_same, next_is, none_once, run_is, run_of, run_same}
 use Rattle.race_free_check.proofs.Fitting.{clause_found, tried}
 use Rattle.race_free_check.proofs.Likening.{try_event}
+use Rattle.race_free_check.proofs.Making.{numbers_of, states_are}
 use Rattle.race_free_check.proofs.Members.{Has, found_passes, in_either, of_all}
 use Rattle.race_free_check.proofs.Picking.{StandsFor, ends_told, pick_all, stands_sided}
 use Rattle.race_free_check.proofs.Sides.{LikeEvents, update_in}
@@ -80,7 +81,7 @@ module _ (policy : Policy) (sound : IsPolicy policy) (state : Values) (ranged : 
       let picked = pick_all policy.maxint cs us vs inside policy.vars 0 state ranged in
       record {
         point = picked.point;
-        there = in_each_choice (choices_of policy cs) picked.point picked.choice;
+        there = subst (λ (states : List Values). Has states picked.point) (sym (states_are policy cs)) (in_each_choice (numbers_of policy cs) picked.point picked.choice);
         stands = λ i. picked.stands i i (omega arith);
       }
 

@@ -77,6 +77,7 @@ module _ (tested : Pairs) (policy : Policy) (sound : IsPolicy policy) where
 
   module _ (none : (i : ℕ) (trial : Trial) → slice_get (trials tested policy) i ≡ Some trial → broken_in policy trial ≡ None) where
     unbroken : (trial : Trial) (point : Point) → Has (trials tested policy) trial → Has (points policy trial) point → breaks policy point ≡ false
+    unfolding broken_in
     unbroken trial point ht hp =
         let i = index_of (trials tested policy) trial ht in
         none_found (breaks policy) (points policy trial) point (none i.place trial i.there) hp

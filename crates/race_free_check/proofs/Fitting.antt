@@ -20,16 +20,17 @@ use Rattle.conspec_tree.specs.Kinds.{number_range, passed_range}
 use Rattle.conspec_automaton.specs.Events.{FitsClause, IsNumberOf, IsWellFormed}
 use Rattle.conspec_automaton.specs.Next.{Values, clause_of, is_phase_of, method_of, speaks_of}
 use Rattle.conspec_automaton.specs.Obeys.{is_return}
-use Rattle.conspec_automaton.specs.Points.{arguments_of, each_choice, events_in, events_of, is_named, named_points, near, points_between, points_of, results_of, states_of, thresholds, values_in}
+use Rattle.conspec_automaton.specs.Points.{arguments_of, each_choice, events_in, events_of, is_named, made_in, named_points, near, points_at, points_between, results_of, states_of, thresholds, values_in, variable_numbers}
 use Rattle.conspec_automaton.specs.Range.{are_in_range, in_range, is_in_range}
 use Rattle.conspec_automaton.specs.Sound.{Differ, IsPolicy}
 use Rattle.conspec_automaton.specs.Trying.{is_of_calls}
 use Rattle.race_free_check.proofs.EachChoice.{Choice, each_choice_has}
 use Rattle.race_free_check.proofs.Likening.{phase_after, phase_before, phase_exceptional}
+use Rattle.race_free_check.proofs.Making.{numbers_of, states_are}
 use Rattle.race_free_check.proofs.Members.{Has, map_has, place_of}
 use Rattle.race_free_check.proofs.Nearest.{near_within, of_ascending}
 use Rattle.race_free_check.proofs.Thresholds.{Within, is_within}
-use Rattle.race_free_check.proofs.Passing.{argument_constants, result_constants, tried_from}
+use Rattle.race_free_check.proofs.Passing.{argument_constants, result_constants, tried_from, tried_results}
 
 -- ---- numbers
 
@@ -75,6 +76,7 @@ value_fits (Some range) cs value holds h =
 
 module _ (c : Clause) where
   passed_all : (args : List Kind) (n : ℕ) (values : List ApiValue) → Choice (tried_from c n args) values → (j : ℕ) (kind : Kind) → slice_get args j ≡ Some kind → IsNumberOf (passed_range kind) (slice_get values j)
+  unfolding points_at
   passed_all [] n values choice j kind there = absurd cc
   passed_all (first ∷ args) n [] choice j kind there = absurd choice
   passed_all (first ∷ args) n (value ∷ values) choice zero kind there =
@@ -82,13 +84,13 @@ module _ (c : Clause) where
       subst (λ (k : Kind). IsNumberOf (passed_range k) (Some value)) same (value_fits (passed_range first) (argument_constants c n) value (passed_zero first) choice.0)
   passed_all (first ∷ args) n (value ∷ values) choice (suc j) kind there = passed_all args (n + 1) values choice.1 j kind there
 
-  given_result : (asked : Option Kind) (value : Option ApiValue) → Has (results_of c asked) value → (kind : Kind) → asked ≡ Some kind → IsNumberOf (number_range kind) value
-  given_result None value h kind e = absurd cc
-  given_result (Some first) value h kind e =
+  given_result : (asked : Option Kind) (values : List ApiValue) → Choice (tried_results c asked) values → (kind : Kind) → asked ≡ Some kind → IsNumberOf (number_range kind) (slice_get values 0)
+  unfolding points_at
+  given_result None values choice kind e = absurd cc
+  given_result (Some first) [] choice kind e = absurd choice
+  given_result (Some first) (value ∷ values) choice kind e =
       let same : first ≡ kind = cc in
-      let m = map_has Some (values_in (number_range first) (result_constants c)) value h in
-      let fits = value_fits (number_range first) (result_constants c) m.item (given_zero first) m.there in
-      subst (λ (k : Kind). IsNumberOf (number_range k) value) same (subst (λ (v : Option ApiValue). IsNumberOf (number_range first) v) m.so fits)
+      subst (λ (k : Kind). IsNumberOf (number_range k) (Some value)) same (value_fits (number_range first) (result_constants c) value (given_zero first) choice.0)
 
 -- ---- events
 
@@ -105,7 +107,7 @@ spoken c event phase e m is =
 
 tried_in : (c : Clause) (event : Event) (phase : Phase) → c.phase ≡ phase → Has (events_in c phase) event → IsTried c event
 tried_in c event Before e h =
-    let m = map_has (λ arguments. events.Call 0 c.method arguments) (each_choice (arguments_of c)) event h in
+    let m = map_has (made_in c Before) (each_choice (arguments_of c)) event h in
     let choice = each_choice_has (arguments_of c) m.item m.there in
     subst (IsTried c) m.so (record {
       fits = passed_all c c.args 0 m.item choice;
@@ -113,10 +115,11 @@ tried_in c event Before e h =
       ends = ap (λ (p : Phase). not (is_of_calls p)) (sym e);
     })
 tried_in c event After e h =
-    let m = map_has (λ value. events.Return 0 c.method value) (results_of c c.result) event h in
+    let m = map_has (made_in c After) (each_choice (results_of c)) event h in
+    let choice = each_choice_has (results_of c) m.item m.there in
     subst (IsTried c) m.so (record {
-      fits = given_result c c.result m.item m.there;
-      speaks = spoken c (events.Return 0 c.method m.item) After e refl refl;
+      fits = given_result c c.result m.item choice;
+      speaks = spoken c (events.Return 0 c.method (slice_get m.item 0)) After e refl refl;
       ends = ap (λ (p : Phase). not (is_of_calls p)) (sym e);
     })
 tried_in c event Exceptional e (inl same) =
@@ -180,14 +183,14 @@ module _ (policy : Policy) (sound : IsPolicy policy) where
     named_within i true x (inr (inr none)) = absurd none
     named_within i false x h = int_points i x h
 
-    point_within : (i : ℕ) (v : Var) (x : ℤ) → IsInRange policy.maxint v.is_bool v.first → Has (points_of policy.maxint cs i v) x → is_in_range policy.maxint v x ≡ true
+    point_within : (i : ℕ) (v : Var) (x : ℤ) → IsInRange policy.maxint v.is_bool v.first → Has (variable_numbers policy.maxint cs i v) x → is_in_range policy.maxint v x ≡ true
     point_within i v x first h = by (is_named i cs) h where
       by : (b : Bool) → Has (if b then named_points policy.maxint i v.is_bool cs else v.first ∷ []) x → is_in_range policy.maxint v x ≡ true
       by true k = let w = named_within i v.is_bool x k in is_within (pos 0) (greatest policy.maxint v.is_bool) x w.least w.most
       by false (inl e) = subst (λ (y : ℤ). is_in_range policy.maxint v y ≡ true) e (is_within (pos 0) (greatest policy.maxint v.is_bool) v.first first.low first.high)
       by false (inr none) = absurd none
 
-    all_within : (vars : List Var) (n : ℕ) (s : Values) → AllByRecursion (λ v. IsInRange policy.maxint v.is_bool v.first) vars → Choice (map (λ (v : ℕ × Var). points_of policy.maxint cs v.0 v.1) (enumerate_from n vars)) s
+    all_within : (vars : List Var) (n : ℕ) (s : Values) → AllByRecursion (λ v. IsInRange policy.maxint v.is_bool v.first) vars → Choice (map (λ (v : ℕ × Var). variable_numbers policy.maxint cs v.0 v.1) (enumerate_from n vars)) s
         → are_in_range policy.maxint vars s ≡ true
     all_within [] n [] all choice = refl
     all_within [] n (x ∷ s) all choice = absurd choice
@@ -195,4 +198,4 @@ module _ (policy : Policy) (sound : IsPolicy policy) where
     all_within (v ∷ vars) n (x ∷ s) all choice = rw (point_within n v x all.0 choice.0, all_within vars (n + 1) s all.1 choice.1) refl
 
     pub state_in_range : (s : Values) → Has (states_of policy cs) s → in_range policy s ≡ true
-    state_in_range s h = all_within policy.vars 0 s sound.vars (each_choice_has (map (λ (v : ℕ × Var). points_of policy.maxint cs v.0 v.1) (enumerate_from 0 policy.vars)) s h)
+    state_in_range s h = all_within policy.vars 0 s sound.vars (each_choice_has (numbers_of policy cs) s (subst (λ (states : List Values). Has states s) (states_are policy cs) h))

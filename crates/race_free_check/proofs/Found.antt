@@ -1,20 +1,20 @@
 -- The first point that breaks a condition, among states, first events and second ones.
-use Rattle.std.proofs.Common.{◌≡◌, ℕ, ◌+◌, ◌<◌, ◌≤◌, Bool, true, false, cond, ℤ, List, [], ◌∷◌, length, drop, map, Option, Some, None, refl, sym, ap, subst, ◌∙◌}
+use Rattle.std.proofs.Common.{◌≡◌, ℕ, ◌+◌, ◌<◌, ◌≤◌, Bool, true, false, cond, List, [], ◌∷◌, length, drop, map, Option, Some, None, refl, sym, ap, subst, ◌∙◌}
 use Rattle.std.specs.Prelude.{find, flat_map, option_map, slice_get}
 use Rattle.std.specs.Option.{option_or}
 use Rattle.std.proofs.lemmas.List.{drop_all, length-map}
 use Rattle.std.proofs.lemmas.List.Folds.{find-append}
+use Rattle.api_listing.specs.declared.events.ApiValue.{ApiValue}
 use Rattle.api_listing.specs.declared.events.Event.{Event}
 use Rattle.conspec_automaton.specs.declared.policy.Clause.{Clause}
 use Rattle.conspec_automaton.specs.declared.policy.Policy.{Policy}
 use Rattle.conspec_automaton.specs.Next.{Values}
-use Rattle.conspec_automaton.specs.Points.{choices_of, each_choice, events_of, size_of, states_of}
+use Rattle.conspec_automaton.specs.Points.{choices_of, each_choice, events_of, made, size_of, state_of, states_of}
 use Rattle.conspec_automaton.specs.Trying.{Placed, Point, Trial, breaks, clauses_of, points_in, seconds_of}
-use Rattle.race_free_check.specs.Choosing.{chosen, made, numbers_of}
+use Rattle.race_free_check.specs.Choosing.{chosen, event_choices}
 use Rattle.race_free_check.specs.Deciding.{broken_in}
 use Rattle.race_free_check.specs.Searching.{IsSecond, Searched, broken_among, broken_with, first_some}
 use Rattle.race_free_check.proofs.Numbered.{chosen_there, got_mapped, left_from, length_choices}
-use Rattle.race_free_check.proofs.Making.{events_made}
 
 -- ---- the first of which something is found
 
@@ -37,6 +37,7 @@ broken_of s = broken_among s.policy (states_of s.policy (clauses_of s.trial)) (e
 
 -- What is found of what is searched is found of the trial.
 pub searched_is : (s : Searched) (policy : Policy) (trial : Trial) (o : Option Point) → s ≡ record { policy = policy; trial = trial } → broken_of s ≡ o → o ≡ broken_in policy trial
+unfolding broken_in
 searched_is s policy trial o same found =
     sym found ∙ ap broken_of same ∙ sym (found_among policy (states_of policy (clauses_of trial)) (events_of trial.first.1) (seconds_of trial.second))
 
@@ -57,42 +58,41 @@ module _ {X Y : Type 0} (test : X → Option Y) where
 
 -- ---- states and events by their numbers
 
-pub state_there : (policy : Policy) (clauses : List Clause) (n : ℕ) → n < size_of (choices_of policy clauses) → slice_get (states_of policy clauses) n ≡ Some (chosen (choices_of policy clauses) n)
-state_there policy clauses n below = chosen_there (choices_of policy clauses) n below
+pub state_there : (policy : Policy) (clauses : List Clause) (n : ℕ) → n < size_of (choices_of policy clauses) → slice_get (states_of policy clauses) n ≡ Some (state_of (chosen (choices_of policy clauses) n))
+state_there policy clauses n below = got_mapped state_of (each_choice (choices_of policy clauses)) n ∙ ap (option_map state_of) (chosen_there (choices_of policy clauses) n below)
 
 pub states_length : (policy : Policy) (clauses : List Clause) → length (states_of policy clauses) ≡ size_of (choices_of policy clauses)
-states_length policy clauses = length_choices (choices_of policy clauses)
+states_length policy clauses = length-map (each_choice (choices_of policy clauses)) state_of ∙ length_choices (choices_of policy clauses)
 
-pub event_there : (c : Clause) (n : ℕ) → n < size_of (numbers_of c) → slice_get (events_of c) n ≡ Some (made c (chosen (numbers_of c) n))
+pub event_there : (c : Clause) (n : ℕ) → n < size_of (event_choices c) → slice_get (events_of c) n ≡ Some (made c (chosen (event_choices c) n))
 event_there c n below =
-    ap (λ (events : List Event). slice_get events n) (events_made c)
-    ∙ got_mapped (made c) (each_choice (numbers_of c)) n
-    ∙ ap (option_map (made c)) (chosen_there (numbers_of c) n below)
+    got_mapped (made c) (each_choice (event_choices c)) n
+    ∙ ap (option_map (made c)) (chosen_there (event_choices c) n below)
 
-pub events_length : (c : Clause) → length (events_of c) ≡ size_of (numbers_of c)
-events_length c = ap length (events_made c) ∙ length-map (each_choice (numbers_of c)) (made c) ∙ length_choices (numbers_of c)
+pub events_length : (c : Clause) → length (events_of c) ≡ size_of (event_choices c)
+events_length c = length-map (each_choice (event_choices c)) (made c) ∙ length_choices (event_choices c)
 
-second_there : (second : Placed) (n : ℕ) → n < size_of (numbers_of second.1) → slice_get (seconds_of (Some second)) n ≡ Some (Some (made second.1 (chosen (numbers_of second.1) n)))
+second_there : (second : Placed) (n : ℕ) → n < size_of (event_choices second.1) → slice_get (seconds_of (Some second)) n ≡ Some (Some (made second.1 (chosen (event_choices second.1) n)))
 second_there second n below = got_mapped Some (events_of second.1) n ∙ ap (option_map Some) (event_there second.1 n below)
 
-seconds_length : (second : Placed) → length (seconds_of (Some second)) ≡ size_of (numbers_of second.1)
+seconds_length : (second : Placed) → length (seconds_of (Some second)) ≡ size_of (event_choices second.1)
 seconds_length second = length-map (events_of second.1) Some ∙ events_length second.1
 
 -- the same where the second clause is told alone
-pub second_of : (second : Option Placed) (c : Clause) → option_map (λ (p : Placed). p.1) second ≡ Some c → (n : ℕ) → n < size_of (numbers_of c) → slice_get (seconds_of second) n ≡ Some (Some (made c (chosen (numbers_of c) n)))
+pub second_of : (second : Option Placed) (c : Clause) → option_map (λ (p : Placed). p.1) second ≡ Some c → (n : ℕ) → n < size_of (event_choices c) → slice_get (seconds_of second) n ≡ Some (Some (made c (chosen (event_choices c) n)))
 second_of None c e n below = absurd cc
 second_of (Some second) c e n below =
     let same : second.1 ≡ c = cc in
-    subst (λ (d : Clause). n < size_of (numbers_of d) → slice_get (seconds_of (Some second)) n ≡ Some (Some (made d (chosen (numbers_of d) n)))) same (second_there second n) below
+    subst (λ (d : Clause). n < size_of (event_choices d) → slice_get (seconds_of (Some second)) n ≡ Some (Some (made d (chosen (event_choices d) n)))) same (second_there second n) below
 
-pub seconds_of_length : (second : Option Placed) (c : Clause) → option_map (λ (p : Placed). p.1) second ≡ Some c → length (seconds_of second) ≡ size_of (numbers_of c)
+pub seconds_of_length : (second : Option Placed) (c : Clause) → option_map (λ (p : Placed). p.1) second ≡ Some c → length (seconds_of second) ≡ size_of (event_choices c)
 seconds_of_length None c e = absurd cc
 seconds_of_length (Some second) c e =
     let same : second.1 ≡ c = cc in
-    seconds_length second ∙ ap (λ (d : Clause). size_of (numbers_of d)) same
+    seconds_length second ∙ ap (λ (d : Clause). size_of (event_choices d)) same
 
 -- The second event that is made is one of the second clause.
-pub second_is : (second : Option Placed) (c : Clause) → option_map (λ (p : Placed). p.1) second ≡ Some c → (o : Option Event) (ns : List ℤ) → o ≡ Some (made c ns) → IsSecond second o
+pub second_is : (second : Option Placed) (c : Clause) → option_map (λ (p : Placed). p.1) second ≡ Some c → (o : Option Event) (ns : List ApiValue) → o ≡ Some (made c ns) → IsSecond second o
 second_is None c e o ns f = absurd cc
 second_is (Some second) c e None ns f = absurd cc
 second_is (Some second) c e (Some event) ns f =

@@ -47,20 +47,16 @@ branch_more h f xs items i x before found now ys same below at e g is =
     ∙ append_assoc before (filter_map h (flat_map f (take i xs))) (filter_map h (f (get_or xs i x)))
     ∙ ap (λ (zs : List _). before ++ zs) (sym (ap (filter_map h) (joined_more f xs i x inside) ∙ filter_map-append h (flat_map f (take i xs)) (f (get_or xs i x))))
 
-pub copied_more : (ns : List ℤ) (i : ℕ) (found now : List ℤ) (n : ℤ) → i < length ns → found ≡ take i ns → now ≡ found ++ n ∷ [] → n ≡ get_or ns i (pos 0) → now ≡ take (i + 1) ns
-copied_more ns i found now n below e g is =
-    g ∙ ap (λ (zs : List ℤ). zs ++ n ∷ []) e ∙ ap (λ (m : ℤ). take i ns ++ m ∷ []) is ∙ sym (take_more ns i (pos 0) below)
-
-map_pushed : (f : ℤ → ℤ) (ns : List ℤ) (n : ℤ) → map f (ns ++ n ∷ []) ≡ map f ns ++ f n ∷ []
+map_pushed : {Y : Type 0} (f : ℤ → Y) (ns : List ℤ) (n : ℤ) → map f (ns ++ n ∷ []) ≡ map f ns ++ f n ∷ []
 map_pushed f [] n = refl
-map_pushed f (m ∷ ns) n = ap (λ (zs : List ℤ). f m ∷ zs) (map_pushed f ns n)
+map_pushed f (m ∷ ns) n = ap (λ (zs : List _). f m ∷ zs) (map_pushed f ns n)
 
-pub mapped_more : (f : ℤ → ℤ) (ns : List ℤ) (i : ℕ) (before found now : List ℤ) (n : ℤ) → i < length ns → found ≡ before ++ map f (take i ns) → now ≡ found ++ n ∷ [] → n ≡ f (get_or ns i (pos 0)) → now ≡ before ++ map f (take (i + 1) ns)
+pub mapped_more : {Y : Type 0} (f : ℤ → Y) (ns : List ℤ) (i : ℕ) (before found now : List Y) (n : Y) → i < length ns → found ≡ before ++ map f (take i ns) → now ≡ found ++ n ∷ [] → n ≡ f (get_or ns i (pos 0)) → now ≡ before ++ map f (take (i + 1) ns)
 mapped_more f ns i before found now n below e g is =
-    g ∙ ap (λ (zs : List ℤ). zs ++ n ∷ []) e
-    ∙ ap (λ (m : ℤ). (before ++ map f (take i ns)) ++ m ∷ []) is
+    g ∙ ap (λ (zs : List _). zs ++ n ∷ []) e
+    ∙ ap (λ (m : _). (before ++ map f (take i ns)) ++ m ∷ []) is
     ∙ append_assoc before (map f (take i ns)) (f (get_or ns i (pos 0)) ∷ [])
-    ∙ ap (λ (zs : List ℤ). before ++ zs) (sym (ap (map f) (take_more ns i (pos 0) below) ∙ map_pushed f (take i ns) (get_or ns i (pos 0))))
+    ∙ ap (λ (zs : List _). before ++ zs) (sym (ap (map f) (take_more ns i (pos 0) below) ∙ map_pushed f (take i ns) (get_or ns i (pos 0))))
 
 pub small_more : (bound : ℕ) (found now : List ℤ) (n : ℤ) → AreSmall bound found → now ≡ found ++ n ∷ [] → IsSmall bound n → AreSmall bound now
 small_more bound found now n all e small = subst (λ (ns : List ℤ). AreSmall bound ns) (sym e) (small_pushed bound found n all small)
@@ -110,7 +106,7 @@ sizes_more left rest x count size now n front e is g =
     ap (λ (k : ℕ). capped (k * size_of rest)) (g ∙ ap (λ (k : ℕ). min (count * k) most) is)
     ∙ count_more count (length x) (size_of rest) n (ap (λ (xs : List (List _)). capped (count * size_of xs)) (sym front) ∙ e)
 
-pub placed_sizes_more : {X : Type 0} (f : ℕ × X → List ℤ) (place : ℕ) (left rest : List X) (x : X) (count size now n : ℕ) → left ≡ x ∷ rest → capped (count * size_of (map f (enumerate_from place left))) ≡ n → size ≡ length (f (place, x)) → now ≡ min (count * size) most
+pub placed_sizes_more : {X Y : Type 0} (f : ℕ × X → List Y) (place : ℕ) (left rest : List X) (x : X) (count size now n : ℕ) → left ≡ x ∷ rest → capped (count * size_of (map f (enumerate_from place left))) ≡ n → size ≡ length (f (place, x)) → now ≡ min (count * size) most
     → capped (now * size_of (map f (enumerate_from (place + 1) rest))) ≡ n
 placed_sizes_more f place left rest x count size now n front e is g =
     sizes_more (map f (enumerate_from place left)) (map f (enumerate_from (place + 1) rest)) (f (place, x)) count size now n (ap (λ (xs : List _). map f (enumerate_from place xs)) front) e is g

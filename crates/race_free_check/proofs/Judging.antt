@@ -107,6 +107,7 @@ module _ (tested : Pairs) (policy : Policy) where
       → IsShown tested policy trial.condition point.state point.first point.second
 
   judged_shows : (ts : List Trial) → EachShows ts → ShowsRace tested policy (judged policy ts)
+  unfolding broken_in
   judged_shows [] each = tt
   judged_shows (t ∷ ts) each = by (broken_in policy t) refl (judged_shows ts (λ i. each (suc i))) where
     by : (o : Option Point) → broken_in policy t ≡ o → ShowsRace tested policy (judged policy ts) → ShowsRace tested policy (option_map_or (shown t) o (judged policy ts))

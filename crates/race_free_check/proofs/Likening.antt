@@ -18,7 +18,7 @@ use Rattle.conspec_automaton.specs.declared.policy.Clause.{Clause}
 use Rattle.conspec_tree.specs.Kinds.{number_range, passed_range, is_number}
 use Rattle.conspec_automaton.specs.Events.{FitsClause, IsNumberOf}
 use Rattle.conspec_automaton.specs.Next.{is_phase_of, speaks_of}
-use Rattle.conspec_automaton.specs.Points.{arguments_of, atoms_in, constants_of, each_choice, events_in, events_of, is_same, results_of}
+use Rattle.conspec_automaton.specs.Points.{arguments_of, atoms_in, constants_of, each_choice, events_in, events_of, is_same, made_in, results_of}
 use Rattle.conspec_automaton.specs.Sound.{IsClauseIn}
 use Rattle.race_free_check.proofs.EachChoice.{in_each_choice}
 use Rattle.race_free_check.proofs.Members.{Among, Has, flat_has, in_map, of_all}
@@ -94,7 +94,7 @@ module _ (vars : List Var) (maxint : ℤ) (c : Clause) (sound : IsClauseIn vars 
     try_call : FitsClause c (events.Call thread method given) → Among (events_of c) (LikeEvents c (events.Call thread method given))
     try_call fits =
         let t = try_all c given c.args 0 (λ j k kind e there. let same : j ≡ k = omega arith in subst (λ (i : ℕ). IsNumberOf (passed_range kind) (slice_get given i)) same (fits j kind there)) in
-        let there : Has (events_in c Before) (events.Call 0 c.method t.values) = in_map (λ arguments. events.Call 0 c.method arguments) (each_choice (arguments_of c)) t.values (in_each_choice (arguments_of c) t.values t.choice) in
+        let there : Has (events_in c Before) (events.Call 0 c.method t.values) = in_map (made_in c Before) (each_choice (arguments_of c)) t.values (in_each_choice (arguments_of c) t.values t.choice) in
         record { item = events.Call 0 c.method t.values; there = at_phase Before (events.Call 0 c.method t.values) phase there; so = call_like t }
 
   -- ---- returns
@@ -118,8 +118,9 @@ module _ (vars : List Var) (maxint : ℤ) (c : Clause) (sound : IsClauseIn vars 
     try_return : FitsClause c (events.Return thread method given) → Among (events_of c) (LikeEvents c (events.Return thread method given))
     try_return fits =
         let t = try_result c given c.result fits in
-        let there : Has (events_in c After) (events.Return 0 c.method t.item) = in_map (λ value. events.Return 0 c.method value) (results_of c c.result) t.item t.there in
-        record { item = events.Return 0 c.method t.item; there = at_phase After (events.Return 0 c.method t.item) phase there; so = return_like t.item t.so }
+        let value = slice_get t.values 0 in
+        let there : Has (events_in c After) (events.Return 0 c.method value) = in_map (made_in c After) (each_choice (results_of c)) t.values (in_each_choice (results_of c) t.values t.choice) in
+        record { item = events.Return 0 c.method value; there = at_phase After (events.Return 0 c.method value) phase there; so = return_like value t.tries }
 
   -- ---- ends by an exception
 

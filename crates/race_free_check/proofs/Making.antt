@@ -1,21 +1,17 @@
--- The events that are tried for a clause are those that it makes of each choice of numbers.
-use Rattle.std.proofs.Common.{◌≡◌, ℕ, ◌+◌, ◌*◌, ℤ, pos, List, [], ◌∷◌, ◌++◌, length, map, Option, Some, None, refl, sym, ap, ◌∙◌, arith}
+-- What is made of each choice of values: the states are the choices of numbers, and an event of a clause takes other values.
+use Rattle.std.proofs.Common.{◌≡◌, ℕ, ℤ, List, [], ◌∷◌, ◌++◌, map, refl, sym, ap, ◌∙◌}
 use Rattle.std.specs.Prelude.{flat_map}
 use Rattle.std.specs.List.{enumerate_from}
-use Rattle.std.proofs.lemmas.List.{length-map}
-use Rattle.std.proofs.lemmas.List.Concat.{flat_map_single}
 use Rattle.api_listing.specs.declared.events.ApiValue.{ApiValue}
 use Rattle.api_listing.specs.declared.events.ApiValue.TheVariants as api
-use Rattle.api_listing.specs.declared.events.Event.TheVariants as events
-use Rattle.conspec_tree.specs.declared.types.Base.TheVariants as bases
-use Rattle.conspec_tree.specs.declared.types.Kind.{Kind}
-use Rattle.conspec_tree.specs.declared.types.Kind.TheVariants as kinds
+use Rattle.api_listing.specs.declared.events.Event.{Event}
 use Rattle.conspec_tree.specs.declared.types.Phase.{Phase}
 use Rattle.conspec_tree.specs.declared.types.Phase.TheVariants.{Before, After, Exceptional}
+use Rattle.conspec_tree.specs.declared.types.Var.{Var}
 use Rattle.conspec_automaton.specs.declared.policy.Clause.{Clause}
-use Rattle.conspec_tree.specs.Kinds.{number_range}
-use Rattle.conspec_automaton.specs.Points.{arguments_at, constants_of, each_choice, events_count, events_in, events_of, points_between, results_of, size_of, values_in}
-use Rattle.race_free_check.specs.Choosing.{IsMade, argument_numbers, made, made_in, numbers_between, numbers_in, numbers_of, result_as, result_numbers, value_as, value_in, values_as}
+use Rattle.conspec_automaton.specs.declared.policy.Policy.{Policy}
+use Rattle.conspec_automaton.specs.Points.{each_choice, made, made_in, points_at, state_of, states_of, variable_numbers}
+use Rattle.race_free_check.specs.Choosing.{IsMade, with_values}
 
 -- ---- lists
 
@@ -27,110 +23,56 @@ map_joined : {X Y : Type 0} (f : X → Y) (xs ys : List X) → map f (xs ++ ys) 
 map_joined f [] ys = refl
 map_joined f (x ∷ xs) ys = ap (λ (zs : List _). f x ∷ zs) (map_joined f xs ys)
 
--- ---- choices of what is made of numbers
+map_kept : {X : Type 0} (f : X → X) → ((x : X) → f x ≡ x) → (xs : List X) → map f xs ≡ xs
+map_kept f kept [] = refl
+map_kept f kept (x ∷ xs) = ap (λ (y : _). y ∷ map f xs) (kept x) ∙ ap (λ (ys : List _). x ∷ ys) (map_kept f kept xs)
 
--- a choice of values is a choice of numbers, each made a value
-choices_made : {X Y : Type 0} (f : X → Y) (g : List X → List Y) (xs : List X) (others : List (List X)) (made : List (List Y)) → each_choice made ≡ map g (each_choice others)
-    → (h : List X → List Y) → ((x : X) (rest : List X) → h (x ∷ rest) ≡ f x ∷ g rest) → each_choice (map f xs ∷ made) ≡ map h (each_choice (xs ∷ others))
-choices_made f g [] others made e h splits = refl
-choices_made f g (x ∷ xs) others made e h splits =
-    ap (λ (ys : List _). map (λ rest. f x ∷ rest) ys ++ flat_map (λ y. map (λ rest. y ∷ rest) (each_choice made)) (map f xs)) e
-    ∙ ap (λ (ys : List _). ys ++ flat_map (λ y. map (λ rest. y ∷ rest) (each_choice made)) (map f xs)) (first (each_choice others))
-    ∙ ap (λ (ys : List _). map h (map (λ rest. x ∷ rest) (each_choice others)) ++ ys) (choices_made f g xs others made e h splits)
-    ∙ sym (map_joined h (map (λ rest. x ∷ rest) (each_choice others)) (flat_map (λ y. map (λ rest. y ∷ rest) (each_choice others)) xs)) where
-      first : (rests : List (List _)) → map (λ rest. f x ∷ rest) (map g rests) ≡ map h (map (λ rest. x ∷ rest) rests)
-      first [] = refl
-      first (rest ∷ rests) = ap (λ (y : List _). y ∷ map (λ rest. f x ∷ rest) (map g rests)) (sym (splits x rest)) ∙ ap (λ (ys : List _). h (x ∷ rest) ∷ ys) (first rests)
+-- ---- choices of values that are made of others
 
--- ---- arguments
+module _ {X Y : Type 0} (f : X → Y) where
+  begun : (x : X) (rests : List (List X)) → map (λ (rest : List Y). f x ∷ rest) (map (map f) rests) ≡ map (map f) (map (λ rest. x ∷ rest) rests)
+  begun x [] = refl
+  begun x (rest ∷ rests) = ap (λ (ys : List (List Y)). (f x ∷ map f rest) ∷ ys) (begun x rests)
 
-module _ (c : Clause) where
-  abbrev tried_from : ℕ → List Kind → List (List ApiValue)
-  tried_from n args = map (λ (a : ℕ × Kind). arguments_at c a.0 a.1) (enumerate_from n args)
+  choices_from : (xs : List X) (others : List (List X)) → each_choice (map (map f) others) ≡ map (map f) (each_choice others)
+      → each_choice (map f xs ∷ map (map f) others) ≡ map (map f) (each_choice (xs ∷ others))
+  choices_from [] others e = refl
+  choices_from (x ∷ xs) others e =
+      ap (λ (ys : List (List Y)). map (λ rest. f x ∷ rest) ys ++ flat_map (λ y. map (λ rest. y ∷ rest) (each_choice (map (map f) others))) (map f xs)) e
+      ∙ ap (λ (ys : List (List Y)). ys ++ flat_map (λ y. map (λ rest. y ∷ rest) (each_choice (map (map f) others))) (map f xs)) (begun x (each_choice others))
+      ∙ ap (λ (ys : List (List Y)). map (map f) (map (λ rest. x ∷ rest) (each_choice others)) ++ ys) (choices_from xs others e)
+      ∙ sym (map_joined (map f) (map (λ rest. x ∷ rest) (each_choice others)) (flat_map (λ y. map (λ rest. y ∷ rest) (each_choice others)) xs))
 
-  abbrev numbered_from : ℕ → List Kind → List (List ℤ)
-  numbered_from n args = map (λ (a : ℕ × Kind). argument_numbers c a.0 a.1) (enumerate_from n args)
+  choices_made : (lists : List (List X)) → each_choice (map (map f) lists) ≡ map (map f) (each_choice lists)
+  choices_made [] = refl
+  choices_made (xs ∷ others) = choices_from xs others (choices_made others)
 
-  argument_is : (i : ℕ) (kind : Kind) → arguments_at c i kind ≡ map (value_as kind) (argument_numbers c i kind)
-  argument_is i kinds.Int = refl
-  argument_is i kinds.Bool = refl
-  argument_is i kinds.Byte = refl
-  argument_is i kinds.Short = refl
-  argument_is i kinds.Char = refl
-  argument_is i kinds.Object = refl
+-- ---- states
 
-  arguments_are : (n : ℕ) (args : List Kind) → each_choice (tried_from n args) ≡ map (values_as args) (each_choice (numbered_from n args))
-  arguments_are n [] = refl
-  arguments_are n (kind ∷ args) =
-      ap (λ (values : List ApiValue). each_choice (values ∷ tried_from (n + 1) args)) (argument_is n kind)
-      ∙ choices_made (value_as kind) (values_as args) (argument_numbers c n kind) (numbered_from (n + 1) args) (tried_from (n + 1) args) (arguments_are (n + 1) args)
-      (values_as (kind ∷ args)) (λ x rest. refl)
+state_of_ints : (numbers : List ℤ) → state_of (map api.Int numbers) ≡ numbers
+state_of_ints [] = refl
+state_of_ints (n ∷ numbers) = ap (λ (ns : List ℤ). n ∷ ns) (state_of_ints numbers)
 
-  sizes_are : (n : ℕ) (args : List Kind) → size_of (numbered_from n args) ≡ size_of (tried_from n args)
-  sizes_are n [] = refl
-  sizes_are n (kind ∷ args) =
-      let here : length (arguments_at c n kind) ≡ length (argument_numbers c n kind) = ap length (argument_is n kind) ∙ length-map (argument_numbers c n kind) (value_as kind) in
-      ap (λ (k : ℕ). k * size_of (numbered_from (n + 1) args)) (sym here) ∙ ap (λ (k : ℕ). length (arguments_at c n kind) * k) (sizes_are (n + 1) args)
+module _ (policy : Policy) (cs : List Clause) where
+  -- the numbers that are tried for each variable
+  abbrev pub numbers_of : List (List ℤ)
+  numbers_of = map (λ (v : ℕ × Var). variable_numbers policy.maxint cs v.0 v.1) (enumerate_from 0 policy.vars)
 
-  -- ---- results
+  -- The states that are tried are the choices of numbers.
+  pub states_are : states_of policy cs ≡ each_choice numbers_of
+  unfolding points_at
+  states_are =
+      ap (λ (lists : List (List ApiValue)). map state_of (each_choice lists)) (sym (map_twice (map api.Int) (λ (v : ℕ × Var). variable_numbers policy.maxint cs v.0 v.1) (enumerate_from 0 policy.vars)))
+      ∙ ap (map state_of) (choices_made api.Int numbers_of)
+      ∙ map_twice state_of (map api.Int) (each_choice numbers_of)
+      ∙ map_kept (λ (numbers : List ℤ). state_of (map api.Int numbers)) state_of_ints (each_choice numbers_of)
 
-  given_in : (range : Option (ℤ × ℤ)) (cs : List ℤ) → map Some (values_in range cs) ≡ map (λ n. Some (value_in range n)) (numbers_between range cs)
-  given_in None cs = refl
-  given_in (Some range) cs = map_twice Some api.Int (points_between range.0 range.1 cs)
+-- ---- events
 
-  given_is : (kind : Kind) → results_of c (Some kind) ≡ map (λ n. Some (value_as kind n)) (result_numbers c kind)
-  given_is kind = given_in (number_range kind) (constants_of bases.Result (c ∷ []))
-
-  alone_are : (ns : List ℤ) → each_choice (ns ∷ []) ≡ map (λ n. n ∷ []) ns
-  alone_are ns = flat_map_single (λ n. n ∷ []) ns
-
-  results_are : (result : Option Kind) → c.result ≡ result → results_of c result ≡ map (result_as result) (each_choice (numbers_in c After))
-  results_are None e = rw e refl
-  results_are (Some kind) e =
-      rw e (given_is kind ∙ sym (ap (map (result_as (Some kind))) (alone_are (result_numbers c kind)) ∙ map_twice (result_as (Some kind)) (λ n. n ∷ []) (result_numbers c kind)))
-
-  results_size : (result : Option Kind) → c.result ≡ result → size_of (numbers_in c After) ≡ length (results_of c result)
-  results_size None e = rw e refl
-  results_size (Some kind) e =
-      let here : length (results_of c (Some kind)) ≡ length (result_numbers c kind) = ap length (given_is kind) ∙ length-map (result_numbers c kind) (λ n. Some (value_as kind n)) in
-      rw e (omega arith)
-
-  -- ---- events
-
-  events_made_in : (phase : Phase) → events_in c phase ≡ map (made_in c phase) (each_choice (numbers_in c phase))
-  events_made_in Before =
-      ap (map (λ arguments. events.Call 0 c.method arguments)) (arguments_are 0 c.args)
-      ∙ map_twice (λ arguments. events.Call 0 c.method arguments) (values_as c.args) (each_choice (numbers_in c Before))
-  events_made_in After =
-      ap (map (λ value. events.Return 0 c.method value)) (results_are c.result refl)
-      ∙ map_twice (λ value. events.Return 0 c.method value) (result_as c.result) (each_choice (numbers_in c After))
-  events_made_in Exceptional = refl
-
-  pub events_made : events_of c ≡ map (made c) (each_choice (numbers_of c))
-  events_made = events_made_in c.phase
-
-  -- there are as many events as choices
-  pub events_counted : (phase : Phase) → size_of (numbers_in c phase) ≡ events_count c phase
-  events_counted Before = sizes_are 0 c.args
-  events_counted After = results_size c.result refl
-  events_counted Exceptional = refl
-
--- ---- what is known of an event that a clause makes
-
-length_values : (args : List Kind) (ns : List ℤ) → length (values_as args ns) ≡ length args
-length_values [] ns = refl
-length_values (kind ∷ args) [] = let rest = length_values args [] in omega arith
-length_values (kind ∷ args) (n ∷ ns) = let rest = length_values args ns in omega arith
-
--- A call that the clause makes has its number of arguments.
-pub made_arguments : (c : Clause) (thread method : ℕ) (given : List ApiValue) → IsMade c (events.Call thread method given) → length given ≡ length c.args
-made_arguments c thread method given is = by c.phase is.1 where
-  by : (phase : Phase) → events.Call thread method given ≡ made_in c phase is.0 → length given ≡ length c.args
-  by Before same = let g : given ≡ values_as c.args is.0 = cc in ap length g ∙ length_values c.args is.0
-  by After same = absurd cc
-  by Exceptional same = absurd cc
-
--- The value of the first number is what a method gives.
-pub first_value : (kind : Kind) (ns : List ℤ) (value : ApiValue) (others : List ApiValue) → values_as (kind ∷ []) ns ≡ value ∷ others → result_as (Some kind) ns ≡ Some value
-first_value kind [] value others e = let same : value_as kind (pos 0) ≡ value = cc in ap Some same
-first_value kind (n ∷ ns) value others e = let same : value_as kind n ≡ value = cc in ap Some same
+-- An event that a clause makes is one of it with other values too.
+pub made_again : (c : Clause) (event : Event) (values : List ApiValue) → IsMade c event → with_values event values ≡ made c values
+made_again c event values is = ap (λ (e : Event). with_values e values) is.1 ∙ by c.phase where
+  by : (phase : Phase) → with_values (made_in c phase is.0) values ≡ made_in c phase values
+  by Before = refl
+  by After = refl
+  by Exceptional = refl

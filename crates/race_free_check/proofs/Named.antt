@@ -1,7 +1,6 @@
 -- What clauses name, of one clause or two.
-use Rattle.std.proofs.Common.{◌≡◌, ℤ, List, [], ◌∷◌, ◌++◌, Option, Some, sym, ap, ◌∙◌}
+use Rattle.std.proofs.Common.{◌≡◌, ℤ, List, [], ◌∷◌, ◌++◌, Option, sym, ap, ◌∙◌}
 use Rattle.std.specs.Prelude.{flat_map}
-use Rattle.std.specs.Option.{option_map_or}
 use Rattle.std.specs.List.{filter_map}
 use Rattle.std.proofs.lemmas.List.{append-nil, append_assoc}
 use Rattle.std.proofs.lemmas.List.Elements.{filter_map-append}
@@ -10,7 +9,6 @@ use Rattle.conspec_tree.specs.declared.types.Base.{Base}
 use Rattle.conspec_tree.specs.declared.types.Update.{Update}
 use Rattle.conspec_automaton.specs.declared.policy.Branch.{Branch}
 use Rattle.conspec_automaton.specs.declared.policy.Clause.{Clause}
-use Rattle.conspec_automaton.specs.Trying.{Placed, Trial, clauses_of}
 use Rattle.conspec_automaton.specs.Points.{atoms_in, compared_with, constants_of, updates_in}
 
 -- ---- one clause, or two
@@ -39,17 +37,11 @@ constants_both base c d = ap (filter_map (compared_with base)) (atoms_both c d) 
 pub kept_both : (h : Update → Option ℤ) (c d : Clause) → filter_map h (updates_in (c ∷ d ∷ [])) ≡ filter_map h (updates_in (c ∷ [])) ++ filter_map h (updates_in (d ∷ []))
 kept_both h c d = ap (filter_map h) (updates_both c d) ∙ filter_map-append h (updates_in (c ∷ [])) (updates_in (d ∷ []))
 
--- ---- the clauses of a trial
+-- ---- what is added for one clause, and for two
 
-both_clauses : (trial : Trial) (second : Placed) → trial.second ≡ Some second → clauses_of trial ≡ trial.first.1 ∷ second.1 ∷ []
-both_clauses trial second e = ap (λ (o : Option Placed). trial.first.1 ∷ option_map_or (λ (c : Placed). c.1 ∷ []) o []) e
-
-pub all_added : (name : List Clause → List ℤ) → ((c d : Clause) → name (c ∷ d ∷ []) ≡ name (c ∷ []) ++ name (d ∷ [])) → (trial : Trial) (second : Placed) (c d : Clause) (before between now : List ℤ) → trial.second ≡ Some second → c ≡ trial.first.1 → d ≡ second.1
-    → between ≡ before ++ name (c ∷ []) → now ≡ between ++ name (d ∷ []) → now ≡ before ++ name (clauses_of trial)
-all_added name both trial second c d before between now there first_is second_is e f =
-    f ∙ ap (λ (ns : List ℤ). ns ++ name (d ∷ [])) e
-    ∙ append_assoc before (name (c ∷ [])) (name (d ∷ []))
-    ∙ ap (λ (ns : List ℤ). before ++ ns) (sym (both c d))
-    ∙ ap (λ (k : Clause). before ++ name (k ∷ d ∷ [])) first_is
-    ∙ ap (λ (k : Clause). before ++ name (trial.first.1 ∷ k ∷ [])) second_is
-    ∙ ap (λ (cs : List Clause). before ++ name cs) (sym (both_clauses trial second there))
+module _ (name : List Clause → List ℤ) (both : (c d : Clause) → name (c ∷ d ∷ []) ≡ name (c ∷ []) ++ name (d ∷ [])) where
+  pub all_added : (c d : Clause) (cs : List Clause) (before between now : List ℤ) → c ∷ d ∷ [] ≡ cs → between ≡ before ++ name (c ∷ []) → now ≡ between ++ name (d ∷ []) → now ≡ before ++ name cs
+  all_added c d cs before between now is e f =
+      f ∙ ap (λ (ns : List ℤ). ns ++ name (d ∷ [])) e
+      ∙ append_assoc before (name (c ∷ [])) (name (d ∷ []))
+      ∙ ap (λ (ns : List ℤ). before ++ ns) (sym (both c d) ∙ ap name is)

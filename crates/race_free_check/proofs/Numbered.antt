@@ -1,11 +1,12 @@
 -- Choices by their numbers: each choice of a number below the count of choices is one of them, and there are so many.
-use Rattle.std.proofs.Common.{◌≡◌, ℕ, zero, suc, ◌+◌, ◌*◌, ◌/◌, ◌%◌, ◌<◌, ℤ, pos, List, [], ◌∷◌, ◌++◌, length, drop, get_or, map, Some, refl, sym, ap, subst, ◌∙◌, arith, add-one}
+use Rattle.std.proofs.Common.{◌≡◌, ℕ, zero, suc, ◌+◌, ◌*◌, ◌/◌, ◌%◌, ◌<◌, List, [], ◌∷◌, ◌++◌, length, drop, get_or, map, Some, refl, sym, ap, subst, ◌∙◌, arith, add-one}
 use Rattle.std.specs.Prelude.{flat_map, option_map, slice_get}
 use Rattle.std.proofs.lemmas.List.{length-append, length-map}
 use Rattle.std.proofs.lemmas.Nat.{div-add-mod', div_below}
 use Rattle.std.proofs.Math.Nat.{mod-lt, mul-div_cancel_left, mul-zero, suc-mul, zero-mul}
+use Rattle.api_listing.specs.declared.events.ApiValue.{ApiValue}
 use Rattle.conspec_automaton.specs.Points.{each_choice, size_of}
-use Rattle.race_free_check.specs.Choosing.{chosen, number_at}
+use Rattle.race_free_check.specs.Choosing.{chosen, value_at}
 
 -- ---- items by their places
 
@@ -55,10 +56,10 @@ left_from xs n x there = by xs n there ∙ ap (λ (k : ℕ). x ∷ drop k xs) (s
 
 -- ---- choices
 
-number_there : (ns : List ℤ) (i : ℕ) → i < length ns → slice_get ns i ≡ Some (number_at ns i)
-number_there [] i below = absurd (omega arith)
-number_there (n ∷ ns) zero below = refl
-number_there (n ∷ ns) (suc i) below = number_there ns i (omega arith)
+value_there : (ns : List ApiValue) (i : ℕ) → i < length ns → slice_get ns i ≡ Some (value_at ns i)
+value_there [] i below = absurd (omega arith)
+value_there (n ∷ ns) zero below = refl
+value_there (n ∷ ns) (suc i) below = value_there ns i (omega arith)
 
 pub length_choices : {X : Type 0} (lists : List (List X)) → length (each_choice lists) ≡ size_of lists
 length_choices [] = refl
@@ -80,30 +81,30 @@ split number first rest below =
     let some = positive_factor first rest number below in
     record { some = some; at = div_below number rest first some below; left = mod-lt number some }
 
-pub chosen_there : (lists : List (List ℤ)) (n : ℕ) → n < size_of lists → slice_get (each_choice lists) n ≡ Some (chosen lists n)
+pub chosen_there : (lists : List (List ApiValue)) (n : ℕ) → n < size_of lists → slice_get (each_choice lists) n ≡ Some (chosen lists n)
 chosen_there [] zero below = refl
 chosen_there [] (suc n) below = absurd (omega arith)
 chosen_there (xs ∷ others) n below =
     let s = split n (length xs) (size_of others) below in
-    let x = number_at xs (n / size_of others) in
+    let x = value_at xs (n / size_of others) in
     let r = n % size_of others in
     got_flat (λ y. map (λ ys. y ∷ ys) (each_choice others)) (size_of others) (λ y. length-map (each_choice others) (λ ys. y ∷ ys) ∙ length_choices others)
-    xs x n (n / size_of others) r (sym (div-add-mod' n (size_of others))) s.left (number_there xs (n / size_of others) s.at)
+    xs x n (n / size_of others) r (sym (div-add-mod' n (size_of others))) s.left (value_there xs (n / size_of others) s.at)
     ∙ got_mapped (λ ys. x ∷ ys) (each_choice others) r
-    ∙ ap (option_map (λ (ys : List ℤ). x ∷ ys)) (chosen_there others r s.left)
+    ∙ ap (option_map (λ (ys : List ApiValue). x ∷ ys)) (chosen_there others r s.left)
 
-pub chosen_length : (lists : List (List ℤ)) (n : ℕ) → length (chosen lists n) ≡ length lists
+pub chosen_length : (lists : List (List ApiValue)) (n : ℕ) → length (chosen lists n) ≡ length lists
 chosen_length [] n = refl
 chosen_length (xs ∷ others) n = let rest = chosen_length others (n % size_of others) in omega arith
 
-got_number : (ns : List ℤ) (i : ℕ) → get_or ns i (pos 0) ≡ number_at ns i
-got_number [] i = refl
-got_number (n ∷ ns) zero = refl
-got_number (n ∷ ns) (suc i) = got_number ns i
+got_value : (values : List ApiValue) (i : ℕ) (d : ApiValue) → i < length values → get_or values i d ≡ value_at values i
+got_value [] i d below = absurd (omega arith)
+got_value (v ∷ values) zero d below = refl
+got_value (v ∷ values) (suc i) d below = got_value values i d (omega arith)
 
--- ---- the first number of a choice, and those after it
+-- ---- the first value of a choice, and those after it
 
-module _ (lists rest : List (List ℤ)) (list : List ℤ) (number count size : ℕ) (front : lists ≡ list ∷ rest) (counted : count ≡ size_of lists) (there : number < count) (sized : size ≡ length list) where
+module _ (lists rest : List (List ApiValue)) (list : List ApiValue) (number count size : ℕ) (front : lists ≡ list ∷ rest) (counted : count ≡ size_of lists) (there : number < count) (sized : size ≡ length list) where
   parts : IsSplit number (length list) (size_of rest)
   parts = split number (length list) (size_of rest) (subst (λ (n : ℕ). number < n) (counted ∙ ap size_of front) there)
 
@@ -122,8 +123,8 @@ module _ (lists rest : List (List ℤ)) (list : List ℤ) (number count size : �
   pub inside : number / (count / size) < length list
   inside = subst (λ (n : ℕ). number / n < length list) (sym count_left) parts.at
 
-  pub told : chosen lists number ≡ get_or list (number / (count / size)) (pos 0) ∷ chosen rest (number % (count / size))
-  told =
-      ap (λ (ls : List (List ℤ)). chosen ls number) front
-      ∙ ap (λ (n : ℤ). n ∷ chosen rest (number % size_of rest)) (sym (got_number list (number / size_of rest)))
-      ∙ ap (λ (n : ℕ). get_or list (number / n) (pos 0) ∷ chosen rest (number % n)) (sym count_left)
+  pub told : (d : ApiValue) → chosen lists number ≡ get_or list (number / (count / size)) d ∷ chosen rest (number % (count / size))
+  told d =
+      ap (λ (ls : List (List ApiValue)). chosen ls number) front
+      ∙ ap (λ (v : ApiValue). v ∷ chosen rest (number % size_of rest)) (sym (got_value list (number / size_of rest) d parts.at))
+      ∙ ap (λ (n : ℕ). get_or list (number / n) d ∷ chosen rest (number % n)) (sym count_left)

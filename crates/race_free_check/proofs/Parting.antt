@@ -198,4 +198,5 @@ module _ (policy : Policy) (sound : IsPolicy policy) where
         sym (ap (is_broken policy point.state point.first) m.so) ∙ ap not turned
 
   pub apart_unbroken : (trial : Trial) → AreClausesOf policy trial → is_apart policy trial ≡ true → broken_in policy trial ≡ None
+  unfolding broken_in
   apart_unbroken trial clauses apart = none_where (breaks policy) (points policy trial) (passes_apart trial clauses apart)

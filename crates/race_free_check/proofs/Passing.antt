@@ -3,6 +3,7 @@ use Rattle.std.proofs.Common.{◌≡◌, inl, ℕ, zero, suc, ◌+◌, ℤ, true
 use Rattle.std.specs.Prelude.{is_some, option_and_then, slice_get}
 use Rattle.std.proofs.lemmas.Bool.{false≢true}
 use Rattle.std.specs.List.{enumerate_from}
+use Rattle.std.specs.Option.{option_map_or}
 use Rattle.api_listing.specs.declared.events.ApiValue.{ApiValue}
 use Rattle.api_listing.specs.declared.events.ApiValue.TheVariants as api
 use Rattle.conspec_tree.specs.declared.types.Base.TheVariants as bases
@@ -12,7 +13,7 @@ use Rattle.conspec_automaton.specs.declared.policy.Clause.{Clause}
 use Rattle.conspec_tree.specs.Kinds.{number_range, passed_range, is_number}
 use Rattle.conspec_automaton.specs.Events.{IsNumberOf}
 use Rattle.conspec_automaton.specs.Next.{number_in}
-use Rattle.conspec_automaton.specs.Points.{arguments_at, constants_of, points_between, results_of, values_in}
+use Rattle.conspec_automaton.specs.Points.{Argument, Result, constants_of, points_at, points_between, values_in}
 use Rattle.race_free_check.proofs.EachChoice.{Choice}
 use Rattle.race_free_check.proofs.Members.{Among, Has, in_map}
 use Rattle.race_free_check.proofs.Nearest.{point_between}
@@ -75,7 +76,7 @@ module _ (clause : Clause) where
   argument_constants i = constants_of (bases.Arg i) (clause ∷ [])
 
   abbrev pub tried_from : ℕ → List Kind → List (List ApiValue)
-  tried_from n args = map (λ (a : ℕ × Kind). arguments_at clause a.0 a.1) (enumerate_from n args)
+  tried_from n args = map (λ (a : ℕ × Kind). points_at (clause ∷ []) (Argument a.0 a.1)) (enumerate_from n args)
 
   module _ (given : List ApiValue) where
     -- Where a number is asked, one is given; the first of the kinds has the number n.
@@ -92,10 +93,11 @@ module _ (clause : Clause) where
     TriesArgument n kind tried = NumbersOf (passed_range kind) (argument_constants n) (slice_get given n) (Some tried)
 
     pub try_all : (args : List Kind) (n : ℕ) → GivesFrom n args → Tried n args
+    unfolding points_at
     try_all [] n gives = record { values = []; choice = tt; tries = λ j k kind e there. absurd cc }
     try_all (kind ∷ args) n gives =
         by (try_value (slice_get given n) (passed_range kind) (argument_constants n) (gives 0 n kind (omega arith) refl)) (try_all args (n + 1) (λ j k kind e there. gives (suc j) k kind (omega arith) there)) where
-          tries : (here : Among (arguments_at clause n kind) (TriesArgument n kind)) (rest : Tried (n + 1) args) (j k : ℕ) (asked : Kind) → k ≡ n + j → slice_get (kind ∷ args) j ≡ Some asked
+          tries : (here : Among (points_at (clause ∷ []) (Argument n kind)) (TriesArgument n kind)) (rest : Tried (n + 1) args) (j k : ℕ) (asked : Kind) → k ≡ n + j → slice_get (kind ∷ args) j ≡ Some asked
               → NumbersOf (passed_range asked) (argument_constants k) (slice_get given k) (slice_get (here.item ∷ rest.values) j)
           tries here rest zero k asked e there =
               let same : n ≡ k = omega arith in
@@ -104,7 +106,7 @@ module _ (clause : Clause) where
               (subst (λ (q : Kind). TriesArgument n q here.item) kind_is here.so)
           tries here rest (suc j) k asked e there = rest.tries j k asked (omega arith) there
 
-          by : Among (arguments_at clause n kind) (TriesArgument n kind) → Tried (n + 1) args → Tried n (kind ∷ args)
+          by : Among (points_at (clause ∷ []) (Argument n kind)) (TriesArgument n kind) → Tried (n + 1) args → Tried n (kind ∷ args)
           by here rest = record { values = here.item ∷ rest.values; choice = (here.there, rest.choice); tries = tries here rest }
 
 -- ---- results
@@ -113,16 +115,26 @@ module _ (clause : Clause) where
   abbrev pub result_constants : List ℤ
   result_constants = constants_of bases.Result (clause ∷ [])
 
-  -- The result, where it is a number, is tried as one that is alike.
-  abbrev TriesResult : Option ApiValue → Option Kind → Option ApiValue → Type 0
-  TriesResult given asked tried = (kind : Kind) → asked ≡ Some kind → NumbersOf (number_range kind) result_constants given tried
+  abbrev pub tried_results : Option Kind → List (List ApiValue)
+  tried_results asked = option_map_or (λ kind. points_at (clause ∷ []) (Result kind) ∷ []) asked []
 
-  pub try_result : (given : Option ApiValue) (asked : Option Kind) → ((kind : Kind) → asked ≡ Some kind → IsNumberOf (number_range kind) given) → Among (results_of clause asked) (TriesResult given asked)
-  try_result given None fits = record { item = None; there = inl refl; so = λ kind e. absurd cc }
-  try_result given (Some first) fits =
-      let t = try_value given (number_range first) result_constants (fits first refl) in
-      record {
-        item = Some t.item;
-        there = in_map Some (values_in (number_range first) result_constants) t.item t.there;
-        so = λ kind e. let same : first ≡ kind = cc in subst (λ (q : Kind). NumbersOf (number_range q) result_constants given (Some t.item)) same t.so;
-      }
+  module _ (given : Option ApiValue) where
+    -- The result, where it is a number, is tried as one that is alike.
+    abbrev TriesResult : Option Kind → Option ApiValue → Type 0
+    TriesResult asked tried = (kind : Kind) → asked ≡ Some kind → NumbersOf (number_range kind) result_constants given tried
+
+    pub record TriedResult (asked : Option Kind) : Type 0 where
+      pub values : List ApiValue
+      pub choice : Choice (tried_results asked) values
+      pub tries : TriesResult asked (slice_get values 0)
+
+    pub try_result : (asked : Option Kind) → ((kind : Kind) → asked ≡ Some kind → IsNumberOf (number_range kind) given) → TriedResult asked
+    unfolding points_at
+    try_result None fits = record { values = []; choice = tt; tries = λ kind e. absurd cc }
+    try_result (Some first) fits =
+        let t = try_value given (number_range first) result_constants (fits first refl) in
+        record {
+          values = t.item ∷ [];
+          choice = (t.there, tt);
+          tries = λ kind e. let same : first ≡ kind = cc in subst (λ (q : Kind). NumbersOf (number_range q) result_constants given (Some t.item)) same t.so;
+        }

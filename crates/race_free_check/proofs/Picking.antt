@@ -11,7 +11,7 @@ use Rattle.conspec_tree.specs.declared.types.Var.{Var}
 use Rattle.conspec_tree.specs.Tree.{greatest}
 use Rattle.conspec_automaton.specs.declared.policy.Clause.{Clause}
 use Rattle.conspec_automaton.specs.Next.{Values}
-use Rattle.conspec_automaton.specs.Points.{is_named, named_points, near, points_of, thresholds, updates_in}
+use Rattle.conspec_automaton.specs.Points.{is_named, named_points, near, variable_numbers, thresholds, updates_in}
 use Rattle.conspec_automaton.specs.Range.{are_in_range, is_in_range}
 use Rattle.race_free_check.proofs.EachChoice.{Choice}
 use Rattle.race_free_check.proofs.Members.{Among, Has}
@@ -67,7 +67,7 @@ module _ (maxint : ℤ) (cs : List Clause) (us vs : List Update) where
         let g = unnamed_stays vs i e (λ u h. inside u (inr h)) in
         ap (λ (m : Move). moved m x) (f ∙ sym g)
 
-    pick : (i : ℕ) (v : Var) (x : ℤ) → is_in_range maxint v x ≡ true → Among (points_of maxint cs i v) (Stands i x)
+    pick : (i : ℕ) (v : Var) (x : ℤ) → is_in_range maxint v x ≡ true → Among (variable_numbers maxint cs i v) (Stands i x)
     pick i v x r = by (is_named i cs) refl where
       by : (b : Bool) → is_named i cs ≡ b → Among (if b then named_points maxint i v.is_bool cs else v.first ∷ []) (Stands i x)
       by true e = let w = within (pos 0) (greatest maxint v.is_bool) x r in pick_named i v.is_bool x w.least w.most
@@ -76,7 +76,7 @@ module _ (maxint : ℤ) (cs : List Clause) (us vs : List Update) where
     -- ---- all variables
 
     abbrev choices : ℕ → List Var → List (List ℤ)
-    choices n vars = map (λ (v : ℕ × Var). points_of maxint cs v.0 v.1) (enumerate_from n vars)
+    choices n vars = map (λ (v : ℕ × Var). variable_numbers maxint cs v.0 v.1) (enumerate_from n vars)
 
     -- a choice of points that stand for the values, the first variable having the number n
     pub record Picked (n : ℕ) (vars : List Var) (s : Values) : Type 0 where
@@ -89,7 +89,7 @@ module _ (maxint : ℤ) (cs : List Clause) (us vs : List Update) where
     pick_all [] n (x ∷ s) r = absurd (false≢true r)
     pick_all (v ∷ vars) n [] r = absurd (false≢true r)
     pick_all (v ∷ vars) n (x ∷ s) r = by (and_parts (is_in_range maxint v x) (are_in_range maxint vars s) r) (pick_all vars (n + 1) s) where
-      joined : (here : Among (points_of maxint cs n v) (Stands n x)) (rest : Picked (n + 1) vars s) → (j k : ℕ) → k ≡ n + j → Meets (Stands k) (slice_get (x ∷ s) j) (slice_get (here.item ∷ rest.point) j)
+      joined : (here : Among (variable_numbers maxint cs n v) (Stands n x)) (rest : Picked (n + 1) vars s) → (j k : ℕ) → k ≡ n + j → Meets (Stands k) (slice_get (x ∷ s) j) (slice_get (here.item ∷ rest.point) j)
       joined here rest zero k e = let same : n ≡ k = omega arith in subst (λ (i : ℕ). Stands i x here.item) same here.so
       joined here rest (suc j) k e = rest.stands j k (omega arith)
 

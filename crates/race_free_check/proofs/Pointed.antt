@@ -7,7 +7,7 @@ use Rattle.std.specs.List.{AllByRecursion, filter_map}
 use Rattle.std.proofs.lemmas.Bool.{true≢false}
 use Rattle.conspec_tree.specs.declared.types.Var.{Var}
 use Rattle.conspec_automaton.specs.declared.policy.Clause.{Clause}
-use Rattle.conspec_automaton.specs.Points.{added_to, ascending, differences, is_named, marks, named_points, near, points_between, points_of, shifts, sums, thresholds, updates_in}
+use Rattle.conspec_automaton.specs.Points.{added_to, ascending, differences, is_named, marks, named_points, near, points_between, variable_numbers, shifts, sums, thresholds, updates_in}
 use Rattle.race_free_check.specs.Small.{HasSame, has}
 use Rattle.race_free_check.proofs.Bounded.{all_pushed, near_fits}
 use Rattle.race_free_check.proofs.HavingSame.{differences_same, joined_has, near_same, sums_same}
@@ -78,5 +78,5 @@ module _ (low high : ℤ) (constants found first second points : List ℤ) (besi
       subst (λ (ks : List ℤ). AllByRecursion (FitsSigned w32) ks) (sym order) (ascending_all (FitsSigned w32) second most_all)
 
 -- a named int variable has the points that are named
-pub points_named : (maxint : ℤ) (i : ℕ) (cs : List Clause) (v : Var) (points : List ℤ) → true ≡ is_named i cs → v.is_bool ≡ false → points ≡ named_points maxint i false cs → points ≡ points_of maxint cs i v
+pub points_named : (maxint : ℤ) (i : ℕ) (cs : List Clause) (v : Var) (points : List ℤ) → true ≡ is_named i cs → v.is_bool ≡ false → points ≡ named_points maxint i false cs → points ≡ variable_numbers maxint cs i v
 points_named maxint i cs v points named int is = rw (sym named, int) is

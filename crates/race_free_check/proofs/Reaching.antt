@@ -1,14 +1,15 @@
 -- What a search has reached by a number: the state, the first event or the second one, of what is searched.
-use Rattle.std.proofs.Common.{◌≡◌, ℕ, ◌<◌, ◌≤◌, ℤ, Bool, true, List, length, Option, Some, sym, ap, subst, ◌∙◌}
+use Rattle.std.proofs.Common.{◌≡◌, ℕ, ◌<◌, ◌≤◌, Bool, true, List, length, Option, Some, sym, ap, subst, ◌∙◌}
 use Rattle.std.specs.Prelude.{option_map, slice_get}
+use Rattle.api_listing.specs.declared.events.ApiValue.{ApiValue}
 use Rattle.api_listing.specs.declared.events.Event.{Event}
 use Rattle.conspec_automaton.specs.declared.policy.Clause.{Clause}
 use Rattle.conspec_automaton.specs.Next.{Values}
-use Rattle.conspec_automaton.specs.Points.{choices_of, events_of, size_of, states_of}
+use Rattle.conspec_automaton.specs.Points.{choices_of, events_of, made, size_of, state_of, states_of}
 use Rattle.conspec_automaton.specs.Range.{in_range}
 use Rattle.conspec_automaton.specs.Sound.{IsPolicy}
 use Rattle.conspec_automaton.specs.Trying.{Placed, breaks, clauses_of, seconds_of}
-use Rattle.race_free_check.specs.Choosing.{IsMade, chosen, made, numbers_of}
+use Rattle.race_free_check.specs.Choosing.{IsMade, chosen, event_choices}
 use Rattle.race_free_check.specs.Searching.{IsSecond, Searched}
 use Rattle.race_free_check.proofs.Found.{event_there, events_length, point_of, second_is, second_of, seconds_of_length, state_there, states_length}
 use Rattle.race_free_check.proofs.Fitting.{state_in_range}
@@ -31,17 +32,17 @@ pub record ReachedSecond (s : Searched) (number : ℕ) (event : Option Event) : 
 module _ (view s : Searched) (seen : view ≡ s) where
   -- ---- states
 
-  module _ (lists : List (List ℤ)) (is : lists ≡ choices_of view.policy (clauses_of view.trial)) where
+  module _ (lists : List (List ApiValue)) (is : lists ≡ choices_of view.policy (clauses_of view.trial)) where
     lists_are : lists ≡ choices_of s.policy (clauses_of s.trial)
     lists_are = is ∙ ap (λ (t : Searched). choices_of t.policy (clauses_of t.trial)) seen
 
-    pub few_lists : (taken : List (List ℤ)) → taken ≡ lists → IsPolicy s.policy → length taken ≤ 16
-    few_lists taken same sound = subst (λ (ls : List (List ℤ)). length ls ≤ 16) (sym (same ∙ lists_are)) (few_choices s.policy (clauses_of s.trial) sound)
+    pub few_lists : (taken : List (List ApiValue)) → taken ≡ lists → IsPolicy s.policy → length taken ≤ 16
+    few_lists taken same sound = subst (λ (ls : List (List ApiValue)). length ls ≤ 16) (sym (same ∙ lists_are)) (few_choices s.policy (clauses_of s.trial) sound)
 
-    pub state_reached : (taken : List (List ℤ)) (count number : ℕ) (state : Values) → taken ≡ lists → count ≡ size_of lists → number < count → state ≡ chosen taken number → ReachedState s number state
+    pub state_reached : (taken : List (List ApiValue)) (count number : ℕ) (state : Values) → taken ≡ lists → count ≡ size_of lists → number < count → state ≡ state_of (chosen taken number) → ReachedState s number state
     state_reached taken count number state same counted below e =
         let inside = subst (λ (n : ℕ). number < n) (counted ∙ ap size_of lists_are) below in
-        let state_is = e ∙ ap (λ (ls : List (List ℤ)). chosen ls number) (same ∙ lists_are) in
+        let state_is = e ∙ ap (λ (ls : List (List ApiValue)). state_of (chosen ls number)) (same ∙ lists_are) in
         let there = state_there s.policy (clauses_of s.trial) number inside ∙ ap (λ (values : Values). Some values) (sym state_is) in
         record {
           there = there;
@@ -57,17 +58,17 @@ module _ (view s : Searched) (seen : view ≡ s) where
     clause_is : clause ≡ s.trial.first.1
     clause_is = is ∙ ap (λ (t : Searched). t.trial.first.1) seen
 
-    pub first_reached : (count number : ℕ) (event : Event) → count ≡ size_of (numbers_of clause) → number < count → event ≡ made clause (chosen (numbers_of clause) number) → ReachedFirst s number event
+    pub first_reached : (count number : ℕ) (event : Event) → count ≡ size_of (event_choices clause) → number < count → event ≡ made clause (chosen (event_choices clause) number) → ReachedFirst s number event
     first_reached count number event counted below e =
-        let inside = subst (λ (n : ℕ). number < n) (counted ∙ ap (λ (d : Clause). size_of (numbers_of d)) clause_is) below in
-        let event_is = e ∙ ap (λ (d : Clause). made d (chosen (numbers_of d) number)) clause_is in
+        let inside = subst (λ (n : ℕ). number < n) (counted ∙ ap (λ (d : Clause). size_of (event_choices d)) clause_is) below in
+        let event_is = e ∙ ap (λ (d : Clause). made d (chosen (event_choices d) number)) clause_is in
         record {
           there = event_there s.trial.first.1 number inside ∙ ap (λ (f : Event). Some f) (sym event_is);
-          made = (chosen (numbers_of s.trial.first.1) number, event_is);
+          made = (chosen (event_choices s.trial.first.1) number, event_is);
         }
 
-    pub firsts_done : (count number : ℕ) → count ≡ size_of (numbers_of clause) → count ≤ number → length (events_of s.trial.first.1) ≤ number
-    firsts_done count number counted all = subst (λ (n : ℕ). n ≤ number) (counted ∙ ap (λ (d : Clause). size_of (numbers_of d)) clause_is ∙ sym (events_length s.trial.first.1)) all
+    pub firsts_done : (count number : ℕ) → count ≡ size_of (event_choices clause) → count ≤ number → length (events_of s.trial.first.1) ≤ number
+    firsts_done count number counted all = subst (λ (n : ℕ). n ≤ number) (counted ∙ ap (λ (d : Clause). size_of (event_choices d)) clause_is ∙ sym (events_length s.trial.first.1)) all
 
   -- ---- second events
 
@@ -75,14 +76,14 @@ module _ (view s : Searched) (seen : view ≡ s) where
     second_clause : option_map (λ (p : Placed). p.1) s.trial.second ≡ Some clause
     second_clause = sym (are ∙ ap (λ (t : Searched). option_map (λ (p : Placed). p.1) t.trial.second) seen) ∙ is
 
-    pub second_reached : (count number : ℕ) (event : Option Event) → count ≡ size_of (numbers_of clause) → number < count → event ≡ Some (made clause (chosen (numbers_of clause) number)) → ReachedSecond s number event
+    pub second_reached : (count number : ℕ) (event : Option Event) → count ≡ size_of (event_choices clause) → number < count → event ≡ Some (made clause (chosen (event_choices clause) number)) → ReachedSecond s number event
     second_reached count number event counted below e =
         record {
           there = second_of s.trial.second clause second_clause number (subst (λ (n : ℕ). number < n) counted below) ∙ ap (λ (o : Option Event). Some o) (sym e);
-          made = second_is s.trial.second clause second_clause event (chosen (numbers_of clause) number) e;
+          made = second_is s.trial.second clause second_clause event (chosen (event_choices clause) number) e;
         }
 
-    pub seconds_done : (count number : ℕ) → count ≡ size_of (numbers_of clause) → count ≤ number → length (seconds_of s.trial.second) ≤ number
+    pub seconds_done : (count number : ℕ) → count ≡ size_of (event_choices clause) → count ≤ number → length (seconds_of s.trial.second) ≤ number
     seconds_done count number counted all = subst (λ (n : ℕ). n ≤ number) (counted ∙ sym (seconds_of_length s.trial.second clause second_clause)) all
 
   -- what breaks the condition of the one breaks that of the other

@@ -7,7 +7,7 @@ use Rattle.std.proofs.lemmas.Bool.{le-leb, leb-false, leb-true}
 use Rattle.std.proofs.lemmas.Int.{ints}
 use Rattle.conspec_tree.specs.declared.types.Var.{Var}
 use Rattle.conspec_automaton.specs.declared.policy.Clause.{Clause}
-use Rattle.conspec_automaton.specs.Points.{ascending, is_named, named_points, near, placed, points_between, points_of, thresholds}
+use Rattle.conspec_automaton.specs.Points.{ascending, is_named, named_points, near, placed, points_between, variable_numbers, thresholds}
 use Rattle.conspec_automaton.specs.Trying.{capped, most}
 
 -- ---- capped products
@@ -82,7 +82,7 @@ module _ (maxint : ℤ) (cs : List Clause) (positive : pos 1 ≤ℤ maxint) wher
   some_named i true = omega arith
   some_named i false = let e : int_le (pos 0) maxint ≡ true = grind (arith, ints) in some_in_order (near (pos 0) maxint (thresholds maxint i cs)) (rw e (omega arith))
 
-  pub some_points : (i : ℕ) (v : Var) → 0 < length (points_of maxint cs i v)
+  pub some_points : (i : ℕ) (v : Var) → 0 < length (variable_numbers maxint cs i v)
   some_points i v = by (is_named i cs) where
     by : (b : Bool) → 0 < length (if b then named_points maxint i v.is_bool cs else v.first ∷ [])
     by true = some_named i v.is_bool

@@ -18,7 +18,7 @@ abbrev pub is_wanted : Bool → Phase → Bool
 is_wanted of_calls phase = if of_calls then is_of_calls phase else not (is_of_calls phase)
 
 -- the first point of the trial that breaks its condition
-abbrev pub broken_in : Policy → Trial → Option Point
+unfoldable pub broken_in : Policy → Trial → Option Point
 broken_in policy trial = find (breaks policy) (points policy trial)
 
 abbrev pub shown : Trial → Point → RaceVerdict

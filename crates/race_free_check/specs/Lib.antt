@@ -1,4 +1,5 @@
 pub mod Apart
+pub mod Borrowed
 pub mod Choosing
 pub mod Deciding
 pub mod Laws

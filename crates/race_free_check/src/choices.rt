@@ -1,15 +1,16 @@
-//! Lists of numbers, of each of which one is chosen.
+//! Lists of values, of each of which one is chosen, by its place.
 
 ghost use Rattle.std.specs.Prelude.{◌≡◌, ◌<◌, ◌∷◌, [], MatchOption};
 ghost use Rattle.conspec_automaton.specs.Points.{size_of};
 ghost use Rattle.conspec_automaton.specs.Trying.{capped};
 ghost use Rattle.race_free_check.specs.Choosing.{chosen};
 
+use api_listing::ApiValue;
 use mon_base::List;
 use std::marker::Model;
 
 /// How many choices there are; no more than 64 bits count.
-pub fn count_of(lists: &[List<i32>]) -> u64
+pub fn count_of(lists: &[List<ApiValue>]) -> u64
     ensures { result ≡ capped (size_of lists.now) }
 {
     let mut count: u64 = 1;
@@ -21,21 +22,22 @@ pub fn count_of(lists: &[List<i32>]) -> u64
     count
 }
 
-/// A choice of one number of each list, which are told one after the other. Choices are counted from 0, and the last list
-/// changes first. A contract sees the numbers that are still to be told.
+/// A choice of one value of each list, which are told one after the other. Choices are counted from 0, and the last list
+/// changes first. A contract sees the values that are still to be told.
 #[derive(Drop)]
 pub struct Choosing<'a> {
-    left: &'a [List<i32>],
+    left: &'a [List<ApiValue>],
     number: u64,
     count: u64,
 }
 
 impl<'a> Model for Choosing<'a> {
-    ghost use Rattle.std.specs.Prelude.{◌≡◌, ◌<◌, ℤ, List};
+    ghost use Rattle.std.specs.Prelude.{◌≡◌, ◌<◌, List};
+    ghost use Rattle.api_listing.specs.declared.events.ApiValue.{ApiValue};
     ghost use Rattle.conspec_automaton.specs.Points.{size_of};
     ghost use Rattle.race_free_check.specs.Choosing.{chosen};
 
-    ghost Value = { List ℤ };
+    ghost Value = { List ApiValue };
 
     ghost view = { λ c. chosen c.left.now c.number };
 
@@ -44,7 +46,7 @@ impl<'a> Model for Choosing<'a> {
 
 impl<'a> Choosing<'a> {
     /// The choice of this number, of so many.
-    pub fn new(lists: &'a [List<i32>], number: u64, count: u64) -> Choosing<'a>
+    pub fn new(lists: &'a [List<ApiValue>], number: u64, count: u64) -> Choosing<'a>
         requires count { count ≡ size_of lists.now }
         requires there { number < count }
         ensures { result ≡ chosen lists.now number }
@@ -56,9 +58,9 @@ impl<'a> Choosing<'a> {
         }
     }
 
-    /// The number that is chosen of the next list.
-    pub fn next(&mut self) -> Option<i32>
-        ensures { MatchOption result ((self.old ≡ []) × (self.new ≡ [])) (λ n. self.old ≡ n ∷ self.new) }
+    /// The value that is chosen of the next list.
+    pub fn next(&mut self) -> Option<&'a ApiValue>
+        ensures { MatchOption result ((self.old ≡ []) × (self.new ≡ [])) (λ value. self.old ≡ value.now ∷ self.new) }
     {
         let [list, rest @ ..] = self.left else {
             return None;
@@ -68,6 +70,6 @@ impl<'a> Choosing<'a> {
         self.left = rest;
         self.number %= count;
         self.count = count;
-        Some(list.as_slice()[at as usize])
+        Some(&list.as_slice()[at as usize])
     }
 }

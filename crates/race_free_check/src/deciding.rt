@@ -119,7 +119,7 @@ fn point_count(alloc: Global, policy: &Policy, trial: &TrialRef) -> Result<u64, 
     requires clauses { AreClausesOf policy.now trial.now }
     ensures { IfOk result (λ count. count ≡ point_count policy.now trial.now) }
 {
-    let states = states_count(alloc, policy, trial)?;
+    let states = states_count(alloc, policy, &trial.clauses())?;
     let firsts = events_count(alloc, trial.first.clause)?;
     let seconds = match &trial.second {
         Some(second) => events_count(alloc, second.clause)?,

@@ -1,25 +1,25 @@
 //! The events at which a clause is tried.
 
-ghost use Rattle.std.specs.Prelude.{◌≡◌, ◌≤◌, ◌∷◌, [], List as Items, None, length, IfOk};
-ghost use Rattle.conspec_tree.specs.declared.types.Kind.{Kind};
-ghost use Rattle.conspec_tree.specs.declared.types.Phase.TheVariants as phases;
-ghost use Rattle.conspec_automaton.specs.Points.{events_count};
+ghost use Rattle.std.specs.Prelude.{◌≡◌, ◌≤◌, [], length, slice_get, IfOk, OnOk};
+ghost use Rattle.conspec_automaton.specs.Points.{arguments_of, events_count, made, results_of};
 ghost use Rattle.conspec_automaton.specs.Trying.{capped};
-ghost use Rattle.race_free_check.specs.Choosing.{IsMade, made, numbers_in, numbers_of, result_as, value_as, values_as};
+ghost use Rattle.conspec_tree.specs.declared.types.Phase.TheVariants as phases;
+ghost use Rattle.race_free_check.specs.Choosing.{event_choices, with_values};
 
 use crate::choices::Choosing;
-use crate::points::{argument_points, result_points};
+use crate::clauses::Clauses;
+use crate::points::{BaseRef, points_at};
 use api_listing::{ApiValue, Event};
 use conspec_automaton::Clause;
-use conspec_tree::{Kind, Phase, number_range};
+use conspec_tree::Phase;
 use mon_base::{List, NoMemory};
 use std::alloc::Global;
 use std::mem::replace;
 
-/// The numbers of which an event of the clause has one each: its arguments, or its result. An object counts as 0.
-pub fn numbers_of(alloc: Global, clause: &Clause) -> Result<List<List<i32>>, NoMemory>
+/// The points of each argument of the clause, of its result, or of nothing.
+pub fn event_choices(alloc: Global, clause: &Clause) -> Result<List<List<ApiValue>>, NoMemory>
     requires { length clause.now.args ≤ 255 }
-    ensures { IfOk result (λ lists. lists ≡ numbers_of clause.now) }
+    ensures { IfOk result (λ lists. lists ≡ event_choices clause.now) }
 {
     match clause.phase {
         Phase::Before => arguments_of(alloc, clause),
@@ -28,27 +28,30 @@ pub fn numbers_of(alloc: Global, clause: &Clause) -> Result<List<List<i32>>, NoM
     }
 }
 
-fn arguments_of(alloc: Global, clause: &Clause) -> Result<List<List<i32>>, NoMemory>
+fn arguments_of(alloc: Global, clause: &Clause) -> Result<List<List<ApiValue>>, NoMemory>
     requires { length clause.now.args ≤ 255 }
-    ensures { IfOk result (λ lists. lists ≡ numbers_in clause.now phases.Before) }
+    ensures { IfOk result (λ lists. lists ≡ arguments_of clause.now) }
 {
+    let clauses = Clauses::alone(clause);
     let mut lists = List::new(alloc);
     let mut place: u32 = 0;
     let mut left = clause.args.as_slice();
     while let [kind, rest @ ..] = left {
-        lists.push(argument_points(alloc, clause, place, *kind)?)?;
+        let base = BaseRef::Argument { place, kind: *kind };
+        lists.push(points_at(alloc, &clauses, base)?)?;
         place += 1;
         left = rest;
     }
     Ok(lists)
 }
 
-fn results_of(alloc: Global, clause: &Clause) -> Result<List<List<i32>>, NoMemory>
-    ensures { IfOk result (λ lists. lists ≡ numbers_in clause.now phases.After) }
+fn results_of(alloc: Global, clause: &Clause) -> Result<List<List<ApiValue>>, NoMemory>
+    ensures { IfOk result (λ lists. lists ≡ results_of clause.now) }
 {
+    let clauses = Clauses::alone(clause);
     let mut lists = List::new(alloc);
     if let Some(kind) = clause.result {
-        lists.push(result_points(alloc, clause, kind)?)?;
+        lists.push(points_at(alloc, &clauses, BaseRef::Result(kind))?)?;
     }
     Ok(lists)
 }
@@ -69,11 +72,12 @@ fn arguments_count(alloc: Global, clause: &Clause) -> Result<u64, NoMemory>
     requires { length clause.now.args ≤ 255 }
     ensures { IfOk result (λ count. count ≡ capped (events_count clause.now phases.Before)) }
 {
+    let clauses = Clauses::alone(clause);
     let mut count: u64 = 1;
     let mut place: u32 = 0;
     let mut left = clause.args.as_slice();
     while let [kind, rest @ ..] = left {
-        let points = argument_points(alloc, clause, place, *kind)?;
+        let points = points_at(alloc, &clauses, BaseRef::Argument { place, kind: *kind })?;
         count = count.saturating_mul(points.len() as u64);
         place += 1;
         left = rest;
@@ -84,110 +88,81 @@ fn arguments_count(alloc: Global, clause: &Clause) -> Result<u64, NoMemory>
 fn results_count(alloc: Global, clause: &Clause) -> Result<u64, NoMemory>
     ensures { IfOk result (λ count. count ≡ capped (events_count clause.now phases.After)) }
 {
+    let clauses = Clauses::alone(clause);
     match clause.result {
-        Some(kind) => Ok(result_points(alloc, clause, kind)?.len() as u64),
+        Some(kind) => Ok(points_at(alloc, &clauses, BaseRef::Result(kind))?.len() as u64),
         None => Ok(1),
     }
 }
 
-/// An event of the clause, in which all numbers are 0.
-pub fn event_of(alloc: Global, clause: &Clause) -> Result<Event, NoMemory>
-    ensures { IfOk result (λ event. event ≡ made clause.now []) }
+/// An event of the clause, which has no values yet.
+pub fn event_of(alloc: Global, clause: &Clause) -> Event
+    ensures { result ≡ made clause.now [] }
 {
     let method = clause.method;
     match clause.phase {
-        Phase::Before => {
-            let args = zeros(alloc, clause.args.as_slice())?;
-            Ok(Event::Call {
-                thread: 0,
-                method,
-                args,
-            })
-        }
-        Phase::After => Ok(Event::Return {
+        Phase::Before => Event::Call {
             thread: 0,
             method,
-            value: result_of(clause.result, 0),
-        }),
-        Phase::Exceptional => Ok(Event::Except { thread: 0, method }),
+            args: List::new(alloc),
+        },
+        Phase::After => Event::Return {
+            thread: 0,
+            method,
+            value: None,
+        },
+        Phase::Exceptional => Event::Except { thread: 0, method },
     }
 }
 
-fn zeros(alloc: Global, kinds: &[Kind]) -> Result<List<ApiValue>, NoMemory>
-    ensures { IfOk result (λ values. values ≡ values_as kinds.now []) }
-{
-    let mut values = List::new(alloc);
-    let mut left = kinds;
-    while let [kind, rest @ ..] = left {
-        values.push(value_of(*kind, 0))?;
-        left = rest;
-    }
-    Ok(values)
-}
-
-fn result_of(kind: Option<Kind>, number: i32) -> Option<ApiValue>
-    ensures { result ≡ result_as kind (number ∷ []) }
-{
-    match kind {
-        Some(kind) => Some(value_of(kind, number)),
-        None => None,
-    }
-}
-
-/// What is passed or given as a value of the type.
-fn value_of(kind: Kind, number: i32) -> ApiValue
-    ensures { result ≡ value_as kind number }
-{
-    match number_range(kind) {
-        Some(_) => ApiValue::Int(number),
-        None => ApiValue::Null,
-    }
-}
-
-/// Gives an event of the clause the numbers of the choice. It takes no memory.
-pub fn set_numbers(alloc: Global, clause: &Clause, event: &mut Event, choice: Choosing)
-    requires { IsMade clause.now event.old }
-    ensures { event.new ≡ made clause.now choice.entry }
+/// Gives the event the values of the choice, in the place of those that it has.
+pub fn set_values(alloc: Global, event: &mut Event, choice: Choosing) -> Result<(), NoMemory>
+    ensures { OnOk result (event.new ≡ with_values event.old choice.entry) }
 {
     match event {
-        Event::Call { args, .. } => set_arguments(alloc, clause.args.as_slice(), args, choice),
-        Event::Return { value, .. } => set_result(clause.result, value, choice),
-        Event::Except { .. } => {}
+        Event::Call { args, .. } => set_arguments(alloc, args, choice),
+        Event::Return { value, .. } => set_result(alloc, value, choice),
+        Event::Except { .. } => Ok(()),
     }
 }
 
-fn set_arguments(alloc: Global, kinds: &[Kind], args: &mut List<ApiValue>, choice: Choosing)
-    requires { length args.old ≡ length kinds.now }
-    ensures { args.new ≡ values_as kinds.now choice.entry }
+/// It takes no memory for the list where there are as many arguments as before.
+fn set_arguments(alloc: Global, args: &mut List<ApiValue>, choice: Choosing) -> Result<(), NoMemory>
+    ensures { OnOk result (args.new ≡ choice.entry) }
 {
     let mut choice = choice;
     let mut values = replace(args, List::new(alloc)).into_vec();
-    let mut at = 0;
-    let mut left = kinds;
-    while let [kind, rest @ ..] = left {
-        values[at] = next_value(*kind, &mut choice);
-        at += 1;
-        left = rest;
+    values.clear();
+    while let Some(value) = choice.next() {
+        values.push(copied(alloc, value)?)?;
     }
     *args = List::from_vec(values);
+    Ok(())
 }
 
-fn set_result(kind: Option<Kind>, value: &mut Option<ApiValue>, choice: Choosing)
-    requires { kind ≡ None → value.old ≡ None }
-    ensures { value.new ≡ result_as kind choice.entry }
+fn set_result(alloc: Global, value: &mut Option<ApiValue>, choice: Choosing) -> Result<(), NoMemory>
+    ensures { OnOk result (value.new ≡ slice_get choice.entry 0) }
 {
     let mut choice = choice;
-    if let Some(kind) = kind {
-        *value = Some(next_value(kind, &mut choice));
-    }
+    *value = match choice.next() {
+        Some(chosen) => Some(copied(alloc, chosen)?),
+        None => None,
+    };
+    Ok(())
 }
 
-/// A value of the type, of the next number of the choice, or of 0 where none is left.
-fn next_value(kind: Kind, choice: &mut Choosing) -> ApiValue
-    ensures { (kinds : Items Kind) → values_as (kind ∷ kinds) choice.old ≡ result ∷ values_as kinds choice.new }
+/// An equal value. It takes memory for texts and names alone.
+fn copied(alloc: Global, value: &ApiValue) -> Result<ApiValue, NoMemory>
+    ensures { IfOk result (λ copy. copy ≡ value.now) }
 {
-    match choice.next() {
-        Some(number) => value_of(kind, number),
-        None => value_of(kind, 0),
+    match value {
+        ApiValue::Int(n) => Ok(ApiValue::Int(*n)),
+        ApiValue::Null => Ok(ApiValue::Null),
+        ApiValue::Text(text) => text.copy(alloc).map(ApiValue::Text),
+        ApiValue::Obj { class, at } => {
+            let class = class.copy(alloc)?;
+            Ok(ApiValue::Obj { class, at: *at })
+        }
+        ApiValue::Class(class) => class.copy(alloc).map(ApiValue::Class),
     }
 }

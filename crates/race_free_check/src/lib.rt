@@ -7,6 +7,7 @@
 
 mod apart;
 mod choices;
+mod clauses;
 mod deciding;
 mod events;
 mod fault;

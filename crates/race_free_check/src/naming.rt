@@ -1,4 +1,4 @@
-//! What the clauses of a trial name: constants, values, addends.
+//! What clauses name: constants, values, addends.
 
 ghost use Rattle.std.specs.Prelude.{◌≡◌, ◌==◌, ◌^◌, ◌++◌, ◌∷◌, [], OnOk};
 ghost use Rattle.std.specs.List.{cons_option, filter_map, list_any};
@@ -16,26 +16,25 @@ ghost use Rattle.conspec_automaton.specs.Points.{
   is_same,
   updates_in,
 };
-ghost use Rattle.conspec_automaton.specs.Trying.{clauses_of};
 ghost use Rattle.race_free_check.specs.Small.{AreSmall};
 
-use crate::trial::TrialRef;
+use crate::clauses::Clauses;
 use conspec_automaton::Clause;
 use conspec_tree::{Atom, Base, Update, target};
 use mon_base::NoMemory;
 
 /// Whether an atom or an update of the clauses names the variable.
-pub fn is_named(trial: &TrialRef, var: u32) -> bool
-    ensures { result ≡ is_named var (clauses_of trial.now) }
+pub fn is_named(clauses: &Clauses, var: u32) -> bool
+    ensures { result ≡ is_named var clauses.now }
 {
-    let first = trial.first.clause;
-    let Some(second) = &trial.second else {
+    let first = clauses.first;
+    let Some(second) = clauses.second else {
         return is_asked(first, var) || is_changed(first, var);
     };
     is_asked(first, var)
-        || is_asked(second.clause, var)
+        || is_asked(second, var)
         || is_changed(first, var)
-        || is_changed(second.clause, var)
+        || is_changed(second, var)
 }
 
 /// Whether an atom of the clause asks for the variable.
@@ -92,16 +91,16 @@ fn is_same(base: Base, other: Base) -> bool
 /// Adds the numbers that atoms of the clauses compare the base with.
 pub fn add_all_constants(
     numbers: &mut Vec<i64>,
-    trial: &TrialRef,
+    clauses: &Clauses,
     base: Base,
 ) -> Result<(), NoMemory>
     requires { AreSmall (2 ^ 31) numbers.old.items }
-    ensures adds { OnOk result (numbers.new.items ≡ numbers.old.items ++ constants_of base (clauses_of trial.now)) }
+    ensures adds { OnOk result (numbers.new.items ≡ numbers.old.items ++ constants_of base clauses.now) }
     ensures small { OnOk result (AreSmall (2 ^ 31) numbers.new.items) }
 {
-    add_constants(numbers, trial.first.clause, base)?;
-    match &trial.second {
-        Some(second) => add_constants(numbers, second.clause, base),
+    add_constants(numbers, clauses.first, base)?;
+    match clauses.second {
+        Some(second) => add_constants(numbers, second, base),
         None => Ok(()),
     }
 }
@@ -152,14 +151,14 @@ fn compared_with(base: Base, atom: Atom) -> Option<i32>
 }
 
 /// Adds the numbers that the clauses set the variable to.
-pub fn add_all_assigned(numbers: &mut Vec<i64>, trial: &TrialRef, var: u32) -> Result<(), NoMemory>
+pub fn add_all_assigned(numbers: &mut Vec<i64>, clauses: &Clauses, var: u32) -> Result<(), NoMemory>
     requires { AreSmall (2 ^ 31) numbers.old.items }
-    ensures adds { OnOk result (numbers.new.items ≡ numbers.old.items ++ filter_map (assigned_to var) (updates_in (clauses_of trial.now))) }
+    ensures adds { OnOk result (numbers.new.items ≡ numbers.old.items ++ filter_map (assigned_to var) (updates_in clauses.now)) }
     ensures small { OnOk result (AreSmall (2 ^ 31) numbers.new.items) }
 {
-    add_assigned(numbers, trial.first.clause, var)?;
-    match &trial.second {
-        Some(second) => add_assigned(numbers, second.clause, var),
+    add_assigned(numbers, clauses.first, var)?;
+    match clauses.second {
+        Some(second) => add_assigned(numbers, second, var),
         None => Ok(()),
     }
 }
@@ -201,14 +200,14 @@ fn assigned_to(var: u32, update: Update) -> Option<i32>
 }
 
 /// Adds the numbers that the clauses add to the variable.
-pub fn add_all_addends(numbers: &mut Vec<i64>, trial: &TrialRef, var: u32) -> Result<(), NoMemory>
+pub fn add_all_addends(numbers: &mut Vec<i64>, clauses: &Clauses, var: u32) -> Result<(), NoMemory>
     requires { AreSmall (2 ^ 31) numbers.old.items }
-    ensures adds { OnOk result (numbers.new.items ≡ numbers.old.items ++ filter_map (added_to var) (updates_in (clauses_of trial.now))) }
+    ensures adds { OnOk result (numbers.new.items ≡ numbers.old.items ++ filter_map (added_to var) (updates_in clauses.now)) }
     ensures small { OnOk result (AreSmall (2 ^ 31) numbers.new.items) }
 {
-    add_addends(numbers, trial.first.clause, var)?;
-    match &trial.second {
-        Some(second) => add_addends(numbers, second.clause, var),
+    add_addends(numbers, clauses.first, var)?;
+    match clauses.second {
+        Some(second) => add_addends(numbers, second, var),
         None => Ok(()),
     }
 }

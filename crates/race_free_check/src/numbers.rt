@@ -3,10 +3,12 @@
 ghost use Rattle.std.specs.Prelude.{◌≡◌, ℕ, ◌^◌, ◌+ℤ◌, ◌-ℤ◌, ◌++◌, ◌∷◌, [], map, filter, FitsSigned, IfOk, OnOk};
 ghost use Rattle.std.specs.Int.{w32};
 ghost use Rattle.std.specs.List.{AllByRecursion};
+ghost use Rattle.api_listing.specs.declared.events.ApiValue.TheVariants as api;
 ghost use Rattle.conspec_automaton.specs.Points.{ascending, differences, near, sums};
 ghost use Rattle.conspec_automaton.specs.Range.{is_between};
 ghost use Rattle.race_free_check.specs.Small.{AreSmall, IsSmall};
 
+use api_listing::ApiValue;
 use mon_base::{List, NoMemory};
 use std::alloc::Global;
 
@@ -101,14 +103,14 @@ fn add_lessened(found: &mut Vec<i64>, mark: i64, shifts: &[i64]) -> Result<(), N
     Ok(())
 }
 
-/// The same numbers, which are of 32 bits.
-pub fn narrowed(alloc: Global, numbers: &[i64]) -> Result<List<i32>, NoMemory>
+/// The numbers, which are of 32 bits, as values.
+pub fn narrowed(alloc: Global, numbers: &[i64]) -> Result<List<ApiValue>, NoMemory>
     requires { AllByRecursion (FitsSigned w32) numbers.now }
-    ensures { IfOk result (λ found. found ≡ numbers.now) }
+    ensures { IfOk result (λ found. found ≡ map api.Int numbers.now) }
 {
     let mut found = List::new(alloc);
     for number in numbers {
-        found.push(*number as i32)?;
+        found.push(ApiValue::Int(*number as i32))?;
     }
     Ok(found)
 }

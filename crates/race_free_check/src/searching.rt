@@ -1,20 +1,20 @@
-//! The search for the first point that breaks a condition. It takes no memory for a point.
+//! The search for the first point that breaks a condition. A point of numbers takes no memory.
 
-ghost use Rattle.std.specs.Prelude.{◌≡◌, ◌≢◌, ◌≤◌, ◌<◌, Some, None, true, length, IfOk, IfSome, IsTrue, MatchBool};
-ghost use Rattle.conspec_automaton.specs.Points.{events_of, size_of, states_of};
+ghost use Rattle.std.specs.Prelude.{◌≡◌, ◌≢◌, ◌≤◌, ◌<◌, Some, None, true, length, IfOk, IfSome, IsTrue, MatchBool, OnOk};
+ghost use Rattle.conspec_automaton.specs.Points.{events_of, made, size_of, states_of};
 ghost use Rattle.conspec_automaton.specs.Range.{in_range};
 ghost use Rattle.conspec_automaton.specs.Sound.{IsPolicy};
 ghost use Rattle.conspec_automaton.specs.Trying.{clauses_of, is_small, seconds_of};
-ghost use Rattle.race_free_check.specs.Choosing.{IsMade, chosen, made, numbers_of};
+ghost use Rattle.race_free_check.specs.Choosing.{IsMade, chosen, event_choices};
 ghost use Rattle.race_free_check.specs.Deciding.{AreClausesOf, broken_in};
 ghost use Rattle.race_free_check.specs.Searching.{IsSecond, broken_among, broken_in_state, broken_with};
 
 use crate::choices::{Choosing, count_of};
-use crate::events::{event_of, numbers_of, set_numbers};
+use crate::events::{event_choices, event_of, set_values};
 use crate::states::{choices_of, state_at};
 use crate::trial::TrialRef;
 use crate::trying::breaks;
-use api_listing::Event;
+use api_listing::{ApiValue, Event};
 use conspec_automaton::{Clause, Policy, State};
 use mon_base::{List, NoMemory};
 use std::alloc::Global;
@@ -36,11 +36,11 @@ impl Model for Point {
     ghost view = { λ p. record { state = p.state; first = p.first; second = p.second } };
 }
 
-/// The events of a clause that are tried, by the numbers of which each has one. A contract sees the clause.
+/// The events of a clause that are tried, by the points of which each has one of each list. A contract sees the clause.
 #[derive(Drop)]
 struct Events<'a> {
     clause: &'a Clause,
-    lists: List<List<i32>>,
+    lists: List<List<ApiValue>>,
     count: u64,
 }
 
@@ -48,19 +48,19 @@ impl<'a> Model for Events<'a> {
     ghost use Rattle.std.specs.Prelude.{◌≡◌};
     ghost use Rattle.conspec_automaton.specs.declared.policy.Clause.{Clause};
     ghost use Rattle.conspec_automaton.specs.Points.{size_of};
-    ghost use Rattle.race_free_check.specs.Choosing.{numbers_of};
+    ghost use Rattle.race_free_check.specs.Choosing.{event_choices};
 
     ghost Value = { Clause };
 
     ghost view = { λ e. e.clause.now };
 
-    ghost invariant = { λ e. (e.lists ≡ numbers_of e.clause.now) × (e.count ≡ size_of e.lists) };
+    ghost invariant = { λ e. (e.lists ≡ event_choices e.clause.now) × (e.count ≡ size_of e.lists) };
 }
 
 impl<'a> Events<'a> {
     /// How many there are.
     fn count(&self) -> u64
-        ensures { result ≡ size_of (numbers_of self.now) }
+        ensures { result ≡ size_of (event_choices self.now) }
     {
         self.count
     }
@@ -72,7 +72,7 @@ impl<'a> Events<'a> {
 struct Search<'a> {
     policy: &'a Policy,
     trial: TrialRef<'a>,
-    states: List<List<i32>>,
+    states: List<List<ApiValue>>,
     count: u64,
     firsts: Events<'a>,
     seconds: Option<Events<'a>>,
@@ -114,8 +114,8 @@ fn found_by(alloc: Global, search: &Search) -> Result<Option<Point>, NoMemory>
         (states_of search.now.policy (clauses_of search.now.trial))
         (events_of search.now.trial.first.1) (seconds_of search.now.trial.second)) }
 {
-    let mut point = point_of(alloc, &search.trial)?;
-    if breaks_somewhere(alloc, search, &mut point) {
+    let mut point = point_of(alloc, &search.trial);
+    if breaks_somewhere(alloc, search, &mut point)? {
         return Ok(Some(point));
     }
     Ok(None)
@@ -131,7 +131,7 @@ fn search_of<'a>(
     requires small { is_small policy.now trial.now ≡ true }
     ensures { IfOk result (λ search. search ≡ record { policy = policy.now; trial = trial.now }) }
 {
-    let states = choices_of(alloc, policy, trial)?;
+    let states = choices_of(alloc, policy, &trial.clauses())?;
     let count = count_of(states.as_slice());
     let firsts = events_of(alloc, trial.first.clause)?;
     let seconds = match &trial.second {
@@ -150,10 +150,10 @@ fn search_of<'a>(
 
 fn events_of<'a>(alloc: Global, clause: &'a Clause) -> Result<Events<'a>, NoMemory>
     requires args { length clause.now.args ≤ 255 }
-    requires few { size_of (numbers_of clause.now) ≤ 1000000 }
+    requires few { size_of (event_choices clause.now) ≤ 1000000 }
     ensures { IfOk result (λ events. events ≡ clause.now) }
 {
-    let lists = numbers_of(alloc, clause)?;
+    let lists = event_choices(alloc, clause)?;
     let count = count_of(lists.as_slice());
     Ok(Events {
         clause,
@@ -162,107 +162,112 @@ fn events_of<'a>(alloc: Global, clause: &'a Clause) -> Result<Events<'a>, NoMemo
     })
 }
 
-/// A point with events of the trial's clauses.
-fn point_of(alloc: Global, trial: &TrialRef) -> Result<Point, NoMemory>
-    ensures first { IfOk result (λ point. IsMade trial.now.first.1 point.first) }
-    ensures second { IfOk result (λ point. IsSecond trial.now.second point.second) }
+/// A point with events of the trial's clauses, which have no values yet.
+fn point_of(alloc: Global, trial: &TrialRef) -> Point
+    ensures first { IsMade trial.now.first.1 result.first }
+    ensures second { IsSecond trial.now.second result.second }
 {
-    let first = event_of(alloc, trial.first.clause)?;
     let second = match &trial.second {
-        Some(second) => Some(event_of(alloc, second.clause)?),
+        Some(second) => Some(event_of(alloc, second.clause)),
         None => None,
     };
-    Ok(Point {
+    Point {
         state: State::empty(),
-        first,
+        first: event_of(alloc, trial.first.clause),
         second,
-    })
+    }
 }
 
 /// Whether a point breaks the condition; then the first that does is left.
-fn breaks_somewhere(alloc: Global, search: &Search, point: &mut Point) -> bool
+fn breaks_somewhere(alloc: Global, search: &Search, point: &mut Point) -> Result<bool, NoMemory>
     requires policy { IsPolicy search.now.policy }
     requires first { IsMade search.now.trial.first.1 point.old.first }
     requires second { IsSecond search.now.trial.second point.old.second }
-    ensures { MatchBool result
+    ensures { IfOk result (λ broken. MatchBool broken
         (broken_among search.now.policy (states_of search.now.policy (clauses_of search.now.trial))
         (events_of search.now.trial.first.1) (seconds_of search.now.trial.second) ≡ Some point.new)
         (broken_among search.now.policy (states_of search.now.policy (clauses_of search.now.trial))
-        (events_of search.now.trial.first.1) (seconds_of search.now.trial.second) ≡ None) }
+        (events_of search.now.trial.first.1) (seconds_of search.now.trial.second) ≡ None)) }
 {
     for number in 0..search.count {
         point.state = state_at(search.states.as_slice(), number, search.count);
-        if breaks_in_state(alloc, search, point) {
-            return true;
+        if breaks_in_state(alloc, search, point)? {
+            return Ok(true);
         }
     }
-    false
+    Ok(false)
 }
 
 /// The same of the points in the state of this one.
-fn breaks_in_state(alloc: Global, search: &Search, point: &mut Point) -> bool
+fn breaks_in_state(alloc: Global, search: &Search, point: &mut Point) -> Result<bool, NoMemory>
     requires policy { IsPolicy search.now.policy }
     requires ranged { IsTrue (in_range search.now.policy point.old.state) }
     requires first { IsMade search.now.trial.first.1 point.old.first }
     requires second { IsSecond search.now.trial.second point.old.second }
-    ensures broken { MatchBool result
+    ensures broken { IfOk result (λ broken. MatchBool broken
         (broken_in_state search.now.policy point.old.state (events_of search.now.trial.first.1)
         (seconds_of search.now.trial.second) ≡ Some point.new)
         (broken_in_state search.now.policy point.old.state (events_of search.now.trial.first.1)
-        (seconds_of search.now.trial.second) ≡ None) }
-    ensures first { IsMade search.now.trial.first.1 point.new.first }
-    ensures second { IsSecond search.now.trial.second point.new.second }
+        (seconds_of search.now.trial.second) ≡ None)) }
+    ensures first { OnOk result (IsMade search.now.trial.first.1 point.new.first) }
+    ensures second { OnOk result (IsSecond search.now.trial.second point.new.second) }
 {
     for number in 0..search.firsts.count() {
-        set_event(alloc, &search.firsts, number, &mut point.first);
-        if breaks_with_first(alloc, search, point) {
-            return true;
+        set_event(alloc, &search.firsts, number, &mut point.first)?;
+        if breaks_with_first(alloc, search, point)? {
+            return Ok(true);
         }
     }
-    false
+    Ok(false)
 }
 
 /// The same of the points that have the state and the first event of this one.
-fn breaks_with_first(alloc: Global, search: &Search, point: &mut Point) -> bool
+fn breaks_with_first(alloc: Global, search: &Search, point: &mut Point) -> Result<bool, NoMemory>
     requires policy { IsPolicy search.now.policy }
     requires ranged { IsTrue (in_range search.now.policy point.old.state) }
     requires second { IsSecond search.now.trial.second point.old.second }
-    ensures broken { MatchBool result
+    ensures broken { IfOk result (λ broken. MatchBool broken
         (broken_with search.now.policy point.old.state point.old.first (seconds_of search.now.trial.second) ≡ Some point.new)
-        (broken_with search.now.policy point.old.state point.old.first (seconds_of search.now.trial.second) ≡ None) }
-    ensures state { point.new.state ≡ point.old.state }
-    ensures first { point.new.first ≡ point.old.first }
-    ensures second { IsSecond search.now.trial.second point.new.second }
+        (broken_with search.now.policy point.old.state point.old.first (seconds_of search.now.trial.second) ≡ None)) }
+    ensures state { OnOk result (point.new.state ≡ point.old.state) }
+    ensures first { OnOk result (point.new.first ≡ point.old.first) }
+    ensures second { OnOk result (IsSecond search.now.trial.second point.new.second) }
 {
     let Some(seconds) = &search.seconds else {
-        return breaks(search.policy, point);
+        return Ok(breaks(search.policy, point));
     };
     for number in 0..seconds.count() {
-        set_second(alloc, seconds, number, &mut point.second);
+        set_second(alloc, seconds, number, &mut point.second)?;
         if breaks(search.policy, point) {
-            return true;
+            return Ok(true);
         }
     }
-    false
+    Ok(false)
 }
 
 /// Makes the event the one of this number.
-fn set_event(alloc: Global, events: &Events, number: u64, event: &mut Event)
+fn set_event(alloc: Global, events: &Events, number: u64, event: &mut Event) -> Result<(), NoMemory>
     requires made { IsMade events.now event.old }
-    requires there { number < size_of (numbers_of events.now) }
-    ensures { event.new ≡ made events.now (chosen (numbers_of events.now) number) }
+    requires there { number < size_of (event_choices events.now) }
+    ensures { OnOk result (event.new ≡ made events.now (chosen (event_choices events.now) number)) }
 {
     let choice = Choosing::new(events.lists.as_slice(), number, events.count);
-    set_numbers(alloc, events.clause, event, choice);
+    set_values(alloc, event, choice)
 }
 
-fn set_second(alloc: Global, events: &Events, number: u64, second: &mut Option<Event>)
+fn set_second(
+    alloc: Global,
+    events: &Events,
+    number: u64,
+    second: &mut Option<Event>,
+) -> Result<(), NoMemory>
     requires made { IfSome second.old (IsMade events.now) }
     requires some { second.old ≢ None }
-    requires there { number < size_of (numbers_of events.now) }
-    ensures { second.new ≡ Some (made events.now (chosen (numbers_of events.now) number)) }
+    requires there { number < size_of (event_choices events.now) }
+    ensures { OnOk result (second.new ≡ Some (made events.now (chosen (event_choices events.now) number))) }
 {
-    if let Some(event) = second {
-        set_event(alloc, events, number, event);
+    match second {
+        Some(event) => set_event(alloc, events, number, event),
+        None => Ok(()),
     }
 }

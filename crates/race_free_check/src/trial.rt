@@ -2,9 +2,10 @@
 
 ghost use Rattle.std.specs.Prelude.{◌≡◌, ◌≤◌, ◌++◌, length, map, filter, IfOk, OnOk};
 ghost use Rattle.std.specs.List.{enumerate_from};
-ghost use Rattle.conspec_automaton.specs.Trying.{Placed, alone, both, is_of_calls, is_tested, pairs, trials};
+ghost use Rattle.conspec_automaton.specs.Trying.{Placed, alone, both, clauses_of, is_of_calls, is_tested, pairs, trials};
 ghost use Rattle.race_free_check.specs.Deciding.{is_wanted};
 
+use crate::clauses::Clauses;
 use crate::pairs::PairTest;
 use conspec_automaton::{Clause, Policy};
 use conspec_tree::Phase;
@@ -67,6 +68,20 @@ impl<'a> TrialRef<'a> {
         TrialRef {
             condition: self.condition,
             first: self.first.again(),
+            second,
+        }
+    }
+
+    /// Its clauses.
+    pub fn clauses(&self) -> Clauses<'a>
+        ensures { result ≡ clauses_of self.now }
+    {
+        let second = match &self.second {
+            Some(second) => Some(second.clause),
+            None => None,
+        };
+        Clauses {
+            first: self.first.clause,
             second,
         }
     }

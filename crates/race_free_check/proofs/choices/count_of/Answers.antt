@@ -1,4 +1,5 @@
-use Rattle.std.proofs.Common.{ℤ, ◌-◌, ◌*◌, List, length, drop, take, sym, ap, ◌∙◌, arith}
+use Rattle.std.proofs.Common.{◌-◌, ◌*◌, List, length, drop, take, sym, ap, ◌∙◌, arith}
+use Rattle.api_listing.specs.declared.events.ApiValue.{ApiValue}
 use Rattle.conspec_automaton.proofs.Ranges.{none_left}
 use Rattle.conspec_automaton.specs.Points.{size_of}
 use Rattle.conspec_automaton.specs.Trying.{capped}
@@ -18,4 +19,4 @@ loop-left-preserved c =
 pub returns : goal.returns
 returns c =
     count_done c.loop-left.count (capped (size_of c.args.lists.now)) c.loop-left.invariant.fits
-    (ap (λ (lists : List (List ℤ)). capped (c.loop-left.count * size_of lists)) (sym (none_left c.loop-left.left.now c.in_default.len_below)) ∙ c.loop-left.invariant.is)
+    (ap (λ (lists : List (List ApiValue)). capped (c.loop-left.count * size_of lists)) (sym (none_left c.loop-left.left.now c.in_default.len_below)) ∙ c.loop-left.invariant.is)

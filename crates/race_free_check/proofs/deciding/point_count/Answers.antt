@@ -1,4 +1,4 @@
-use Rattle.std.proofs.Common.{◌≡◌, ℕ, Option, sym, ap, ◌∙◌}
+use Rattle.std.proofs.Common.{◌≡◌, ℕ, List, Option, sym, ap, ◌∙◌}
 use Rattle.std.specs.Option.{option_map_or}
 use Rattle.conspec_automaton.specs.declared.policy.Clause.{Clause}
 use Rattle.conspec_automaton.specs.Points.{events_count, states_count}
@@ -20,4 +20,4 @@ returns c =
       | in-None w ↦ w.seconds-is ∙ sym (ap (λ (o : Option Placed). capped (count o)) (second ∙ w.in-None.is))
     ] in
     three_counted (states_count c.args.policy.now (clauses_of trial)) (events_count trial.first.1 trial.first.1.phase) (count trial.second) c.saturating_mul-2.result c.in_ok-states.states c.in_ok-firsts.firsts c.match-trial.seconds c.saturating_mul.result
-    c.in_ok-states.ensures firsts seconds c.saturating_mul.ensures c.saturating_mul-2.ensures
+    (c.in_ok-states.ensures ∙ ap (λ (cs : List Clause). capped (states_count c.args.policy.now cs)) c.clauses.ensures) firsts seconds c.saturating_mul.ensures c.saturating_mul-2.ensures

@@ -1,5 +1,6 @@
-use Rattle.std.proofs.Common.{◌≡◌, take}
+use Rattle.std.proofs.Common.{◌≡◌, take, map}
+use Rattle.api_listing.specs.declared.events.ApiValue.TheVariants as api
 use Rattle.race_free_check.proofs.numbers.narrowed.Given as goal
 
 abbrev pub invariant-loop-number : goal.invariant-loop-number
-invariant-loop-number l = l.found ≡ take l.number-index l.numbers
+invariant-loop-number l = l.found ≡ map api.Int (take l.number-index l.numbers)

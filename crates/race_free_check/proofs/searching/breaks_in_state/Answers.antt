@@ -7,25 +7,25 @@ use Rattle.race_free_check.proofs.Found.{found_here, not_here, nowhere}
 use Rattle.race_free_check.proofs.Reaching.{first_reached, firsts_done}
 use Rattle.race_free_check.proofs.searching.breaks_in_state.Goals as goal
 
-pub returns-then-breaks_with_first-clause-broken : goal.returns-then-breaks_with_first-clause-broken
-returns-then-breaks_with_first-clause-broken c =
+pub returns-then-branch-clause-broken : goal.returns-then-branch-clause-broken
+returns-then-branch-clause-broken c =
     let s = c.args.search.now in
     let state = ap (λ (p : Point). p.state) c.point.view_is ∙ c.loop-number.invariant.state in
-    let reached = first_reached _ s c.search.view_is c.search.inside.firsts c.search.invariant.2 c.count-number-end.result c.loop-number.number c.set_event.new.event c.count-number-end.ensures c.loop-number-test.true c.set_event.ensures in
-    let found = ap (λ (values : Values). broken_with s.policy values c.set_event.new.event (seconds_of s.trial.second)) (sym state) ∙ c.if-breaks_with_first.ensures.broken in
+    let reached = first_reached _ s c.search.view_is c.search.inside.firsts c.search.invariant.2 c.count-number-end.result c.loop-number.number c.set_event.new.event c.count-number-end.ensures c.loop-number-test.true c.in_ok-set_event.ensures in
+    let found = ap (λ (values : Values). broken_with s.policy values c.set_event.new.event (seconds_of s.trial.second)) (sym state) ∙ (rw c.if-branch.true at c.in_ok-breaks_with_first.ensures.broken) in
     found_here (λ first. broken_with s.policy c.args.point.now.state first (seconds_of s.trial.second)) (events_of s.trial.first.1) c.loop-number.number c.set_event.new.event c.breaks_with_first.new.point reached.there found c.loop-number.invariant.same
 
 pub loop-number-preserved : goal.loop-number-preserved
 loop-number-preserved c =
     let s = c.args.search.now in
     let state = ap (λ (p : Point). p.state) c.point.view_is ∙ c.loop-number.invariant.state in
-    let reached = first_reached _ s c.search.view_is c.search.inside.firsts c.search.invariant.2 c.count-number-end.result c.loop-number.number c.set_event.new.event c.count-number-end.ensures c.loop-number-test.true c.set_event.ensures in
-    let none = ap (λ (values : Values). broken_with s.policy values c.set_event.new.event (seconds_of s.trial.second)) (sym state) ∙ c.if-breaks_with_first.ensures.broken in
+    let reached = first_reached _ s c.search.view_is c.search.inside.firsts c.search.invariant.2 c.count-number-end.result c.loop-number.number c.set_event.new.event c.count-number-end.ensures c.loop-number-test.true c.in_ok-set_event.ensures in
+    let none = ap (λ (values : Values). broken_with s.policy values c.set_event.new.event (seconds_of s.trial.second)) (sym state) ∙ (rw c.if-branch.false at c.in_ok-breaks_with_first.ensures.broken) in
     record {
       same = not_here (λ first. broken_with s.policy c.args.point.now.state first (seconds_of s.trial.second)) (events_of s.trial.first.1) c.loop-number.number c.set_event.new.event reached.there none c.loop-number.invariant.same;
-      state = c.if-breaks_with_first.ensures.state ∙ state;
-      first = (reached.made.0, c.if-breaks_with_first.ensures.first ∙ reached.made.1);
-      second = c.if-breaks_with_first.ensures.second;
+      state = c.in_ok-breaks_with_first.ensures.state ∙ state;
+      first = (reached.made.0, c.in_ok-breaks_with_first.ensures.first ∙ reached.made.1);
+      second = c.in_ok-breaks_with_first.ensures.second;
     }
 
 pub returns-clause-broken : goal.returns-clause-broken

@@ -14,12 +14,12 @@ breaks_in_state-requires-clause-ranged c =
     state_reached _ c.args.search.now c.search.view_is c.search.inside.states c.search.invariant.0 c.as_slice.result.now c.search.inside.count c.loop-number.number c.state_at-point-inside.result c.as_slice.ensures c.search.invariant.1 c.loop-number-test.true c.state_at-point-inside.ensures in
     reached.ranged c.requires.policy
 
-pub returns-then-breaks_in_state : goal.returns-then-breaks_in_state
-returns-then-breaks_in_state c =
+pub returns-then-branch : goal.returns-then-branch
+returns-then-branch c =
     let s = c.args.search.now in
     let reached =
     state_reached _ c.args.search.now c.search.view_is c.search.inside.states c.search.invariant.0 c.as_slice.result.now c.search.inside.count c.loop-number.number c.state_at-point-inside.result c.as_slice.ensures c.search.invariant.1 c.loop-number-test.true c.state_at-point-inside.ensures in
-    found_here (λ state. broken_in_state s.policy state (events_of s.trial.first.1) (seconds_of s.trial.second)) (states_of s.policy (clauses_of s.trial)) c.loop-number.number c.state_at-point-inside.result c.breaks_in_state.new.point reached.there c.if-breaks_in_state.ensures.broken
+    found_here (λ state. broken_in_state s.policy state (events_of s.trial.first.1) (seconds_of s.trial.second)) (states_of s.policy (clauses_of s.trial)) c.loop-number.number c.state_at-point-inside.result c.breaks_in_state.new.point reached.there (rw c.if-branch.true at c.in_ok-breaks_in_state.ensures.broken)
     c.loop-number.invariant.same
 
 pub loop-number-preserved : goal.loop-number-preserved
@@ -28,9 +28,9 @@ loop-number-preserved c =
     let reached =
     state_reached _ c.args.search.now c.search.view_is c.search.inside.states c.search.invariant.0 c.as_slice.result.now c.search.inside.count c.loop-number.number c.state_at-point-inside.result c.as_slice.ensures c.search.invariant.1 c.loop-number-test.true c.state_at-point-inside.ensures in
     record {
-      same = not_here (λ state. broken_in_state s.policy state (events_of s.trial.first.1) (seconds_of s.trial.second)) (states_of s.policy (clauses_of s.trial)) c.loop-number.number c.state_at-point-inside.result reached.there c.if-breaks_in_state.ensures.broken c.loop-number.invariant.same;
-      first = c.if-breaks_in_state.ensures.first;
-      second = c.if-breaks_in_state.ensures.second;
+      same = not_here (λ state. broken_in_state s.policy state (events_of s.trial.first.1) (seconds_of s.trial.second)) (states_of s.policy (clauses_of s.trial)) c.loop-number.number c.state_at-point-inside.result reached.there (rw c.if-branch.false at c.in_ok-breaks_in_state.ensures.broken) c.loop-number.invariant.same;
+      first = c.in_ok-breaks_in_state.ensures.first;
+      second = c.in_ok-breaks_in_state.ensures.second;
     }
 
 pub returns : goal.returns

@@ -11,7 +11,7 @@ returns-then-breaks-clause-broken c =
     let s = c.args.search.now in
     let state = ap (λ (p : Point). p.state) c.point.view_is ∙ c.loop-number.invariant.state in
     let first = ap (λ (p : Point). p.first) c.point.view_is ∙ c.loop-number.invariant.first in
-    let reached = second_reached _ s c.search.view_is c.search.inside.seconds c.in-Some.seconds c.search.invariant.3 c.in-Some.is c.count-number-end.result c.loop-number.number c.set_second.new.second c.count-number-end.ensures c.loop-number-test.true c.set_second.ensures in
+    let reached = second_reached _ s c.search.view_is c.search.inside.seconds c.in-Some.seconds c.search.invariant.3 c.in-Some.is c.count-number-end.result c.loop-number.number c.set_second.new.second c.count-number-end.ensures c.loop-number-test.true c.in_ok-set_second.ensures in
     let broken = breaks_same _ s c.search.view_is c.point.inside.state c.args.point.now.state c.point.inside.first c.args.point.now.first c.set_second.new.second _ state first c.if-breaks.ensures in
     second_found s.policy c.args.point.now.state c.args.point.now.first (seconds_of s.trial.second) c.loop-number.number c.set_second.new.second reached.there broken c.loop-number.invariant.same
     ∙ ap (λ (values : Values). Some (point_of values c.args.point.now.first c.set_second.new.second)) (sym state)
@@ -22,7 +22,7 @@ loop-number-preserved c =
     let s = c.args.search.now in
     let state = ap (λ (p : Point). p.state) c.point.view_is ∙ c.loop-number.invariant.state in
     let first = ap (λ (p : Point). p.first) c.point.view_is ∙ c.loop-number.invariant.first in
-    let reached = second_reached _ s c.search.view_is c.search.inside.seconds c.in-Some.seconds c.search.invariant.3 c.in-Some.is c.count-number-end.result c.loop-number.number c.set_second.new.second c.count-number-end.ensures c.loop-number-test.true c.set_second.ensures in
+    let reached = second_reached _ s c.search.view_is c.search.inside.seconds c.in-Some.seconds c.search.invariant.3 c.in-Some.is c.count-number-end.result c.loop-number.number c.set_second.new.second c.count-number-end.ensures c.loop-number-test.true c.in_ok-set_second.ensures in
     let broken = breaks_same _ s c.search.view_is c.point.inside.state c.args.point.now.state c.point.inside.first c.args.point.now.first c.set_second.new.second _ state first c.if-breaks.ensures in
     record {
       same = second_not_found s.policy c.args.point.now.state c.args.point.now.first (seconds_of s.trial.second) c.loop-number.number c.set_second.new.second reached.there broken c.loop-number.invariant.same;

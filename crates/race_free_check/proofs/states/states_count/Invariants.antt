@@ -1,13 +1,13 @@
 use Rattle.std.proofs.Common.{◌≡◌, ℕ, ◌+◌, ◌*◌, ◌^◌, ◌<◌, length, map}
 use Rattle.std.specs.List.{enumerate_from}
 use Rattle.conspec_tree.specs.declared.types.Var.{Var}
-use Rattle.conspec_automaton.specs.Points.{points_of, size_of, states_count}
-use Rattle.conspec_automaton.specs.Trying.{capped, clauses_of}
+use Rattle.conspec_automaton.specs.Points.{Variable, points_at, size_of, states_count}
+use Rattle.conspec_automaton.specs.Trying.{capped}
 use Rattle.race_free_check.proofs.states.states_count.Given as goal
 
 abbrev pub invariant-loop-left : goal.invariant-loop-left
 invariant-loop-left l = record {
-  is : capped (l.count * size_of (map (λ (v : ℕ × Var). points_of l.policy.maxint (clauses_of l.trial) v.0 v.1) (enumerate_from l.place l.left))) ≡ capped (states_count l.policy (clauses_of l.trial));
+  is : capped (l.count * size_of (map (λ (v : ℕ × Var). points_at l.clauses (Variable l.policy.maxint v.0 v.1)) (enumerate_from l.place l.left))) ≡ capped (states_count l.policy l.clauses);
   fits : l.count < 2 ^ 64;
   count : l.place + length l.left ≡ length l.policy.vars;
 }
