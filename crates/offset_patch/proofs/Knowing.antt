@@ -79,12 +79,12 @@ known_more pool after known places want at good is puts = record { there = λ q 
 -- what was known, and one more, where the pool was read twice
 pub known_grown : (items first second : List Const) (before kept : Option Growth) (growth after : Growth) (known taken : Option (BTreeMap PoolWant ℕ))
     (places : BTreeMap PoolWant ℕ) (want : PoolWant) (at : ℕ) → AreNoted (with_growth items before) known → first ≡ items → second ≡ items → kept ≡ before → taken ≡ known
-    → with_added first growth.added ≡ with_growth first kept → wanted want (with_added second growth.added) ≡ (with_added second after.added, at)
-    → ((q : PoolWant) → known_at places q ≡ cond (is_eq (want_cmp want q)) (Some at) (known_place taken q)) → AreNoted (with_added items after.added) (Some places)
+    → with_added first growth.added.keys ≡ with_growth first kept → wanted want (with_added second growth.added.keys) ≡ (with_added second after.added.keys, at)
+    → ((q : PoolWant) → known_at places q ≡ cond (is_eq (want_cmp want q)) (Some at) (known_place taken q)) → AreNoted (with_added items after.added.keys) (Some places)
 known_grown items first second before kept growth after known taken places want at good first_is second_is kept_is taken_is begun found puts =
-    let pool : with_added second growth.added ≡ with_growth items before =
-    ap (λ (p : List Const). with_added p growth.added) (second_is ∙ sym first_is) ∙ begun ∙ ap₂ with_growth first_is kept_is in
-    let is : wanted want (with_growth items before) ≡ (with_added items after.added, at) =
-    sym (ap (wanted want) pool) ∙ found ∙ ap (λ (p : List Const). (with_added p after.added, at)) second_is in
-    known_more (with_growth items before) (with_added items after.added) known places want at good is
+    let pool : with_added second growth.added.keys ≡ with_growth items before =
+    ap (λ (p : List Const). with_added p growth.added.keys) (second_is ∙ sym first_is) ∙ begun ∙ ap₂ with_growth first_is kept_is in
+    let is : wanted want (with_growth items before) ≡ (with_added items after.added.keys, at) =
+    sym (ap (wanted want) pool) ∙ found ∙ ap (λ (p : List Const). (with_added p after.added.keys, at)) second_is in
+    known_more (with_growth items before) (with_added items after.added.keys) known places want at good is
     (λ q. puts q ∙ ap (λ (o : Option (BTreeMap PoolWant ℕ)). cond (is_eq (want_cmp want q)) (Some at) (known_place o q)) taken_is)

@@ -5,7 +5,7 @@ ghost use Rattle.offset_patch.specs.Entries.{text, class, name_and_type, member,
 ghost use Rattle.offset_patch.specs.Growth.{Finds, IsGrowth};
 
 use crate::block::PoolWant;
-use crate::constants::Added;
+use crate::constants::{Added, Text};
 use crate::growth::{Growth, entry};
 use bytecode_model::MemberKind;
 use class_codec::Const;
@@ -61,7 +61,7 @@ pub fn wanted(
             EXIT,
             EXIT_TYPE,
         ),
-        PoolWant::Integer(n) => entry(alloc, pool, growth, Added::Integer(n)),
+        PoolWant::Integer(n) => entry(pool, growth, Added::Integer(n)),
     }
 }
 
@@ -97,8 +97,8 @@ fn member(
     let owner = class(alloc, pool, growth, owner)?;
     let member = name_and_type(alloc, pool, growth, name, desc)?;
     match kind {
-        MemberKind::Field => entry(alloc, pool, growth, Added::Field(owner, member)),
-        MemberKind::Method => entry(alloc, pool, growth, Added::Method(owner, member)),
+        MemberKind::Field => entry(pool, growth, Added::Field(owner, member)),
+        MemberKind::Method => entry(pool, growth, Added::Method(owner, member)),
     }
 }
 
@@ -112,31 +112,31 @@ fn name_and_type(
     requires good { IsGrowth pool.now growth.old }
     ensures is { IfOk result (Finds (name_and_type name.now desc.now) pool.now growth.old growth.new) }
     ensures good { OnOk result (IsGrowth pool.now growth.new) }
-    ensures below { IfOk result (λ at. at < length pool.now + length growth.new.added) }
-    ensures more { OnOk result (length growth.old.added ≤ length growth.new.added) }
+    ensures below { IfOk result (λ at. at < length pool.now + length growth.new.added.keys) }
+    ensures more { OnOk result (length growth.old.added.keys ≤ length growth.new.added.keys) }
 {
     let name = text(alloc, pool, growth, name)?;
     let desc = text(alloc, pool, growth, desc)?;
-    entry(alloc, pool, growth, Added::NameAndType(name, desc))
+    entry(pool, growth, Added::NameAndType(name, desc))
 }
 
 fn class(alloc: Global, pool: &[Const], growth: &mut Growth, name: &[u8]) -> Result<u64, NoMemory>
     requires good { IsGrowth pool.now growth.old }
     ensures is { IfOk result (Finds (class name.now) pool.now growth.old growth.new) }
     ensures good { OnOk result (IsGrowth pool.now growth.new) }
-    ensures below { IfOk result (λ at. at < length pool.now + length growth.new.added) }
+    ensures below { IfOk result (λ at. at < length pool.now + length growth.new.added.keys) }
 {
     let name = text(alloc, pool, growth, name)?;
-    entry(alloc, pool, growth, Added::Class(name))
+    entry(pool, growth, Added::Class(name))
 }
 
 fn text(alloc: Global, pool: &[Const], growth: &mut Growth, bytes: &[u8]) -> Result<u64, NoMemory>
     requires good { IsGrowth pool.now growth.old }
     ensures is { IfOk result (Finds (text bytes.now) pool.now growth.old growth.new) }
     ensures good { OnOk result (IsGrowth pool.now growth.new) }
-    ensures below { IfOk result (λ at. at < length pool.now + length growth.new.added) }
-    ensures more { OnOk result (length growth.old.added ≤ length growth.new.added) }
+    ensures below { IfOk result (λ at. at < length pool.now + length growth.new.added.keys) }
+    ensures more { OnOk result (length growth.old.added.keys ≤ length growth.new.added.keys) }
 {
     let bytes = Bytes::from_slice(alloc, bytes)?;
-    entry(alloc, pool, growth, Added::Text(bytes))
+    entry(pool, growth, Added::Text(Text::new(bytes)))
 }

@@ -14,15 +14,16 @@ use crate::growth::{Growth, growth_of};
 use crate::known::{Known, known_place, noted};
 use bytecode_model::text_at;
 use class_codec::Const;
-use mon_base::{List, NoMemory};
+use mon_base::{Bytes, List, NoMemory};
 use std::alloc::Global;
 use std::marker::Model;
 
 /// The constant pool of a class, with what is added after it. A contract sees the list of all the constants.
 ///
-/// Where the first of each constant stands is kept in an ordered map, which is made once an entry is asked for. So the
-/// pool is gone over once, and an entry is found in few steps whatever the number of blocks and of what they name. Where
-/// an entry stands that was asked for is kept too: what blocks name again and again is looked for once.
+/// Where the first of each constant of the pool stands is kept in an ordered map, which is made once an entry is asked
+/// for, and a set in the order of use numbers what is added. So the pool is gone over once, and an entry is found in few
+/// steps whatever the number of blocks and of what they name. Where an entry stands that was asked for is kept too: what
+/// blocks name again and again is looked for once.
 #[derive(Drop)]
 pub struct Entries {
     items: List<Const>,
@@ -159,7 +160,7 @@ fn constant(alloc: Global, added: &Added) -> Result<Const, NoMemory>
 {
     match added {
         Added::Text(text) => {
-            let text = text.copy(alloc)?;
+            let text = Bytes::from_slice(alloc, text.as_slice())?;
             Ok(Const::Utf8(text))
         }
         Added::Class(name) => Ok(Const::Class(*name as u16)),
