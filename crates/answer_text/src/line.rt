@@ -2,7 +2,7 @@
 
 ghost use Rattle.std.specs.Prelude.{◌≡◌, ◌++◌, OnOk};
 ghost use Rattle.answer_text.specs.declared.line.Line.TheVariants as lines;
-ghost use Rattle.answer_text.specs.Lines.{file_name, line_text};
+ghost use Rattle.answer_text.specs.Lines.{file_name, labelled, line_text};
 
 use crate::field::{Field, Report, push_counted, push_fields, push_word};
 use mon_base::{Bytes, List, NoMemory};
@@ -20,6 +20,12 @@ pub enum Line {
         mode: Bytes,
         sites: u64,
         classes: u64,
+    },
+    /// `generated classes N sites M bytes B`: so many class files were written, with so many sites and bytes in all.
+    Generated {
+        classes: u64,
+        sites: u64,
+        bytes: u64,
     },
     /// `accepted`: the events of a run obey the policy.
     Obeyed,
@@ -55,6 +61,11 @@ pub(crate) fn push_line(text: &mut Bytes, line: &Line) -> Result<(), NoMemory>
             sites,
             classes,
         } => push_inlined(text, mode, *sites, *classes),
+        Line::Generated {
+            classes,
+            sites,
+            bytes,
+        } => push_generated(text, *classes, *sites, *bytes),
         Line::Obeyed => text.extend(b"accepted"),
         Line::Stopped { index } => {
             text.extend(b"stopped")?;
@@ -97,6 +108,23 @@ fn push_inlined(text: &mut Bytes, mode: &Bytes, sites: u64, classes: u64) -> Res
     push_counted(text, sites)?;
     text.extend(b" classes")?;
     push_counted(text, classes)
+}
+
+fn push_generated(text: &mut Bytes, classes: u64, sites: u64, bytes: u64) -> Result<(), NoMemory>
+    ensures { OnOk result (text.new ≡ text.old ++ line_text (lines.Generated classes sites bytes)) }
+{
+    push_labelled(text, b"generated classes", classes)?;
+    push_labelled(text, b" sites", sites)?;
+    push_labelled(text, b" bytes", bytes)?;
+    Ok(())
+}
+
+/// Appends a word and a count.
+fn push_labelled(text: &mut Bytes, label: &[u8], n: u64) -> Result<(), NoMemory>
+    ensures { OnOk result (text.new ≡ text.old ++ labelled label.now n) }
+{
+    text.extend(label)?;
+    push_counted(text, n)
 }
 
 fn push_input(text: &mut Bytes, name: &Option<Bytes>, report: &Report) -> Result<(), NoMemory>

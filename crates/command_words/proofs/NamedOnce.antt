@@ -4,9 +4,10 @@ use Rattle.std.specs.Prelude.{codes, decimal}
 use Rattle.std.proofs.lemmas.Fmt.{decimal_injective}
 use Rattle.command_words.specs.declared.inline_words.Weaving.{Weaving}
 use Rattle.command_words.specs.declared.inline_words.Weaving.TheVariants.{Auto, Hold, Release}
+use Rattle.command_words.specs.GenWords.{IsGen, NamedGen}
 use Rattle.command_words.specs.InlineWords.{IsInline, NamedInline, weaving_word}
 use Rattle.command_words.specs.ReplayWords.{IsReplay, NamedReplay}
-use Rattle.command_words.specs.Words.{Check, Inline, IsCheck, IsCommand, IsPolicyCommand, IsRace, IsShow, NamedCheck, NamedCommand, NamedPolicy, NamedRace, NamedShow, NamedRun, Policy, Race, Replay, Run, IsRunCommand, Show, Encodes}
+use Rattle.command_words.specs.Words.{Check, Gen, Inline, IsCheck, IsCommand, IsPolicyCommand, IsRace, IsShow, NamedCheck, NamedCommand, NamedPolicy, NamedRace, NamedShow, NamedRun, Policy, Race, Replay, Run, IsRunCommand, Show, Encodes}
 
 -- ---- the command inline
 
@@ -137,6 +138,23 @@ same_run words a b of_a of_b =
     let whole : a ≡ record { check = b.check; workers = b.workers; budget = b.budget } = rw (← check, ← as_many, ← as_far) refl in
     whole
 
+abbrev words_of_gen : NamedGen → List (List ℕ)
+words_of_gen named = codes "gen" ∷ decimal named.seed ∷ decimal named.classes ∷ decimal named.sites ∷ named.folder ∷ []
+
+same_gen : (words : List (List ℕ)) (a b : NamedGen) → IsGen words a → IsGen words b → a ≡ b
+same_gen words a b of_a of_b =
+    let e : words_of_gen a ≡ words_of_gen b = sym of_a.encoded ∙ of_b.encoded in
+    let seed : decimal a.seed ≡ decimal b.seed = cc in
+    let classes : decimal a.classes ≡ decimal b.classes = cc in
+    let sites : decimal a.sites ≡ decimal b.sites = cc in
+    let folder : a.folder ≡ b.folder = cc in
+    let one_seed : a.seed ≡ b.seed = decimal_injective a.seed b.seed (omega (arith, of_a.bounds.seed.within)) (omega (arith, of_b.bounds.seed.within)) seed in
+    let as_many : a.classes ≡ b.classes =
+    decimal_injective a.classes b.classes (omega (arith, of_a.bounds.classes.within)) (omega (arith, of_b.bounds.classes.within)) classes in
+    let as_full : a.sites ≡ b.sites = decimal_injective a.sites b.sites (omega (arith, of_a.bounds.sites.within)) (omega (arith, of_b.bounds.sites.within)) sites in
+    let whole : a ≡ record { seed = b.seed; classes = b.classes; sites = b.sites; folder = b.folder } = rw (← one_seed, ← as_many, ← as_full, ← folder) refl in
+    whole
+
 abbrev mark_of : NamedCommand → ℕ
 mark_of (Check named) = 995
 mark_of (Show named) = 1154
@@ -145,6 +163,7 @@ mark_of (Race named) = 1144
 mark_of (Inline named) = 1056
 mark_of (Replay named) = 1146
 mark_of (Run named) = 1143
+mark_of (Gen named) = 1033
 
 marks : (words : List (List ℕ)) (named : NamedCommand) → Encodes words named → marked words ≡ mark_of named
 marks words (Check named) encoded = ap marked encoded.encoded
@@ -154,6 +173,7 @@ marks words (Race named) encoded = ap marked encoded.encoded
 marks words (Inline named) encoded = ap marked encoded.encoded
 marks words (Replay named) encoded = ap marked encoded.encoded
 marks words (Run named) encoded = ap marked encoded.encoded
+marks words (Gen named) encoded = ap marked encoded.encoded
 
 same_command : (words : List (List ℕ)) (a b : NamedCommand) → mark_of a ≡ mark_of b → Encodes words a → Encodes words b → a ≡ b
 same_command words (Check a) (Check b) e of_a of_b = ap Check (same_check words a b of_a of_b)
@@ -163,6 +183,7 @@ same_command words (Check a) (Race b) e of_a of_b = absurd (omega (arith, e))
 same_command words (Check a) (Inline b) e of_a of_b = absurd (omega (arith, e))
 same_command words (Check a) (Replay b) e of_a of_b = absurd (omega (arith, e))
 same_command words (Check a) (Run b) e of_a of_b = absurd (omega (arith, e))
+same_command words (Check a) (Gen b) e of_a of_b = absurd (omega (arith, e))
 same_command words (Show a) (Check b) e of_a of_b = absurd (omega (arith, e))
 same_command words (Show a) (Show b) e of_a of_b = ap Show (same_show words a b of_a of_b)
 same_command words (Show a) (Policy b) e of_a of_b = absurd (omega (arith, e))
@@ -170,6 +191,7 @@ same_command words (Show a) (Race b) e of_a of_b = absurd (omega (arith, e))
 same_command words (Show a) (Inline b) e of_a of_b = absurd (omega (arith, e))
 same_command words (Show a) (Replay b) e of_a of_b = absurd (omega (arith, e))
 same_command words (Show a) (Run b) e of_a of_b = absurd (omega (arith, e))
+same_command words (Show a) (Gen b) e of_a of_b = absurd (omega (arith, e))
 same_command words (Policy a) (Check b) e of_a of_b = absurd (omega (arith, e))
 same_command words (Policy a) (Show b) e of_a of_b = absurd (omega (arith, e))
 same_command words (Policy a) (Policy b) e of_a of_b = ap Policy (same_policy words a b of_a of_b)
@@ -177,6 +199,7 @@ same_command words (Policy a) (Race b) e of_a of_b = absurd (omega (arith, e))
 same_command words (Policy a) (Inline b) e of_a of_b = absurd (omega (arith, e))
 same_command words (Policy a) (Replay b) e of_a of_b = absurd (omega (arith, e))
 same_command words (Policy a) (Run b) e of_a of_b = absurd (omega (arith, e))
+same_command words (Policy a) (Gen b) e of_a of_b = absurd (omega (arith, e))
 same_command words (Race a) (Check b) e of_a of_b = absurd (omega (arith, e))
 same_command words (Race a) (Show b) e of_a of_b = absurd (omega (arith, e))
 same_command words (Race a) (Policy b) e of_a of_b = absurd (omega (arith, e))
@@ -184,6 +207,7 @@ same_command words (Race a) (Race b) e of_a of_b = ap Race (same_race words a b 
 same_command words (Race a) (Inline b) e of_a of_b = absurd (omega (arith, e))
 same_command words (Race a) (Replay b) e of_a of_b = absurd (omega (arith, e))
 same_command words (Race a) (Run b) e of_a of_b = absurd (omega (arith, e))
+same_command words (Race a) (Gen b) e of_a of_b = absurd (omega (arith, e))
 same_command words (Inline a) (Check b) e of_a of_b = absurd (omega (arith, e))
 same_command words (Inline a) (Show b) e of_a of_b = absurd (omega (arith, e))
 same_command words (Inline a) (Policy b) e of_a of_b = absurd (omega (arith, e))
@@ -191,6 +215,7 @@ same_command words (Inline a) (Race b) e of_a of_b = absurd (omega (arith, e))
 same_command words (Inline a) (Inline b) e of_a of_b = ap Inline (same_inline words a b of_a of_b)
 same_command words (Inline a) (Replay b) e of_a of_b = absurd (omega (arith, e))
 same_command words (Inline a) (Run b) e of_a of_b = absurd (omega (arith, e))
+same_command words (Inline a) (Gen b) e of_a of_b = absurd (omega (arith, e))
 same_command words (Replay a) (Check b) e of_a of_b = absurd (omega (arith, e))
 same_command words (Replay a) (Show b) e of_a of_b = absurd (omega (arith, e))
 same_command words (Replay a) (Policy b) e of_a of_b = absurd (omega (arith, e))
@@ -198,6 +223,7 @@ same_command words (Replay a) (Race b) e of_a of_b = absurd (omega (arith, e))
 same_command words (Replay a) (Inline b) e of_a of_b = absurd (omega (arith, e))
 same_command words (Replay a) (Replay b) e of_a of_b = ap Replay (same_replay words a b of_a of_b)
 same_command words (Replay a) (Run b) e of_a of_b = absurd (omega (arith, e))
+same_command words (Replay a) (Gen b) e of_a of_b = absurd (omega (arith, e))
 same_command words (Run a) (Check b) e of_a of_b = absurd (omega (arith, e))
 same_command words (Run a) (Show b) e of_a of_b = absurd (omega (arith, e))
 same_command words (Run a) (Policy b) e of_a of_b = absurd (omega (arith, e))
@@ -205,6 +231,15 @@ same_command words (Run a) (Race b) e of_a of_b = absurd (omega (arith, e))
 same_command words (Run a) (Inline b) e of_a of_b = absurd (omega (arith, e))
 same_command words (Run a) (Replay b) e of_a of_b = absurd (omega (arith, e))
 same_command words (Run a) (Run b) e of_a of_b = ap Run (same_run words a b of_a of_b)
+same_command words (Run a) (Gen b) e of_a of_b = absurd (omega (arith, e))
+same_command words (Gen a) (Check b) e of_a of_b = absurd (omega (arith, e))
+same_command words (Gen a) (Show b) e of_a of_b = absurd (omega (arith, e))
+same_command words (Gen a) (Policy b) e of_a of_b = absurd (omega (arith, e))
+same_command words (Gen a) (Race b) e of_a of_b = absurd (omega (arith, e))
+same_command words (Gen a) (Inline b) e of_a of_b = absurd (omega (arith, e))
+same_command words (Gen a) (Replay b) e of_a of_b = absurd (omega (arith, e))
+same_command words (Gen a) (Run b) e of_a of_b = absurd (omega (arith, e))
+same_command words (Gen a) (Gen b) e of_a of_b = ap Gen (same_gen words a b of_a of_b)
 
 -- Words are those of one command.
 pub command_once : (words : List (List ℕ)) (a b : NamedCommand) → IsCommand words a → IsCommand words b → a ≡ b

@@ -1,5 +1,5 @@
 -- The commands and their words. (docs/COMMANDS.md)
-use Rattle.std.specs.Prelude.{◌≡◌, ◌≢◌, ◌≤◌, ℕ, List, [], ◌∷◌, codes, decimal}
+use Rattle.std.specs.Prelude.{◌≡◌, ◌≢◌, ℕ, List, [], ◌∷◌, codes, decimal}
 use Rattle.std.specs.List.{AllByRecursion}
 use Rattle.command_words.specs.declared.run_words.RunWords.{RunWords}
 use Rattle.command_words.specs.declared.words.CheckWords.{CheckWords}
@@ -10,6 +10,8 @@ use Rattle.command_words.specs.declared.words.FileCommand.TheVariants as overs
 use Rattle.command_words.specs.declared.words.PolicyWords.{PolicyWords}
 use Rattle.command_words.specs.declared.words.RaceWords.{RaceWords}
 use Rattle.command_words.specs.declared.words.ShowWords.{ShowWords}
+use Rattle.command_words.specs.Counts.{IsCount}
+use Rattle.command_words.specs.GenWords.{IsGen, NamedGen, gen_named}
 use Rattle.command_words.specs.InlineWords.{IsInline, NamedInline, inline_named}
 use Rattle.command_words.specs.ReplayWords.{IsReplay, NamedReplay, replay_named}
 
@@ -50,6 +52,7 @@ pub data NamedCommand : Type 0 where
   Race : NamedRace → NamedCommand
   Inline : NamedInline → NamedCommand
   Replay : NamedReplay → NamedCommand
+  Gen : NamedGen → NamedCommand
   Run : NamedRun → NamedCommand
 
 abbrev pub check_named : CheckWords → NamedCheck
@@ -80,6 +83,7 @@ files_named (overs.Policy words) = Policy (policy_named words)
 files_named (overs.Race words) = Race (race_named words)
 files_named (overs.Inline words) = Inline (inline_named words)
 files_named (overs.Replay words) = Replay (replay_named words)
+files_named (overs.Gen words) = Gen (gen_named words)
 
 abbrev pub named_by : Command → NamedCommand
 named_by (commands.Files command) = files_named command
@@ -93,6 +97,7 @@ IsOverFiles (Policy named) = Unit {0}
 IsOverFiles (Race named) = Unit {0}
 IsOverFiles (Inline named) = Unit {0}
 IsOverFiles (Replay named) = Unit {0}
+IsOverFiles (Gen named) = Unit {0}
 IsOverFiles (Run named) = ⊥
 
 -- check POLICY LISTING CERT MAIN CLASS..
@@ -113,12 +118,6 @@ pub record IsPolicyCommand (words : List (List ℕ)) (named : NamedPolicy) : Typ
 pub record IsRace (words : List (List ℕ)) (named : NamedRace) : Type 0 where
   pub encoded : words ≡ codes "race" ∷ named.policy ∷ named.listing ∷ []
 
--- The word is the decimal text of this count, from 1 to `most`.
-pub record IsCount (word : List ℕ) (most n : ℕ) : Type 0 where
-  pub encoded : word ≡ decimal n
-  pub some : 1 ≤ n
-  pub within : n ≤ most
-
 -- run POLICY LISTING CERT MAIN WORKERS BUDGET CLASS..
 pub record IsRunCommand (words : List (List ℕ)) (named : NamedRun) : Type 0 where
   pub encoded : words
@@ -135,6 +134,7 @@ Encodes words (Policy named) = IsPolicyCommand words named
 Encodes words (Race named) = IsRace words named
 Encodes words (Inline named) = IsInline words named
 Encodes words (Replay named) = IsReplay words named
+Encodes words (Gen named) = IsGen words named
 Encodes words (Run named) = IsRunCommand words named
 
 -- The words are those of the command, and none of them is empty.

@@ -4,11 +4,14 @@
 //! is an option, and none is read as a file here. (docs/COMMANDS.md)
 #![tactic(auto)]
 
+mod gen_words;
 mod inline_words;
+mod numbers;
 mod replay_words;
 mod run_words;
 mod words;
 
+pub use gen_words::GenWords;
 pub use inline_words::{InlineWords, Weaving};
 pub use replay_words::ReplayWords;
 pub use run_words::RunWords;

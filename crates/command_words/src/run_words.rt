@@ -1,10 +1,11 @@
 //! The words of the command `run`.
 
-ghost use Rattle.std.specs.Prelude.{◌≡◌, ℕ, IfNone, IfSome};
-ghost use Rattle.command_words.specs.Words.{IsCount, IsRunCommand, NamedRun, run_named};
+ghost use Rattle.std.specs.Prelude.{◌≡◌, IfNone, IfSome};
+ghost use Rattle.command_words.specs.Words.{IsRunCommand, NamedRun, run_named};
 
+use crate::numbers::count_of;
 use crate::words::{CheckWords, following, two_of};
-use mon_base::{Bytes, read_number};
+use mon_base::Bytes;
 
 /// The most workers that a run may have.
 const MOST_WORKERS: u32 = 64;
@@ -47,17 +48,4 @@ pub fn run_words(words: &[Bytes]) -> Option<RunWords<'_>>
         workers,
         budget,
     })
-}
-
-/// The count whose decimal text this is, from 1 to `most`.
-fn count_of(word: &[u8], most: u32) -> Option<u32>
-    ensures found { IfSome result (IsCount word.now most) }
-    ensures none { IfNone result ((n : ℕ) → IsCount word.now most n → ⊥) }
-{
-    let number = read_number(word)?;
-    if 1 <= number && number <= most as i64 {
-        Some(number as u32)
-    } else {
-        None
-    }
 }

@@ -23,6 +23,7 @@ ghost use Rattle.command_words.specs.Words.{
   show_named,
 };
 
+use crate::gen_words::{GenWords, gen_words};
 use crate::inline_words::{InlineWords, inline_words};
 use crate::replay_words::{ReplayWords, replay_words};
 use crate::run_words::{RunWords, run_words};
@@ -62,7 +63,7 @@ pub struct RaceWords<'a> {
     pub listing: &'a Bytes,
 }
 
-/// A command that reads files, and may write some, with its words.
+/// A command that reads files or writes some, and runs nothing, with its words.
 #[derive(Clone, Copy)]
 pub enum FileCommand<'a> {
     Check(CheckWords<'a>),
@@ -71,6 +72,7 @@ pub enum FileCommand<'a> {
     Race(RaceWords<'a>),
     Inline(InlineWords<'a>),
     Replay(ReplayWords<'a>),
+    Gen(GenWords<'a>),
 }
 
 /// A command and its words.
@@ -120,6 +122,9 @@ fn file_command_of(words: &[Bytes]) -> Option<FileCommand<'_>>
     }
     if let Some(words) = replay_words(words) {
         return Some(FileCommand::Replay(words));
+    }
+    if let Some(words) = gen_words(words) {
+        return Some(FileCommand::Gen(words));
     }
     None
 }
@@ -228,7 +233,7 @@ pub fn two_of(words: &[Bytes]) -> Option<(&Bytes, &Bytes, &[Bytes])>
 }
 
 /// The only word.
-fn last_of(words: &[Bytes]) -> Option<&Bytes>
+pub fn last_of(words: &[Bytes]) -> Option<&Bytes>
     ensures found { IfSome result (λ word. words.now ≡ word.now ∷ []) }
     ensures none { IfNone result ((word : List ℕ) → words.now ≡ word ∷ [] → ⊥) }
 {

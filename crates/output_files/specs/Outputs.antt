@@ -17,8 +17,11 @@ use Rattle.mon_store.specs.declared.outputs.Output.{Output}
 -- ---- names
 
 -- FOLDER/NAME.class
+abbrev pub file_name : List ℕ → List ℕ → List ℕ
+file_name folder name = folder ++ 47 ∷ name ++ codes ".class"
+
 abbrev pub class_name : List ℕ → LinkedClass → List ℕ
-class_name folder class = folder ++ 47 ∷ class.name ++ codes ".class"
+class_name folder class = file_name folder class.name
 
 abbrev pub certificate_name : List ℕ → List ℕ
 certificate_name folder = folder ++ codes "/certificate"

@@ -3,7 +3,15 @@
 ghost use Rattle.std.specs.Prelude.{◌≡◌, map, IfOk};
 ghost use Rattle.std.specs.List.{list_all};
 ghost use Rattle.mon_base.specs.Answer.{Answers};
-ghost use Rattle.output_files.specs.Outputs.{are_short, certificate_output, class_output, is_frame_short, is_type_short, outputs_told};
+ghost use Rattle.output_files.specs.Outputs.{
+  are_short,
+  certificate_output,
+  class_output,
+  file_name,
+  is_frame_short,
+  is_type_short,
+  outputs_told,
+};
 
 use bytecode_model::{LinkedClass, Program};
 use cert_format::{CertLong, Certificate, FrameType, Typing, VType};
@@ -103,12 +111,20 @@ fn class_outputs(
 fn class_output(alloc: Global, folder: &Bytes, class: &LinkedClass) -> Result<Output, NoMemory>
     ensures { IfOk result (λ output. output ≡ class_output folder.now class.now) }
 {
-    let mut name = folder.copy(alloc)?;
-    name.push(b'/')?;
-    name.extend(class.name.as_slice())?;
-    name.extend(b".class")?;
+    let name = file_name(alloc, folder, class.name.as_slice())?;
     let bytes = class_codec::encode(alloc, &class.file)?;
     Ok(Output { name, bytes })
+}
+
+/// The name of the file of the class of this name.
+pub fn file_name(alloc: Global, folder: &Bytes, name: &[u8]) -> Result<Bytes, NoMemory>
+    ensures { IfOk result (λ file. file ≡ file_name folder.now name.now) }
+{
+    let mut file = folder.copy(alloc)?;
+    file.push(b'/')?;
+    file.extend(name)?;
+    file.extend(b".class")?;
+    Ok(file)
 }
 
 fn certificate_output(alloc: Global, folder: &Bytes, bytes: Bytes) -> Result<Output, NoMemory>

@@ -1,8 +1,8 @@
-use Rattle.std.proofs.Common.{rules, ◌≡◌, ℕ, ℤ, pos, IfNone, FitsSigned, arith, w64}
+use Rattle.std.proofs.Common.{rules, FitsSigned, arith, w64}
 use Rattle.std.proofs.lemmas.Int.{ints}
 use Rattle.command_words.proofs.Counts.{no_number, number_is}
-use Rattle.command_words.proofs.run_words.count_of.Goals as goal
-use Rattle.command_words.proofs.run_words.count_of.Goals.{else-number-ge1-via-then-number-ge1+else-number-most, else-number-ge1-via-else-number-ge1}
+use Rattle.command_words.proofs.numbers.count_of.Goals as goal
+use Rattle.command_words.proofs.numbers.count_of.Goals.{else-number-ge1-via-then-number-ge1+else-number-most, else-number-ge1-via-else-number-ge1}
 
 pub returns-in_err-number-clause-none : goal.returns-in_err-number-clause-none
 returns-in_err-number-clause-none c = let h = no_number c.args.word.now c.args.most c.ranges.most.fits in search (h, rules)

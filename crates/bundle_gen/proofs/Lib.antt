@@ -1,0 +1,4 @@
+mod Growing
+mod Codes
+mod Files
+mod Sizes

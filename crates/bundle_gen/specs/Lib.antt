@@ -1,0 +1,4 @@
+pub mod Code
+pub mod Draws
+pub mod Generated
+pub mod Sizes
