@@ -1,0 +1,8 @@
+pub mod Spots
+pub mod Running
+pub mod Passed
+pub mod Transparent
+pub mod Example
+pub mod Steps
+pub mod Weaves
+pub mod Starting

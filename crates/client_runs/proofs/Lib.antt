@@ -1,0 +1,10 @@
+mod Values
+mod Named
+mod Made
+mod Passing
+mod Answering
+mod Keeping
+mod Linked
+mod Roomy
+mod Machines
+mod Starting

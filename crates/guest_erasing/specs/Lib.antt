@@ -1,0 +1,12 @@
+pub mod Places
+pub mod Renumbering
+pub mod Erasing
+pub mod Lifting
+pub mod Laid
+pub mod Mirrors
+pub mod Adding
+pub mod Changing
+pub mod Runs
+pub mod Climbing
+pub mod Steps
+pub mod Starting
