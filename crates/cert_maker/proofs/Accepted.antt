@@ -46,7 +46,7 @@ use Rattle.cert_maker.proofs.ClausesAlike.{result_alike}
 use Rattle.class_weaving.proofs.Lists.{each_back, slice_there}
 use Rattle.cert_maker.proofs.WholeMethods.{passes}
 use Rattle.cert_maker.proofs.Shape.{class_typed, class_noted, class_sizes, classes_shaped, code_stays, coded_stay, frames_long, notes_there}
-use Rattle.cert_maker.proofs.Standing.{IsReady, told}
+use Rattle.cert_maker.proofs.Standing.{IsReady, canonical}
 use Rattle.cert_maker.proofs.StateClass.{other_name, state_found, state_right}
 
 -- ---- what was woven of what
@@ -212,7 +212,7 @@ module _ (old new : Program) (policy : Policy) (mode : Mode) (typing : Typing) (
             ];
       }
 
-      notes_are : notes_in other.methods (notes_told annotations own) index ≡ told body frames ready
+      notes_are : notes_in other.methods (notes_told annotations own) index ≡ canonical body frames ready
       notes_are =
           let same = coded_stay policy mode state other.file.pool class.methods other.methods of_class.methods sound_class.methods index in
           let old_has : has_code method ≡ true = code_stays body ∙ has in
@@ -224,7 +224,7 @@ module _ (old new : Program) (policy : Policy) (mode : Mode) (typing : Typing) (
       coded_passes at =
           subst (λ (ns : List Note). reached_fault rules frames ns woven at ≡ None) (sym notes_are) (by (is_some (frame_of frames at)) refl)
         where
-          by : (b : Bool) → is_some (frame_of frames at) ≡ b → cond b (note_fault rules (told body frames ready) woven at) None ≡ None
+          by : (b : Bool) → is_some (frame_of frames at) ≡ b → cond b (note_fault rules (canonical body frames ready) woven at) None ≡ None
           by false e = refl
           by true e = passes body frames ready at e
 

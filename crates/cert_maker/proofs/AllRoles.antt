@@ -76,8 +76,8 @@ module _ (b : Blocked) where
       → note b (roles.Lock p false) ≡ notes.Owed (site b p) 0 (asks_kept b.policy (site b p)) false
       → (kept : Bool) → asks_kept b.policy (site b p) ≡ kept
       → Arrives b (Given (notes.Owed (site b p) (stage_of (is_locked mode)) kept false)) (check_after mode p clause)
-  due Release p clause e told kept is = due_free p kept told is
-  due Hold p clause e told kept is = due_held p clause e kept is
+  due Release p clause e canonical kept is = due_free p kept canonical is
+  due Hold p clause e canonical kept is = due_held p clause e kept is
 
   -- ---- where the call returns
 

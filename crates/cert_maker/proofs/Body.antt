@@ -76,18 +76,18 @@ module _ (b : Body) where
 
   -- ---- what is told
 
-  typed_here : (told : List Note) (frames : List (Option FrameType)) (at : ℕ) (note : Note) → slice_get told at ≡ Some note
-      → is_some (frame_of frames at) ≡ true → slice_get (where_typed told frames) at ≡ Some note
+  typed_here : (canonical : List Note) (frames : List (Option FrameType)) (at : ℕ) (note : Note) → slice_get canonical at ≡ Some note
+      → is_some (frame_of frames at) ≡ true → slice_get (where_typed canonical frames) at ≡ Some note
   typed_here [] frames at note e f = absurd cc
-  typed_here (x ∷ told) [] at note e f = absurd cc
-  typed_here (x ∷ told) (None ∷ frames) zero note e f = absurd cc
-  typed_here (x ∷ told) (Some frame ∷ frames) zero note e f = e
-  typed_here (x ∷ told) (frame ∷ frames) (suc at) note e f = typed_here told frames at note e f
+  typed_here (x ∷ canonical) [] at note e f = absurd cc
+  typed_here (x ∷ canonical) (None ∷ frames) zero note e f = absurd cc
+  typed_here (x ∷ canonical) (Some frame ∷ frames) zero note e f = e
+  typed_here (x ∷ canonical) (frame ∷ frames) (suc at) note e f = typed_here canonical frames at note e f
 
-  pub typed_many : (told : List Note) (frames : List (Option FrameType)) → length told ≡ length frames → length (where_typed told frames) ≡ length told
+  pub typed_many : (canonical : List Note) (frames : List (Option FrameType)) → length canonical ≡ length frames → length (where_typed canonical frames) ≡ length canonical
   typed_many [] frames e = refl
-  typed_many (x ∷ told) [] e = absurd (omega (arith, e))
-  typed_many (x ∷ told) (frame ∷ frames) e = ap suc (typed_many told frames (omega (arith, e)))
+  typed_many (x ∷ canonical) [] e = absurd (omega (arith, e))
+  typed_many (x ∷ canonical) (frame ∷ frames) e = ap suc (typed_many canonical frames (omega (arith, e)))
 
   abbrev part_told : Target → List Note
   part_told ref = part_notes b.policy b.mode base ref

@@ -231,8 +231,8 @@ module _ (b : Blocked) (pool : List Const) (fronts : List ℕ) (begin : ℕ) (ow
       abbrev count : ℕ
       count = length branch.atoms
 
-      told : (done : ℕ) → note b (roles.Update p n u done) ≡ notes.Held (site b p) n count (terms_before (update_steps update) done) so_far
-      told done = update_is b p n branch is u done update there
+      canonical : (done : ℕ) → note b (roles.Update p n u done) ≡ notes.Held (site b p) n count (terms_before (update_steps update) done) so_far
+      canonical done = update_is b p n branch is u done update there
 
       fits : IsUpdateIn b.policy.vars b.policy.maxint update
       fits = all_get (IsUpdateIn b.policy.vars b.policy.maxint) branch.updates u update is.is.updates there
@@ -277,7 +277,7 @@ module _ (b : Blocked) (pool : List Const) (fronts : List ℕ) (begin : ℕ) (ow
           subst (Is (roles.Update p n u done)) (sym e)
           (held_noted b pool fronts begin own ref (roles.Update p n u done) (Want PUTSTATIC (field bools var))
           (notes.Held (site b p) n count (written_term update ∷ []) so_far)
-          (told done ∙ ap (λ (ts : List Term). notes.Held (site b p) n count ts so_far) list) refl refl _
+          (canonical done ∙ ap (λ (ts : List Term). notes.Held (site b p) n count ts so_far) list) refl refl _
           (held_writes (rules b) (site b p) is.clause is.found n count so_far branch (written_term update) var is.listed refl)
           (λ q. made_next done var of last) (λ j. tt) refl)
 
@@ -289,9 +289,9 @@ module _ (b : Blocked) (pool : List Const) (fronts : List ℕ) (begin : ℕ) (ow
           let row = constant_pushed count so_far list value in
           subst (Is (roles.Update p n u done)) (sym e)
           (held_noted b pool fronts begin own ref (roles.Update p n u done) (push value) (notes.Held (site b p) n count list so_far)
-          (told done ∙ ap (λ (ts : List Term). notes.Held (site b p) n count ts so_far) before) refl row.1 _ row.0
+          (canonical done ∙ ap (λ (ts : List Term). notes.Held (site b p) n count ts so_far) before) refl row.1 _ row.0
           (λ q. steps done more (Given (notes.Held (site b p) n count (list ++ terms.Const value ∷ []) so_far)) (same_inside b (notes.Held (site b p) n count (list ++ terms.Const value ∷ []) so_far) (roles.Update p n u (done + 1))
-          (told (done + 1) ∙ ap (λ (ts : List Term). notes.Held (site b p) n count ts so_far) after)))
+          (canonical (done + 1) ∙ ap (λ (ts : List Term). notes.Held (site b p) n count ts so_far) after)))
           (λ j. tt) refl)
 
     module _ (u var : ℕ) (by : ℤ) (there : slice_get branch.updates u ≡ Some (Add var by)) where
@@ -310,12 +310,12 @@ module _ (b : Blocked) (pool : List Const) (fronts : List ℕ) (begin : ℕ) (ow
           ∙ ap (λ (i : ℕ). Some (variable_after (take u branch.updates) i)) at
           ∙ ap Some (unchanged branch.updates u (Add var by) there is.is.once) in
           held_noted b pool fronts begin own ref (roles.Update p n u 0) (Want GETSTATIC (field bools var))
-          (notes.Held (site b p) n (length branch.atoms) [] now) (told u (Add var by) there 0) refl refl _
+          (notes.Held (site b p) n (length branch.atoms) [] now) (canonical u (Add var by) there 0) refl refl _
           (held_pushes (rules b) (site b p) is.clause is.found n (length branch.atoms) now [] (shapes.Heap heap.ReadStatic) (target.Field b.state var)
           (terms.Var var) (variable_pushed (rules b) (site b p) is.clause now var (terms.Var var) stands))
           (λ q. steps u (Add var by) there 0 refl (Given (notes.Held (site b p) n (length branch.atoms) (terms.Var var ∷ []) now))
           (same_inside b (notes.Held (site b p) n (length branch.atoms) (terms.Var var ∷ []) now) (roles.Update p n u 1)
-          (told u (Add var by) there 1)))
+          (canonical u (Add var by) there 1)))
           (λ j. tt) refl
 
       small : is_addend by ≡ true
@@ -327,11 +327,11 @@ module _ (b : Blocked) (pool : List Const) (fronts : List ℕ) (begin : ℕ) (ow
       sums : Is (roles.Update p n u 2) (Plain IADD)
       sums =
           held_noted b pool fronts begin own ref (roles.Update p n u 2) (Plain IADD)
-          (notes.Held (site b p) n (length branch.atoms) (terms.Var var ∷ terms.Const by ∷ []) now) (told u (Add var by) there 2) refl refl _
+          (notes.Held (site b p) n (length branch.atoms) (terms.Var var ∷ terms.Const by ∷ []) now) (canonical u (Add var by) there 2) refl refl _
           (held_adds (rules b) (site b p) is.clause is.found n (length branch.atoms) now var by small)
           (λ q. steps u (Add var by) there 2 refl (Given (notes.Held (site b p) n (length branch.atoms) (terms.VarAdd var by ∷ []) now))
           (same_inside b (notes.Held (site b p) n (length branch.atoms) (terms.VarAdd var by ∷ []) now) (roles.Update p n u 3)
-          (told u (Add var by) there 3)))
+          (canonical u (Add var by) there 3)))
           (λ j. tt) refl
 
     pub update : (u done : ℕ) (what : Update) (x : BlockInsn) → slice_get branch.updates u ≡ Some what → step_insn bools 0 0 (update_steps what) done ≡ Some x
@@ -359,7 +359,7 @@ module _ (b : Blocked) (pool : List Const) (fronts : List ℕ) (begin : ℕ) (ow
         by Release Exceptional e = done_wide b p n branch is (note b (roles.Unlock Exceptional true false)) (ap (λ (r : Phase). done b.policy (site b r)) e)
         by Hold Before e =
             loading_arrives b (Given finished) 0 true (omega arith)
-            (λ told is_so. done_wide b p n branch is told (is_so ∙ ap (λ (r : Phase). done b.policy (site b r)) e))
+            (λ canonical is_so. done_wide b p n branch is canonical (is_so ∙ ap (λ (r : Phase). done b.policy (site b r)) e))
         by Hold After e = done_wide b p n branch is (note b (roles.Unlock After true false)) (ap (λ (r : Phase). done b.policy (site b r)) e)
         by Hold Exceptional e = done_wide b p n branch is (note b (roles.Unlock Exceptional true false)) (ap (λ (r : Phase). done b.policy (site b r)) e)
 

@@ -37,7 +37,7 @@ use Rattle.block_logic.specs.Terms.{after_updates, as_taken}
 use Rattle.cert_maker.specs.declared.called.Called.{Called}
 use Rattle.block_template.specs.Steps.{ask_steps, update_steps}
 use Rattle.cert_maker.specs.Noting.{branch_at, byte, note_of, site_of, terms_before}
-use Rattle.cert_maker.proofs.ClausesAlike as told
+use Rattle.cert_maker.proofs.ClausesAlike as canonical
 use Rattle.cert_maker.proofs.Same.{note_itself}
 
 -- A call with a block, of a method that the policy has clauses for, which tell alike whether it gives something.
@@ -88,10 +88,10 @@ module _ (b : Blocked) where
   clause_found Exceptional = clause_is b.policy b.call.callee Exceptional b.read
 
   pub clause_of_site : (p : Phase) → clause_of b.policy (site p) ≡ clause_in clauses p
-  clause_of_site p = told.clause_is b.policy b.call b.few p
+  clause_of_site p = canonical.clause_is b.policy b.call b.few p
 
   pub branches_are : (p : Phase) → branches_of b.policy (site p) ≡ branches_in clauses p
-  branches_are p = told.branches_are b.policy b.call b.few p
+  branches_are p = canonical.branches_are b.policy b.call b.few p
 
   branch_by : (p : Phase) (n : ℕ) (branch : Branch) (o : Option Clause) → clause_in clauses p ≡ o → IfSome o (IsOf b.policy p)
       → slice_get (branches_told o) n ≡ Some branch → IsBranch p n branch
@@ -154,12 +154,12 @@ module _ (b : Blocked) where
   -- what may stand for such a check
   abbrev pub Wide : Asked → ℕ → Phase → ℕ → List Term → Type 0
   Wide wants n p holding map =
-      (told : Note) → stands_for_held b.policy (site p) n holding [] map told ≡ true → meets rules wants told ≡ true
+      (canonical : Note) → stands_for_held b.policy (site p) n holding [] map canonical ≡ true → meets rules wants canonical ≡ true
 
   -- A check stands for itself.
-  same_held : (p : Phase) (n holding : ℕ) (map : List Term) (told : Note) → told ≡ notes.Held (site p) n holding [] map
-      → stands_for_held b.policy (site p) n holding [] map told ≡ true
-  same_held p n holding map told e =
+  same_held : (p : Phase) (n holding : ℕ) (map : List Term) (canonical : Note) → canonical ≡ notes.Held (site p) n holding [] map
+      → stands_for_held b.policy (site p) n holding [] map canonical ≡ true
+  same_held p n holding map canonical e =
       subst (λ (t : Note). stands_for_held b.policy (site p) n holding [] map t ≡ true) (sym e)
       (rw (note_itself (notes.Held (site p) n holding [] map)) refl)
 
@@ -262,4 +262,4 @@ module _ (b : Blocked) where
 
   -- A check that has begun is asked for as such.
   pub held_wide : (n : ℕ) (p : Phase) (holding : ℕ) (map : List Term) → Wide (Given (notes.Held (site p) n holding [] map)) n p holding map
-  held_wide n p holding map told e = e
+  held_wide n p holding map canonical e = e

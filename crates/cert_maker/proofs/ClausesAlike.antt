@@ -87,7 +87,7 @@ module _ (policy : Policy) (call : Called) (few : (site_of call Before).method �
 -- ---- results
 
 -- Each clause of a method tells alike whether it gives something.
-module _ (listing : Listing) (policy : Policy) (told : AllByRecursion (FitsListing listing) policy.clauses) (method : ℕ) (listed : ListedMethod)
+module _ (listing : Listing) (policy : Policy) (canonical : AllByRecursion (FitsListing listing) policy.clauses) (method : ℕ) (listed : ListedMethod)
     (there : slice_get listing.methods method ≡ Some listed) where
   abbrev Tells : Clause → Type 0
   Tells c = is_some c.result ≡ is_some (types_of listed.id.desc).result
@@ -99,7 +99,7 @@ module _ (listing : Listing) (policy : Policy) (told : AllByRecursion (FitsListi
 
   clause_tells : (p : Phase) (c : Clause) → clause_in_block policy method p ≡ Some c → Tells c
   clause_tells p c e =
-      let found = found_has (λ (c : Clause). (c.method == method) && is_phase p c.phase) (FitsListing listing) policy.clauses c told e in
+      let found = found_has (λ (c : Clause). (c.method == method) && is_phase p c.phase) (FitsListing listing) policy.clauses c canonical e in
       tells c found.0 (and_parts (c.method == method) (is_phase p c.phase) found.1).0
 
   -- What is told of the method is what its clause for a phase tells.
@@ -111,5 +111,5 @@ module _ (listing : Listing) (policy : Policy) (told : AllByRecursion (FitsListi
           → is_some (option_and_then (λ (c : Clause). c.result) o) ≡ is_some c.result
       by None is some = absurd cc
       by (Some first) is some =
-          let found = found_has (λ (c : Clause). c.method == method) (FitsListing listing) policy.clauses first told is in
+          let found = found_has (λ (c : Clause). c.method == method) (FitsListing listing) policy.clauses first canonical is in
           tells first found.0 found.1 ∙ sym (clause_tells p c e)

@@ -1,7 +1,7 @@
-pub mod ToldTrimming
-pub mod ToldRows
-pub mod ToldMethods
-pub mod ToldPrograms
+pub mod Trimmed
+pub mod CanonicalRows
+pub mod CanonicalMethods
+pub mod CanonicalPrograms
 pub mod Same
 pub mod ClausesAlike
 pub mod Updates

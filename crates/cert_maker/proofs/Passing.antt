@@ -54,7 +54,7 @@ use Rattle.cert_maker.proofs.Roles.{IsNoted}
 use Rattle.cert_maker.proofs.Rows.{and_false}
 use Rattle.cert_maker.proofs.Rules.{all_hold, fault_at, no_fault}
 use Rattle.cert_maker.proofs.Shapes.{goes_past, jumps_to, places_of}
-use Rattle.cert_maker.proofs.Standing.{IsReady, Passes, Reached, all as items_in, blocked, client_catches, contained_right, each_with, entered_at, entered_opens, front_passes, inside, item_reached, item_told, less, rules_in, told, within}
+use Rattle.cert_maker.proofs.Standing.{IsReady, Passes, Reached, all as items_in, blocked, client_catches, contained_right, each_with, entered_at, entered_opens, front_passes, inside, item_reached, item_told, less, rules_in, canonical, within}
 use Rattle.block_template.proofs.Suits.{Suits, items_suit}
 use Rattle.class_weaving.proofs.Unwoven.{part_alone}
 
@@ -71,7 +71,7 @@ same_clause policy (target.Literal i) = refl
 
 module _ (b : Body) (frames : List (Option FrameType)) (ready : IsReady b frames) where
   abbrev notes_told : List Note
-  notes_told = told b frames ready
+  notes_told = canonical b frames ready
 
   abbrev R : ℕ → Type 0
   R at = Reached b frames ready at

@@ -51,8 +51,8 @@ module _ (policy : Policy) (mode : Mode) where
 
     -- ---- what is told
 
-    abbrev told : Target → List Note
-    told ref = part_notes policy mode base ref
+    abbrev canonical : Target → List Note
+    canonical ref = part_notes policy mode base ref
 
     abbrev call_of : ℕ → Called
     call_of callee = record { callee = callee; base = base }
@@ -64,7 +64,7 @@ module _ (policy : Policy) (mode : Mode) where
         length-map (items_of policy mode base callee) (λ (i : Item). note_of policy (call_of callee) i.role) ∙ sym (insns_count policy mode base callee)
 
     -- There are as many notes as instructions.
-    pub notes_long : (ref : Target) → length (told ref) ≡ length (part plan base ref)
+    pub notes_long : (ref : Target) → length (canonical ref) ≡ length (part plan base ref)
     notes_long (target.ApiMethod callee) = notes_by callee (has_clauses policy callee)
     notes_long target.None = refl
     notes_long (target.Builtin i) = refl
@@ -76,7 +76,7 @@ module _ (policy : Policy) (mode : Mode) where
     notes_long (target.Literal i) = refl
 
     pub note_item : (callee : ℕ) → has_clauses policy callee ≡ true → (k : ℕ) (item : Item) → slice_get (items_of policy mode base callee) k ≡ Some item
-        → slice_get (told (target.ApiMethod callee)) k ≡ Some (note_of policy (call_of callee) item.role)
+        → slice_get (canonical (target.ApiMethod callee)) k ≡ Some (note_of policy (call_of callee) item.role)
     note_item callee has k item e =
         ap (λ (b : Bool). slice_get (cond b (block_notes policy mode base callee) (notes.Free ∷ [])) k) has
         ∙ slice_get-map (λ (i : Item). note_of policy (call_of callee) i.role) (items_of policy mode base callee) k
@@ -85,7 +85,7 @@ module _ (policy : Policy) (mode : Mode) where
     note_by : (callee : ℕ) (b : Bool) → b ≡ false → cond b (block_notes policy mode base callee) (notes.Free ∷ []) ≡ notes.Free ∷ []
     note_by callee b e = ap (λ (c : Bool). cond c (block_notes policy mode base callee) (notes.Free ∷ [])) e
 
-    pub note_alone : (ref : Target) → has_block policy ref ≡ false → told ref ≡ notes.Free ∷ []
+    pub note_alone : (ref : Target) → has_block policy ref ≡ false → canonical ref ≡ notes.Free ∷ []
     note_alone (target.ApiMethod callee) e = note_by callee (has_clauses policy callee) e
     note_alone target.None e = refl
     note_alone (target.Builtin i) e = refl
@@ -96,6 +96,6 @@ module _ (policy : Policy) (mode : Mode) where
     note_alone (target.Number n) e = refl
     note_alone (target.Literal i) e = refl
 
-    pub parts_are : (refs : List Target) → parts_notes policy mode base refs ≡ flat_map told refs
+    pub parts_are : (refs : List Target) → parts_notes policy mode base refs ≡ flat_map canonical refs
     parts_are [] = refl
-    parts_are (ref ∷ refs) = ap (λ (ns : List Note). told ref ++ ns) (parts_are refs)
+    parts_are (ref ∷ refs) = ap (λ (ns : List Note). canonical ref ++ ns) (parts_are refs)

@@ -104,7 +104,7 @@ module _ (b : Blocked) where
 
   -- So many arguments stand on the stack again.
   pub loading_arrives : (wants : Asked) (n : ℕ) (locked : Bool) → n ≤ kept_arguments (clauses b)
-      → ((told : Note) → told ≡ notes.Granted (site b Before) locked n false → meets (rules b) wants told ≡ true)
+      → ((canonical : Note) → canonical ≡ notes.Granted (site b Before) locked n false → meets (rules b) wants canonical ≡ true)
       → Arrives b wants (loading (clauses b) n locked)
   loading_arrives wants n locked le wide = by (argument_at (clauses b) n) refl
     where
@@ -117,9 +117,9 @@ module _ (b : Blocked) where
           wide (note b (roles.Load n locked))
           (ap (λ (m : ℕ). notes.Granted (site b Before) locked m false) (byte_is n (omega (arith, le, few_arguments))))
 
-  pub granted_wide : (n : ℕ) (locked : Bool) (told : Note) → told ≡ notes.Granted (site b Before) locked n false
-      → meets (rules b) (Given (notes.Granted (site b Before) locked n false)) told ≡ true
-  granted_wide n locked told e =
+  pub granted_wide : (n : ℕ) (locked : Bool) (canonical : Note) → canonical ≡ notes.Granted (site b Before) locked n false
+      → meets (rules b) (Given (notes.Granted (site b Before) locked n false)) canonical ≡ true
+  granted_wide n locked canonical e =
       ap (same_note (notes.Granted (site b Before) locked n false)) e ∙ note_itself (notes.Granted (site b Before) locked n false)
 
   -- ---- a check that may begin, or is done
@@ -136,26 +136,26 @@ module _ (b : Blocked) where
   -- Where the update is due with the lock held, its check may have begun.
   pub owed_wide : (p : Phase) (kept : Bool) → is_some (clause_of b.policy (site b p)) ≡ true → asks_kept b.policy (site b p) ≡ kept
       → Wide b (Given (notes.Owed (site b p) 1 kept false)) 0 p 0 (as_taken b.policy)
-  owed_wide p kept some is told stands =
+  owed_wide p kept some is canonical stands =
       let same : beq kept (asks_kept b.policy (site b p)) ≡ true = ap (beq kept) is ∙ same_bool kept in
       let begins : may_begin b.policy (site b p) 1 kept false ≡ true = rw (some, same) refl in
-      or_last _ _ (and_from (may_begin b.policy (site b p) 1 kept false) (stands_for_held b.policy (site b p) 0 0 [] (as_taken b.policy) told) begins stands)
+      or_last _ _ (and_from (may_begin b.policy (site b p) 1 kept false) (stands_for_held b.policy (site b p) 0 0 [] (as_taken b.policy) canonical) begins stands)
 
   -- Where all atoms of a branch hold, and its updates are made, the check is done.
-  pub done_wide : (p : Phase) (n : ℕ) (branch : Branch) → IsBranch b p n branch → (told : Note) → told ≡ done b.policy (site b p)
+  pub done_wide : (p : Phase) (n : ℕ) (branch : Branch) → IsBranch b p n branch → (canonical : Note) → canonical ≡ done b.policy (site b p)
       → meets (rules b)
-      (Given (notes.Held (site b p) n (length branch.atoms) [] (after_updates b.policy (take (length branch.updates) branch.updates)))) told
+      (Given (notes.Held (site b p) n (length branch.atoms) [] (after_updates b.policy (take (length branch.updates) branch.updates)))) canonical
       ≡ true
-  done_wide p n branch is told e =
+  done_wide p n branch is canonical e =
       let all : take (length branch.updates) branch.updates ≡ branch.updates = take_all (length branch.updates) branch.updates (omega arith) in
       let alike : same_terms (after_updates b.policy (take (length branch.updates) branch.updates)) (after_updates b.policy branch.updates) ≡ true =
       ap (λ (us : List Update). same_terms (after_updates b.policy us) (after_updates b.policy branch.updates)) all
       ∙ terms_itself (after_updates b.policy branch.updates) in
       let is_so : is_done b.policy (site b p) n (length branch.atoms) (after_updates b.policy (take (length branch.updates) branch.updates)) ≡ true =
       rw (is.at, same_number (length branch.atoms), alike) refl in
-      let same : same_note (done b.policy (site b p)) told ≡ true = ap (same_note (done b.policy (site b p))) e ∙ note_itself (done b.policy (site b p)) in
+      let same : same_note (done b.policy (site b p)) canonical ≡ true = ap (same_note (done b.policy (site b p))) e ∙ note_itself (done b.policy (site b p)) in
       or_mid _ ((is_done b.policy (site b p) n (length branch.atoms) (after_updates b.policy (take (length branch.updates) branch.updates)) && true)
-      && same_note (done b.policy (site b p)) told) _ (rw (is_so, same) refl)
+      && same_note (done b.policy (site b p)) canonical) _ (rw (is_so, same) refl)
 
   -- ---- an instruction
 
@@ -186,11 +186,11 @@ module _ (b : Blocked) where
         → (may_pass x ≡ true → Arrives b row.past (next b.mode (clauses b) role))
         → (is_some (jump_of x) ≡ true → Arrives b row.jump (jumps b.mode (clauses b) role))
         → row.thrown ≡ Open → IsNoted role x
-    held_noted role x n told held calls_nothing row is passes lands thrown = record {
+    held_noted role x n canonical held calls_nothing row is passes lands thrown = record {
       row = row;
-      is = ap (λ (m : Note). rows.row (rules b) m (shape_of (placed_here x)) (named_here x)) told ∙ is;
-      variable = λ free. absurd (false≢true (sym held ∙ sym (ap is_free told) ∙ free));
-      pushes = λ free. absurd (false≢true (sym held ∙ sym (ap is_free told) ∙ free));
+      is = ap (λ (m : Note). rows.row (rules b) m (shape_of (placed_here x)) (named_here x)) canonical ∙ is;
+      variable = λ free. absurd (false≢true (sym held ∙ sym (ap is_free canonical) ∙ free));
+      pushes = λ free. absurd (false≢true (sym held ∙ sym (ap is_free canonical) ∙ free));
       called = λ at. rw calls_nothing refl;
       catches = and_none _ _ calls_nothing;
       passes = passes;
@@ -206,11 +206,11 @@ module _ (b : Blocked) where
         → pushes_state (shape_of (placed_here x)) (named_here x) ≡ false → named_here x ≡ target.None
         → Arrives b Open (next b.mode (clauses b) role) → Arrives b Open (jumps b.mode (clauses b) role) → IsNoted role x
     unfolding free_row
-    free_noted role x told calls_nothing other none passes lands =
+    free_noted role x canonical calls_nothing other none passes lands =
         let alone : is_some (variable_named b.state (named_here x)) ≡ false = ap (λ (t : Target). is_some (variable_named b.state t)) none in
         record {
           row = free_row;
-          is = ap (λ (m : Note). rows.row (rules b) m (shape_of (placed_here x)) (named_here x)) told ∙ rw (other, alone) refl;
+          is = ap (λ (m : Note). rows.row (rules b) m (shape_of (placed_here x)) (named_here x)) canonical ∙ rw (other, alone) refl;
           variable = λ free. alone;
           pushes = λ free class. absurd (false≢true (sym other ∙ class));
           called = λ at. rw calls_nothing refl;

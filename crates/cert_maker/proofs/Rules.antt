@@ -78,29 +78,29 @@ eight a b c d e f g h p q r s t u v w = rw (p, q, r, s, t, u, v, w) refl
 
 -- ---- what is asked of a way out is asked at all
 
-module _ (told : List Note) (method : Method) (here : Here) where
+module _ (canonical : List Note) (method : Method) (here : Here) where
   module _ (p q : Asked → Note → Bool) (weaker : (wants : Asked) (note : Note) → p wants note ≡ true → q wants note ≡ true) where
-    place_weaker : (wants : Asked) (at : ℕ) → note_passes p told wants at ≡ true → note_passes q told wants at ≡ true
-    place_weaker wants at = by (slice_get told at)
+    place_weaker : (wants : Asked) (at : ℕ) → note_passes p canonical wants at ≡ true → note_passes q canonical wants at ≡ true
+    place_weaker wants at = by (slice_get canonical at)
       where
         by : (o : Option Note) → option_map_or (p wants) o false ≡ true → option_map_or (q wants) o false ≡ true
         by None e = absurd cc
         by (Some note) e = weaker wants note e
 
-    handlers_weaker : (wants : Asked) → list_all (note_passes p told wants) (handlers_of here.at method.handlers) ≡ true
-        → list_all (note_passes q told wants) (handlers_of here.at method.handlers) ≡ true
+    handlers_weaker : (wants : Asked) → list_all (note_passes p canonical wants) (handlers_of here.at method.handlers) ≡ true
+        → list_all (note_passes q canonical wants) (handlers_of here.at method.handlers) ≡ true
     handlers_weaker wants e =
-        weaker_all (note_passes p told wants) (note_passes q told wants) (place_weaker wants) (handlers_of here.at method.handlers) e
+        weaker_all (note_passes p canonical wants) (note_passes q canonical wants) (place_weaker wants) (handlers_of here.at method.handlers) e
 
-    pass_weaker : (row : Row) → all_pass p told (Some row) method here ≡ true → all_pass q told (Some row) method here ≡ true
+    pass_weaker : (row : Row) → all_pass p canonical (Some row) method here ≡ true → all_pass q canonical (Some row) method here ≡ true
     pass_weaker row e =
-        let both = and_parts (next_pass p told (Some row) here) (handlers_pass p told (Some row) method here) e in
+        let both = and_parts (next_pass p canonical (Some row) here) (handlers_pass p canonical (Some row) method here) e in
         let goes : Bool = not (goes_on (opcode_of here.insn)) in
-        let next = and_parts (goes || note_passes p told row.past (here.at + 1)) (list_all (note_passes p told row.jump) (jump_targets here.insn)) both.0 in
-        and_from (next_pass q told (Some row) here) (handlers_pass q told (Some row) method here)
-        (and_from (goes || note_passes q told row.past (here.at + 1)) (list_all (note_passes q told row.jump) (jump_targets here.insn))
-        (or_weaker goes (note_passes p told row.past (here.at + 1)) (note_passes q told row.past (here.at + 1)) (place_weaker row.past (here.at + 1)) next.0)
-        (weaker_all (note_passes p told row.jump) (note_passes q told row.jump) (place_weaker row.jump) (jump_targets here.insn) next.1))
+        let next = and_parts (goes || note_passes p canonical row.past (here.at + 1)) (list_all (note_passes p canonical row.jump) (jump_targets here.insn)) both.0 in
+        and_from (next_pass q canonical (Some row) here) (handlers_pass q canonical (Some row) method here)
+        (and_from (goes || note_passes q canonical row.past (here.at + 1)) (list_all (note_passes q canonical row.jump) (jump_targets here.insn))
+        (or_weaker goes (note_passes p canonical row.past (here.at + 1)) (note_passes q canonical row.past (here.at + 1)) (place_weaker row.past (here.at + 1)) next.0)
+        (weaker_all (note_passes p canonical row.jump) (note_passes q canonical row.jump) (place_weaker row.jump) (jump_targets here.insn) next.1))
         (handlers_weaker row.thrown both.1)
 
   -- ---- the rules
@@ -110,10 +110,10 @@ module _ (told : List Note) (method : Method) (here : Here) where
     pub record Holds : Type 0 where
       pub row : Row
       pub is : rows.row rules note (shape_of here.insn) here.ref ≡ Some row
-      pub alone : leaves_alone rules told note here ≡ true
+      pub alone : leaves_alone rules canonical note here ≡ true
       pub called : calls_well rules note here ≡ true
-      pub caught : catches_well rules told method note here ≡ true
-      pub pass : all_pass (meets rules) told (Some row) method here ≡ true
+      pub caught : catches_well rules canonical method note here ≡ true
+      pub pass : all_pass (meets rules) canonical (Some row) method here ≡ true
       pub first : (here.at == 0) ≡ true → is_open rules.held rules.policy note ≡ true
 
     begins : (b : Bool) → (b ≡ true → is_open rules.held rules.policy note ≡ true) → (not b || is_open rules.held rules.policy note) ≡ true
@@ -129,23 +129,23 @@ module _ (told : List Note) (method : Method) (here : Here) where
     has_row false true = refl
     has_row false false = refl
 
-    pub no_fault : Holds → row_fault rules told method here note ≡ None
+    pub no_fault : Holds → row_fault rules canonical method here note ≡ None
     no_fault h =
-        let meet : Bool = all_pass (meets rules) told (Some h.row) method here in
-        let stops : all_pass (stops_well rules) told (Some h.row) method here ≡ true =
+        let meet : Bool = all_pass (meets rules) canonical (Some h.row) method here in
+        let stops : all_pass (stops_well rules) canonical (Some h.row) method here ≡ true =
         pass_weaker (meets rules) (stops_well rules) (λ wants n e. or_last _ _ e) h.row h.pass in
-        ap (λ (o : Option Row). first_broken (rules_at rules told method note here o)) h.is
-        ∙ eight (leaves_alone rules told note here) (calls_well rules note here) (catches_well rules told method note here)
+        ap (λ (o : Option Row). first_broken (rules_at rules canonical method note here o)) h.is
+        ∙ eight (leaves_alone rules canonical note here) (calls_well rules note here) (catches_well rules canonical method note here)
         (not (enters (shape_of here.insn) || leaves (shape_of here.insn)) || (is_free note || true))
         (not (is_held note) || (writes_static (shape_of here.insn) || true))
         (not (writes_static (shape_of here.insn)) || (is_free note || true))
-        (cond (is_stop note) true (all_pass (stops_well rules) told (Some h.row) method here))
+        (cond (is_stop note) true (all_pass (stops_well rules) canonical (Some h.row) method here))
         (true && (meet && (not (here.at == 0) || is_open rules.held rules.policy note)))
         h.alone h.called h.caught (has_row _ _) (has_row _ _) (has_row _ _) (stops_or_goes (is_stop note) _ stops)
         (and_from meet _ h.pass (begins (here.at == 0) h.first))
 
 -- What stands at an instruction tells which note is asked.
-pub fault_at : (rules : Rules) (told : List Note) (method : Method) (at : ℕ) (insn : Insn) (ref : Target) (note : Note) → slice_get method.insns at ≡ Some insn
-    → slice_get method.refs at ≡ Some ref → slice_get told at ≡ Some note
-    → row_fault rules told method (record { at = at; insn = insn; ref = ref }) note ≡ None → note_fault rules told method at ≡ None
-fault_at rules told method at insn ref note e f g row = rw (e, f, g) row
+pub fault_at : (rules : Rules) (canonical : List Note) (method : Method) (at : ℕ) (insn : Insn) (ref : Target) (note : Note) → slice_get method.insns at ≡ Some insn
+    → slice_get method.refs at ≡ Some ref → slice_get canonical at ≡ Some note
+    → row_fault rules canonical method (record { at = at; insn = insn; ref = ref }) note ≡ None → note_fault rules canonical method at ≡ None
+fault_at rules canonical method at insn ref note e f g row = rw (e, f, g) row

@@ -139,9 +139,9 @@ frames_long frames (x ∷ methods) (suc index) m e there has = by (has_code x) r
         let rest : map length frames ≡ map size (coded methods) = cc in
         rw some (later frames rest)
 
-after_is : {A : Type 0} (told : List (List A)) (k : ℕ) → list_at told (suc k) ≡ list_at (drop 1 told) k
+after_is : {A : Type 0} (canonical : List (List A)) (k : ℕ) → list_at canonical (suc k) ≡ list_at (drop 1 canonical) k
 after_is [] k = refl
-after_is (f ∷ told) k = refl
+after_is (f ∷ canonical) k = refl
 
 module _ (policy : Policy) (mode : Mode) where
   -- the notes of the method of an index

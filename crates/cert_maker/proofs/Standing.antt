@@ -140,8 +140,8 @@ module _ (k : Blocked) where
   inside wants roles.Rethrow reached arrives = arrives
 
 module _ (b : Body) (frames : List (Option FrameType)) (ready : IsReady b frames) where
-  abbrev pub told : List Note
-  told = method_notes b.policy b.mode b.method frames
+  abbrev pub canonical : List Note
+  canonical = method_notes b.policy b.mode b.method frames
 
   abbrev pub rules_in : Rules
   rules_in = record { held = held_in b.mode; policy = b.policy; state = b.state }
@@ -150,7 +150,7 @@ module _ (b : Body) (frames : List (Option FrameType)) (ready : IsReady b frames
   Reached at = is_some (frame_of frames at) ≡ true
 
   abbrev pub Passes : Asked → ℕ → Type 0
-  Passes wants at = note_passes (meets rules_in) told wants at ≡ true
+  Passes wants at = note_passes (meets rules_in) canonical wants at ≡ true
 
   typed_here : (at : ℕ) → Reached at → at < length frames
   typed_here at reached = by (slice_get frames at) refl reached
@@ -189,7 +189,7 @@ module _ (b : Body) (frames : List (Option FrameType)) (ready : IsReady b frames
 
     -- The note of an item.
     pub item_told : (k : ℕ) (item : Item) → slice_get all k ≡ Some item → Reached (front b i + k)
-        → slice_get told (front b i + k) ≡ Some (note blocked item.role)
+        → slice_get canonical (front b i + k) ≡ Some (note blocked item.role)
     item_told k item e reached =
         note_there b frames i k (target.ApiMethod callee) (note blocked item.role) names (note_item b.policy b.mode (base b) callee has k item e) reached
 
@@ -211,7 +211,7 @@ module _ (b : Body) (frames : List (Option FrameType)) (ready : IsReady b frames
 
   pub record IsOpenAt (at : ℕ) : Type 0 where
     pub note : Note
-    pub there : slice_get told at ≡ Some note
+    pub there : slice_get canonical at ≡ Some note
     pub opens : is_open (held_in b.mode) b.policy note ≡ true
 
   open_alone : (j : ℕ) (ref : Target) → slice_get (refs b) j ≡ Some ref → has_block b.policy ref ≡ false → Reached (front b j + 0) → IsOpenAt (front b j + 0)
@@ -269,11 +269,11 @@ module _ (b : Body) (frames : List (Option FrameType)) (ready : IsReady b frames
 
   -- What is thrown to the client is caught in no block.
   pub client_catches : (at : ℕ) (insn : Insn) → slice_get b.made.insns at ≡ Some insn → Reached at → AllMiss at (own_handlers 0 (sites_in b))
-      → list_all (note_passes (meets rules_in) told Open) (handlers_of at b.made.handlers) ≡ true
+      → list_all (note_passes (meets rules_in) canonical Open) (handlers_of at b.made.handlers) ≡ true
   client_catches at insn there reached miss =
-      ap (λ (hs : List Handler). list_all (note_passes (meets rules_in) told Open) (handlers_of at hs)) (handlers_are (weaves b))
-      ∙ ap (list_all (note_passes (meets rules_in) told Open)) (missed at (own_handlers 0 (sites_in b)) (map (at_fronts (fronts b)) b.method.handlers) miss)
-      ∙ caught_all (note_passes (meets rules_in) told Open) at (map (at_fronts (fronts b)) b.method.handlers)
+      ap (λ (hs : List Handler). list_all (note_passes (meets rules_in) canonical Open) (handlers_of at hs)) (handlers_are (weaves b))
+      ∙ ap (list_all (note_passes (meets rules_in) canonical Open)) (missed at (own_handlers 0 (sites_in b)) (map (at_fronts (fronts b)) b.method.handlers) miss)
+      ∙ caught_all (note_passes (meets rules_in) canonical Open) at (map (at_fronts (fronts b)) b.method.handlers)
       (each_with AtFront (λ (h : Handler). covers at h ≡ true → Passes Open h.at) (map (at_fronts (fronts b)) b.method.handlers)
       (all_fronts b.method.handlers b.sound.handlers)
       (λ h c is covered. passes h c is covered))

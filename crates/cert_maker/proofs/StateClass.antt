@@ -94,9 +94,9 @@ module _ (rest : List Const) where
       ap (λ (t : List ℕ). bytes_eq t (field_name index)) (name_is index name) ∙ same_text (field_name index) in
       let typed : bytes_eq (desc_of pool (field index var)) (field_type var) ≡ true =
       ap (λ (t : List ℕ). bytes_eq t (field_type var)) (kind_is var.is_bool) ∙ same_text (field_type var) in
-      let told : tells_first pool var (field index var).attrs ≡ true =
+      let canonical : tells_first pool var (field index var).attrs ≡ true =
       and_from _ _ (ap (λ (t : List ℕ). bytes_eq t (codes "ConstantValue")) value_text) (first_is index var few value) in
-      and_from _ _ named (and_from _ _ typed told)
+      and_from _ _ named (and_from _ _ typed canonical)
 
   none_wrong : (index : ℕ) (vars : List Var) → index + length vars ≤ 16 → HasNames pool index vars → HasValues pool index vars
       → wrong_field pool index vars (fields_from index vars) ≡ None

@@ -7,25 +7,25 @@ use Rattle.cert_format.specs.declared.typing.FrameType.{FrameType}
 use Rattle.conspec_automaton.specs.declared.policy.Policy.{Policy}
 use Rattle.cert_maker.specs.Noting.{if_typed, part_notes, parts_notes, where_typed}
 
-none_typed : (told : List Note) → where_typed told [] ≡ []
+none_typed : (canonical : List Note) → where_typed canonical [] ≡ []
 none_typed [] = refl
-none_typed (note ∷ told) = refl
+none_typed (note ∷ canonical) = refl
 
-pub typed_append : (told more : List Note) (frames : List (Option FrameType))
-    → where_typed (told ++ more) frames ≡ where_typed told frames ++ where_typed more (drop (length told) frames)
+pub typed_append : (canonical more : List Note) (frames : List (Option FrameType))
+    → where_typed (canonical ++ more) frames ≡ where_typed canonical frames ++ where_typed more (drop (length canonical) frames)
 typed_append [] more frames = refl
-typed_append (note ∷ told) more [] = sym (none_typed more)
-typed_append (note ∷ told) more (frame ∷ frames) = ap (λ (ns : List Note). if_typed frame note ∷ ns) (typed_append told more frames)
+typed_append (note ∷ canonical) more [] = sym (none_typed more)
+typed_append (note ∷ canonical) more (frame ∷ frames) = ap (λ (ns : List Note). if_typed frame note ∷ ns) (typed_append canonical more frames)
 
 -- One part more.
-pub typed_step : (out new told more total : List Note) (frames left : List (Option FrameType))
-    → out ++ where_typed (told ++ more) frames ≡ total → new ≡ out ++ where_typed told frames → left ≡ drop (length told) frames
+pub typed_step : (out new canonical more total : List Note) (frames left : List (Option FrameType))
+    → out ++ where_typed (canonical ++ more) frames ≡ total → new ≡ out ++ where_typed canonical frames → left ≡ drop (length canonical) frames
     → new ++ where_typed more left ≡ total
-typed_step out new told more total frames left so_far put following =
+typed_step out new canonical more total frames left so_far put following =
     ap (λ (ns : List Note). ns ++ where_typed more left) put
-    ∙ ap (λ (fs : List (Option FrameType)). (out ++ where_typed told frames) ++ where_typed more fs) following
-    ∙ append_assoc out (where_typed told frames) (where_typed more (drop (length told) frames))
-    ∙ ap (λ (ns : List Note). out ++ ns) (sym (typed_append told more frames)) ∙ so_far
+    ∙ ap (λ (fs : List (Option FrameType)). (out ++ where_typed canonical frames) ++ where_typed more fs) following
+    ∙ append_assoc out (where_typed canonical frames) (where_typed more (drop (length canonical) frames))
+    ∙ ap (λ (ns : List Note). out ++ ns) (sym (typed_append canonical more frames)) ∙ so_far
 
 -- The parts of instructions, of which the first is done.
 pub parts_step : (policy : Policy) (mode : Mode) (base : ℕ) (refs others : List Target) (ref : Target) (out new total : List Note)

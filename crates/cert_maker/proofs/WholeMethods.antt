@@ -48,12 +48,12 @@ use Rattle.cert_maker.proofs.Passing.{alone_passes, first_opens, flows, led, nex
 use Rattle.cert_maker.proofs.Plans.{within as calls_within}
 use Rattle.cert_maker.proofs.Rows.{and_false, called}
 use Rattle.cert_maker.proofs.Rules.{fault_at, no_fault, or_last}
-use Rattle.cert_maker.proofs.Standing.{few, IsReady, Passes, Reached, all as items_in, blocked, client_catches, contained_right, item_told, rules_in, told, within}
+use Rattle.cert_maker.proofs.Standing.{few, IsReady, Passes, Reached, all as items_in, blocked, client_catches, contained_right, item_told, rules_in, canonical, within}
 use Rattle.class_weaving.proofs.Unwoven.{part_alone}
 
 module _ (b : Body) (frames : List (Option FrameType)) (ready : IsReady b frames) where
   abbrev notes_told : List Note
-  notes_told = told b frames ready
+  notes_told = canonical b frames ready
 
   abbrev R : ℕ → Type 0
   R at = Reached b frames ready at

@@ -1,5 +1,5 @@
-pub mod Told
-pub mod ToldIsTyped
+pub mod Canonical
+pub mod CanonicalIsTyped
 pub mod Small
 pub mod Noting
 pub mod Accepting

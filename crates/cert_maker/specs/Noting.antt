@@ -157,8 +157,8 @@ if_typed (Some frame) note = note
 
 abbrev pub where_typed : List Note → List (Option FrameType) → List Note
 where_typed [] frames = []
-where_typed (note ∷ told) [] = []
-where_typed (note ∷ told) (frame ∷ frames) = if_typed frame note ∷ where_typed told frames
+where_typed (note ∷ canonical) [] = []
+where_typed (note ∷ canonical) (frame ∷ frames) = if_typed frame note ∷ where_typed canonical frames
 
 abbrev pub method_notes : Policy → Mode → Method → List (Option FrameType) → List Note
 method_notes policy mode method frames = where_typed (parts_notes policy mode method.max_locals method.refs) frames

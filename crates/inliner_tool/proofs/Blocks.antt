@@ -31,7 +31,7 @@ use Rattle.inliner_tool.specs.declared.inline.Given.{Given}
 use Rattle.inliner_tool.specs.declared.inline.Ready.{Ready}
 use Rattle.inliner_tool.specs.Programs.{AreTypes, link_step, woven_links}
 use Rattle.inliner_tool.specs.Steps.{Step, UnlessMemory}
-use Rattle.inliner_tool.specs.Weaving.{Accepts, IsPlanned, IsRewoven, Remakes, certificate_for, mode_for, original}
+use Rattle.inliner_tool.specs.Weaving.{Accepts, IsJudgedReady, IsPlanned, IsRewoven, Remakes, certificate_for, mode_for, original}
 use Rattle.inliner_tool.proofs.Constants.{has_numbers}
 use Rattle.inliner_tool.proofs.Counting.{assembled_of, files_counted}
 
@@ -90,7 +90,7 @@ module _ (main folder : List ℕ) (weaving : Weaving) (inputs : InlineInputs) (g
     (typed : AreTypes given.client given.typing) (is : given.policy ≡ built inputs.policy) (chosen : mode_for weaving inputs.policy given.client.listing ≡ Ok given.mode) (listing : given.client.listing ≡ inputs.listing)
     (weaves : woven given.client (plan_of given.policy given.mode) given.policy.vars ≡ Ok made)
     (remade : (new : Program) × ((woven_links made.files inputs.listing main ≡ Ok new) × IsWoven given.client (plan_of given.policy given.mode) given.policy.vars new)) where
-  whole : (ready : Ready) → IsRewoven main folder given made.files ready → IsPlanned main folder weaving inputs ready
+  pub whole : (ready : Ready) → IsRewoven main folder given made.files ready → IsPlanned main folder weaving inputs ready
   whole ready rewoven = record {
     given = given;
     links = links;
@@ -105,10 +105,6 @@ module _ (main folder : List ℕ) (weaving : Weaving) (inputs : InlineInputs) (g
         subst (λ (p : Program). IsWoven given.client (plan_of given.policy given.mode) given.policy.vars p)
         (same_program (woven_links made.files inputs.listing main) remade.0 rewoven.program remade.1.0 (ap (λ (l : Listing). woven_links made.files l main) (sym listing) ∙ rewoven.links)) remade.1.1;
   }
-
-  pub planned : (r : Step Ready) → IfOk r (λ ready. IsRewoven main folder given made.files ready) → IfOk r (λ ready. IsPlanned main folder weaving inputs ready)
-  planned (Ok ready) rewoven = whole ready rewoven
-  planned (Err ended) rewoven = tt
 
 -- ---- what is woven again
 
@@ -125,9 +121,8 @@ module _ (main folder : List ℕ) (given : Given) (made : Woven) (program : Prog
 pub known_rewoven : (main folder : List ℕ) (given : Given) (made : Woven) (program : Program) → woven_links made.files given.client.listing main ≡ Ok program → unlinked program ≡ made.files
     → IsSound program → IsAllowed program given.policy (certificate_for given program)
     → (is_written (certificate_for given program) ≡ true → IsEncodable (length given.policy.vars) (certificate_for given program))
-    → (r : Step Ready) → IfOk r (λ ready. Secure given.mode program given.policy) → IfOk r (λ ready. judged program given.policy (certificate_for given program) ≡ Ok ready.accepted) → IfOk r (λ ready. is_written (certificate_for given program) ≡ true) → IfOk r (λ ready. ready.outputs ≡ outputs_of folder program (certificate_for given program))
-    → IfOk r (λ ready. IsRewoven main folder given made.files ready)
-known_rewoven main folder given made program links back sound allowed encodes (Ok ready) secure judged written outputs = record {
+    → (ready : Ready) → IsJudgedReady folder given.policy program (certificate_for given program) ready → IsRewoven main folder given made.files ready
+known_rewoven main folder given made program links back sound allowed encodes ready judged = record {
   program = program;
   links = links;
   same = back;
@@ -135,10 +130,9 @@ known_rewoven main folder given made program links back sound allowed encodes (O
   certificate = certificate_for given program;
   mode_is = refl;
   accepted = allowed;
-  verdict = judged;
-  secure = secure;
-  encodes = encodes written;
-  written = written;
-  outputs = outputs;
+  verdict = judged.verdict;
+  secure = judged.secure;
+  encodes = encodes judged.written;
+  written = judged.written;
+  outputs = judged.outputs;
 }
-known_rewoven main folder given made program links back sound allowed encodes (Err e) secure judged written outputs = tt

@@ -1,6 +1,6 @@
 -- What a command comes to over told files, without a fault of the store, is what its definition gives.
 use Rattle.std.proofs.Common.{◌≡◌, ℕ, List, Option, Some, Ok, Err, inl, inr, refl, subst}
-use Rattle.command_words.specs.Words.{Check, Inline, IsCommand, NamedCommand, Policy, Race, Replay, Run, Show}
+use Rattle.command_words.specs.Words.{Check, Gen, Inline, IsCommand, NamedCommand, Policy, Race, Replay, Run, Show}
 use Rattle.command_words.proofs.NamedOnce.{command_once}
 use Rattle.input_files.specs.Contents.{Contents, check_read, inline_read, policy_read, race_read, replay_read, show_read}
 use Rattle.input_files.specs.Forms.{Count, Then, Yields}
@@ -41,6 +41,7 @@ module _ (told : ToldAreRead) (contents : Contents) (count : Count) (no_rise : R
   makes_so (Race named) new step other = told_so _ (race_read contents named) (λ r. told.race contents count named r no_rise) Races step other
   makes_so (Inline named) new step other = told_so _ (inline_read contents named) (λ r. told.inline contents count named r no_rise) (Inlines named) step other
   makes_so (Replay named) new step other = told_so _ (replay_read contents named) (λ r. told.replay contents count named r no_rise) (Replays named.main) step other
+  makes_so (Gen named) new step other = λ makes. makes
   makes_so (Run named) new step other = told_so _ (check_read contents named.check) (λ r. told.check contents count named.check r no_rise) (Runs named) step other
 
   gives_so : (named : NamedCommand) (new : Files) (outcome : Outcome) → CarriesOut (telling new) named (outcome_step outcome) → Gives contents named outcome

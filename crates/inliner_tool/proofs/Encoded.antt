@@ -20,7 +20,7 @@ use Rattle.cert_maker.specs.Noting.{certificate_of, class_notes, if_typed, metho
 use Rattle.conspec_automaton.specs.declared.policy.Policy.{Policy}
 use Rattle.conspec_automaton.specs.Sound.{IsPolicy}
 use Rattle.output_files.specs.Outputs.{is_written}
-use Rattle.cert_maker.specs.Told.{FitsTold, FitsTyping}
+use Rattle.cert_maker.specs.Canonical.{FitsIfSome, FitsTyping}
 use Rattle.inliner_tool.proofs.Bases.{few_locals}
 use Rattle.inliner_tool.proofs.Names.{fit_names}
 use Rattle.inliner_tool.proofs.Notes.{parts_fit}
@@ -54,15 +54,15 @@ few_coded (m ∷ methods) = by (has_code m) (few_coded methods) where
 module _ (vars : ℕ) where
   -- ---- a method
 
-  instruction_fits : (frame : Option FrameType) (note : Note) → FitsTold frame → FitsNote vars note → FitsInstruction vars (frame, if_typed frame note)
-  instruction_fits None note told fits = refl
-  instruction_fits (Some f) note told fits = (told, fits)
+  instruction_fits : (frame : Option FrameType) (note : Note) → FitsIfSome frame → FitsNote vars note → FitsInstruction vars (frame, if_typed frame note)
+  instruction_fits None note canonical fits = refl
+  instruction_fits (Some f) note canonical fits = (canonical, fits)
 
-  instructions_fit : (told : List Note) (frames : Frames) → AllByRecursion FitsTold frames → AllByRecursion (FitsNote vars) told → AllByRecursion (FitsInstruction vars) (zip frames (where_typed told frames))
+  instructions_fit : (canonical : List Note) (frames : Frames) → AllByRecursion FitsIfSome frames → AllByRecursion (FitsNote vars) canonical → AllByRecursion (FitsInstruction vars) (zip frames (where_typed canonical frames))
   instructions_fit [] [] fit noted = tt
   instructions_fit [] (f ∷ frames) fit noted = tt
-  instructions_fit (note ∷ told) [] fit noted = tt
-  instructions_fit (note ∷ told) (f ∷ frames) fit noted = (instruction_fits f note fit.0 noted.0, instructions_fit told frames fit.1 noted.1)
+  instructions_fit (note ∷ canonical) [] fit noted = tt
+  instructions_fit (note ∷ canonical) (f ∷ frames) fit noted = (instruction_fits f note fit.0 noted.0, instructions_fit canonical frames fit.1 noted.1)
 
   -- ---- a class
 
@@ -71,14 +71,14 @@ module _ (vars : ℕ) where
     abbrev Small : Method → Type 0
     Small method = has_code method ≡ true → method.max_locals < 2 ^ 16
 
-    methods_fit : (methods : List Method) → AllByRecursion Small methods → (frames : List Frames) → AllByRecursion (λ (fs : Frames). AllByRecursion FitsTold fs) frames → AllByRecursion (λ (fs : Frames). length fs < 2 ^ 16) frames
+    methods_fit : (methods : List Method) → AllByRecursion Small methods → (frames : List Frames) → AllByRecursion (λ (fs : Frames). AllByRecursion FitsIfSome fs) frames → AllByRecursion (λ (fs : Frames). length fs < 2 ^ 16) frames
         → map length (class_notes policy mode methods frames) ≡ map length frames → AllByRecursion (FitsMethod vars) (zip frames (class_notes policy mode methods frames))
     methods_fit [] small [] fit few e = tt
     methods_fit [] small (fs ∷ frames) fit few e = tt
     methods_fit (m ∷ methods) small frames fit few e = by (has_code m) refl frames fit few e (methods_fit methods small.1) where
-      by : (b : Bool) → has_code m ≡ b → (frames : List Frames) → AllByRecursion (λ (fs : Frames). AllByRecursion FitsTold fs) frames → AllByRecursion (λ (fs : Frames). length fs < 2 ^ 16) frames
+      by : (b : Bool) → has_code m ≡ b → (frames : List Frames) → AllByRecursion (λ (fs : Frames). AllByRecursion FitsIfSome fs) frames → AllByRecursion (λ (fs : Frames). length fs < 2 ^ 16) frames
           → map length (cond b (method_notes policy mode m (list_at frames 0) ∷ class_notes policy mode methods (drop 1 frames)) (class_notes policy mode methods frames)) ≡ map length frames
-          → ((later : List Frames) → AllByRecursion (λ (fs : Frames). AllByRecursion FitsTold fs) later → AllByRecursion (λ (fs : Frames). length fs < 2 ^ 16) later
+          → ((later : List Frames) → AllByRecursion (λ (fs : Frames). AllByRecursion FitsIfSome fs) later → AllByRecursion (λ (fs : Frames). length fs < 2 ^ 16) later
           → map length (class_notes policy mode methods later) ≡ map length later → AllByRecursion (FitsMethod vars) (zip later (class_notes policy mode methods later)))
           → AllByRecursion (FitsMethod vars) (zip frames (cond b (method_notes policy mode m (list_at frames 0) ∷ class_notes policy mode methods (drop 1 frames)) (class_notes policy mode methods frames)))
       by false is frames fit few e rest = rest frames fit few e
@@ -91,7 +91,7 @@ module _ (vars : ℕ) where
           )
 
     classes_fit : (classes : List LinkedClass) → AllByRecursion (λ (c : LinkedClass). AllByRecursion Small c.methods) classes → (frames : List (List Frames))
-        → AllByRecursion (λ (fs : List Frames). AllByRecursion (λ (f : Frames). AllByRecursion FitsTold f) fs) frames
+        → AllByRecursion (λ (fs : List Frames). AllByRecursion (λ (f : Frames). AllByRecursion FitsIfSome f) fs) frames
         → AllByRecursion (λ (fs : List Frames). (length fs < 2 ^ 16) × AllByRecursion (λ (f : Frames). length f < 2 ^ 16) fs) frames
         → map (map length) (notes_of policy mode classes frames) ≡ map (map length) frames → AllByRecursion (FitsClass vars) (zip frames (notes_of policy mode classes frames))
     classes_fit [] small [] fit few e = tt

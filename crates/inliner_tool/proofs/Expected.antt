@@ -31,11 +31,11 @@ use Rattle.conspec_automaton.specs.Building.{built}
 use Rattle.conspec_parse.specs.Telling.{KindsAreTold, ResultsAreTold}
 use Rattle.input_files.specs.declared.inline_inputs.InlineInputs.{InlineInputs}
 use Rattle.input_files.specs.InlineInputs.{InlineSound}
-use Rattle.cert_maker.specs.ToldIsTyped.{IsTypedStill, ToldIsTyped}
+use Rattle.cert_maker.specs.CanonicalIsTyped.{IsTypedStill, CanonicalIsTyped}
 use Rattle.woven_linking.specs.Links.{OriginalIsFree, WovenLinks}
 use Rattle.woven_linking.specs.Program.{IsWovenOf, WovenFilesComeBack, WovenFilesHaveRoom, WovenProgramIsLinked, WovenProgramIsSound}
 use Rattle.output_files.specs.Outputs.{is_written}
-use Rattle.cert_maker.specs.Told.{FitsTyping, told}
+use Rattle.cert_maker.specs.Canonical.{FitsTyping, canonical}
 use Rattle.cert_format.specs.Fits as encode
 use Rattle.class_codec.specs.Fits.{IsEncodable}
 use Rattle.std.specs.List.{AllByRecursion}
@@ -65,7 +65,7 @@ there (x ∷ list) (suc at) lt = there list at (omega (arith, lt))
 
 module _ (old new : Program) (policy : Policy) (mode : Mode) (typing : Typing) (reaches : BlocksAreReachedSo) (given : IsGiven old new policy mode) (shaped : IsLaidOut old typing.frames)
     (still : IsTypedStill new (typing_of old policy mode typing)) where
-  pub stopped : IsStopped old policy mode new (told new (typing_of old policy mode typing))
+  pub stopped : IsStopped old policy mode new (canonical new (typing_of old policy mode typing))
   stopped own index i callee k class method item class_there method_there ref_there has item_there role =
       let sound_class = all_get IsSoundClass old.classes own class given.sound.classes class_there in
       let sound_method = all_get IsSoundMethod class.methods index method sound_class.methods method_there in
@@ -79,7 +79,7 @@ module _ (old new : Program) (policy : Policy) (mode : Mode) (typing : Typing) (
 
 module _ (links : WovenLinks) (good : PlansAreGood) (free : OriginalIsFree) (order : LinkedIsInOrder) (right : LinkedOperandsAreRight)
     (kinds : KindsAreTold) (results : ResultsAreTold) (tells : PoliciesTell) (knows : ListingsKnowThrowable) (types : WovenIsTyped) (reaches : BlocksAreReachedSo)
-    (stays : ToldIsTyped) (accepts : WovenIsAccepted) (linked_so : WovenProgramIsLinked) (back : WovenFilesComeBack) (room : WovenFilesHaveRoom) (sound_so : WovenProgramIsSound)
+    (stays : CanonicalIsTyped) (accepts : WovenIsAccepted) (linked_so : WovenProgramIsLinked) (back : WovenFilesComeBack) (room : WovenFilesHaveRoom) (sound_so : WovenProgramIsSound)
     (named : LinkedAreNamed)
     (inputs : InlineInputs) (known : InlineSound inputs) (main : List ℕ) (given : Given) (made : Woven)
     (client_links : linked inputs.classes.files inputs.listing main Original ≡ Ok given.client) (sound : IsSound given.client) (of : IsLinkedOf Original inputs.listing main given.client)
@@ -119,7 +119,7 @@ module _ (links : WovenLinks) (good : PlansAreGood) (free : OriginalIsFree) (ord
 
   accepted : IsSound new.0 → IsAccepted new.0 given.policy (certificate_for given new.0)
   accepted new_sound =
-      accepts given.client new.0 given.policy given.mode (told new.0 (typing_of given.client given.policy given.mode given.typing)) sound_for.read
+      accepts given.client new.0 given.policy given.mode (canonical new.0 (typing_of given.client given.policy given.mode given.typing)) sound_for.read
       (fits_listing given.client.listing given.policy.clauses sound_for.told) sound new_sound operands
       (free known.listed.text inputs.listing inputs.classes.files main given.client known.listed.encodes (assembled_of inputs.classes.files inputs.listing main Original given.client client_links))
       new.1.1 still.typed still.shaped
@@ -139,7 +139,7 @@ module _ (links : WovenLinks) (good : PlansAreGood) (free : OriginalIsFree) (ord
 
   encoded : IsSound new.0 → FitsTyping (certificate_for given new.0).typing → is_written (certificate_for given new.0) ≡ true → encode.IsEncodable (length given.policy.vars) (certificate_for given new.0)
   encoded sound_new fits written =
-      is_encodable given.client new.0 given.policy given.mode (told new.0 (typing_of given.client given.policy given.mode given.typing)) sound_for.read
+      is_encodable given.client new.0 given.policy given.mode (canonical new.0 (typing_of given.client given.policy given.mode given.typing)) sound_for.read
       (numbers links good inputs known main given made client_links sound is sound_for.read weaves) sound of.standing sound_new
       (accepted sound_new).frames (accepted sound_new).notes fits written
 

@@ -14,6 +14,7 @@ mod Constants
 mod Listed
 mod Counting
 mod Blocks
+mod Remade
 mod Bases
 mod Notes
 mod Names
@@ -28,3 +29,4 @@ pub mod InlineDecision
 mod Written
 pub mod Rechecking
 mod PlainAnswers
+mod Generating

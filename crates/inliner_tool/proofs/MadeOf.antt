@@ -16,6 +16,7 @@ use Rattle.input_files.specs.InlineInputs.{InlineSound}
 use Rattle.typed_runs.specs.Formed.{PoliciesTellTypes}
 use Rattle.inliner_tool.specs.declared.inline.Given.{Given}
 use Rattle.inliner_tool.specs.Expected.{IsMadeOf}
+use Rattle.inliner_tool.specs.Policy.{IsSoundFor}
 use Rattle.inliner_tool.specs.Programs.{AreTypes}
 use Rattle.inliner_tool.specs.Weaving.{IsGathered, mode_for, original}
 use Rattle.inliner_tool.proofs.Blocks.{few_woven, inputs_link}
@@ -37,6 +38,10 @@ module _ (inputs : InlineInputs) (client : Program) (given : Given) (gathered : 
   pub client_laid_out : IsLaidOut given.client given.typing.frames
   client_laid_out = subst (λ (p : Program). IsLaidOut p given.typing.frames) (sym gathered.client) gathered.laid_out
 
+  pub kept_of : PoliciesTellTypes → KindsAreTold → ResultsAreTold → InlineSound inputs → client.listing ≡ inputs.listing
+      → IsPolicy given.policy × NamesMethods (length inputs.listing.methods) given.policy → IsSoundFor given.client.listing given.policy
+  kept_of tell kinds results known same policies = sound_for tell kinds results inputs known given.policy gathered.policy policies given.client.listing (listing_same same)
+
   pub made_of : PoliciesTellTypes → KindsAreTold → ResultsAreTold → InlineSound inputs → (main : List ℕ) → original inputs.listing inputs.classes main ≡ Ok client
       → IsSound client → IsLinkedOf Original inputs.listing main client → client.listing ≡ inputs.listing → IsPolicy given.policy × NamesMethods (length inputs.listing.methods) given.policy
       → (made : Woven) → woven given.client (plan_of given.policy given.mode) given.policy.vars ≡ Ok made → IsMadeOf inputs main given made
@@ -46,7 +51,7 @@ module _ (inputs : InlineInputs) (client : Program) (given : Given) (gathered : 
     sound = subst IsSound (sym gathered.client) sound;
     stands = subst (IsLinkedOf Original inputs.listing main) (sym gathered.client) stands;
     policy = gathered.policy;
-    kept = sound_for tell kinds results inputs known given.policy gathered.policy policies given.client.listing (listing_same same);
+    kept = kept_of tell kinds results known same policies;
     weaves = weaves;
   }
 

@@ -5,7 +5,7 @@ use Rattle.bytecode_model.specs.declared.program.LinkedClass.{LinkedClass}
 use Rattle.bytecode_model.specs.declared.program.Method.{Method}
 use Rattle.bytecode_model.specs.declared.program.Program.{Program}
 use Rattle.cert_format.specs.declared.typing.Typing.{Typing}
-use Rattle.command_words.specs.Words.{Check, Inline, NamedCommand, Policy, Race, Replay, Run, Show}
+use Rattle.command_words.specs.Words.{Check, Gen, Inline, NamedCommand, Policy, Race, Replay, Run, Show}
 use Rattle.conspec_automaton.specs.Building.{built}
 use Rattle.input_files.specs.declared.check_inputs.CheckInputs.{CheckInputs}
 use Rattle.race_free_check.specs.Deciding.{decided}
@@ -219,6 +219,7 @@ makes_once contents (Inline named) other = absurd other
 makes_once contents (Replay named) other =
     then_once (Reading (λ r. r ≡ replay_read contents named)) (Replays named.main) (reading_once _)
     (λ inputs. then_once (Tells named.main inputs) (λ text. Just (answers.Replayed text)) (tells_once named.main inputs) (λ text. yields_once _))
+makes_once contents (Gen named) other = yields_once _
 makes_once contents (Run named) other = absurd other
 
 outcome_once : (a b : Outcome) → outcome_step a ≡ outcome_step b → a ≡ b

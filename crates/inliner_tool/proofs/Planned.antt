@@ -48,7 +48,7 @@ module _ (main folder : List ℕ) (weaving : Weaving) (inputs : InlineInputs) (c
 
   module _ (given : Given) (gathers : Gathers weaving inputs.policy client (Ok given)) where
     -- what the step of the sizes answers
-    fits_so : (result : Step Ready) → UnlessMemory (Fits main folder given) result → UnlessMemory (Plans main folder weaving inputs) result
+    pub fits_so : (result : Step Ready) → UnlessMemory (Fits main folder given) result → UnlessMemory (Plans main folder weaving inputs) result
     fits_so result told = by gathers
       where
         by : Gathers weaving inputs.policy client (Ok given) → UnlessMemory (Plans main folder weaving inputs) result
@@ -58,15 +58,6 @@ module _ (main folder : List ℕ) (weaving : Weaving) (inputs : InlineInputs) (c
             (later (Types client) (Chosen main folder weaving inputs.policy client) typing typed result
             (later (Equals (mode_for weaving inputs.policy client.listing)) (λ m. Fits main folder (record { client = client; typing = typing; policy = built inputs.policy; mode = m })) mode chosen result
             (subst (λ (g : Given). UnlessMemory (Fits main folder g) result) is told)))
-
-    pub plan_fails : (e : Ended) → UnlessMemory (Equals (weave_step (woven given.client (plan_of given.policy given.mode) given.policy.vars))) (Err e) → UnlessMemory (Plans main folder weaving inputs) (Err e)
-    plan_fails e told =
-        fits_so (Err e) (first_fails (Equals (weave_step (woven given.client (plan_of given.policy given.mode) given.policy.vars))) (Remakes main folder given) e told)
-
-    pub plan_goes : (made : Woven) → Equals (weave_step (woven given.client (plan_of given.policy given.mode) given.policy.vars)) (Ok made) → (result : Step Ready)
-        → UnlessMemory (Remakes main folder given made) result → UnlessMemory (Plans main folder weaving inputs) result
-    plan_goes made weaves result told =
-        fits_so result (later (Equals (weave_step (woven given.client (plan_of given.policy given.mode) given.policy.vars))) (Remakes main folder given) made weaves result told)
 
     -- the types that were found, and the mode that was chosen
     pub typed_so : AreTypes client given.typing × (mode_for weaving inputs.policy client.listing ≡ Ok given.mode)

@@ -1,9 +1,10 @@
 -- What the status of a call says of its outcome.
 use Rattle.std.proofs.Common.{◌≡◌, inl, inr, ℕ, List, Option, Ok, Err, sym, subst, ap, ◌∙◌}
 use Rattle.std.specs.Prelude.{IfSome}
+use Rattle.command_words.specs.GenWords.{IsGen, NamedGen}
 use Rattle.command_words.specs.InlineWords.{IsInline, NamedInline}
 use Rattle.command_words.specs.ReplayWords.{IsReplay, NamedReplay}
-use Rattle.command_words.specs.Words.{Check, Inline, IsCheck, IsCommand, IsRunCommand, NamedCheck, NamedCommand, NamedRun, Policy, Race, Replay, Run, Show}
+use Rattle.command_words.specs.Words.{Check, Gen, Inline, IsCheck, IsCommand, IsRunCommand, NamedCheck, NamedCommand, NamedRun, Policy, Race, Replay, Run, Show}
 use Rattle.command_words.proofs.NamedOnce.{command_once}
 use Rattle.mon_store.specs.Sink.{Appends, AppendsFront}
 use Rattle.inliner_tool.specs.declared.answer.Answer.{Answer}
@@ -13,7 +14,7 @@ use Rattle.inliner_tool.specs.declared.refusal.Refusal.{Refusal}
 use Rattle.inliner_tool.specs.declared.tool.Status.{Status}
 use Rattle.inliner_tool.specs.declared.tool.Status.TheVariants as statuses
 use Rattle.inliner_tool.specs.Replies.{outcome_encoded, usage_encoded}
-use Rattle.inliner_tool.specs.Run.{IsRunStatus, IsWithinIfRun, PrintsRun, TellsKept, Told}
+use Rattle.inliner_tool.specs.Run.{AreWithin, IsRunStatus, PrintsRun, TellsKept, Told}
 use Rattle.inliner_tool.specs.Seen.{Seen}
 use Rattle.inliner_tool.specs.Steps.{Outcome, Step, UnlessMemory, outcome_step}
 use Rattle.inliner_tool.specs.Tool.{CheckedRuns, Holds, IsOutcomeStatus, NamesNone, Puts, Replies, Says, answer_status, status_of}
@@ -34,14 +35,18 @@ is_inline words command is named encoded = command_once words command (Inline na
 pub is_run : (words : List (List ℕ)) (command : NamedCommand) → IsCommand words command → (named : NamedRun) → IsRunCommand words named → command ≡ Run named
 is_run words command is named encoded = command_once words command (Run named) is (record { encoded = encoded; full = is.full })
 
--- The words of `run` say how many workers there are, and how many steps there may be.
-pub within : (words : List (List ℕ)) (command : NamedCommand) → IsCommand words command → IsWithinIfRun command
+pub is_gen : (words : List (List ℕ)) (command : NamedCommand) → IsCommand words command → (named : NamedGen) → IsGen words named → command ≡ Gen named
+is_gen words command is named encoded = command_once words command (Gen named) is (record { encoded = encoded; full = is.full })
+
+-- The numbers of the words are within their bounds.
+pub within : (words : List (List ℕ)) (command : NamedCommand) → IsCommand words command → AreWithin command
 within words (Check named) is = tt
 within words (Show named) is = tt
 within words (Policy named) is = tt
 within words (Race named) is = tt
 within words (Inline named) is = tt
 within words (Replay named) is = tt
+within words (Gen named) is = is.encoded.bounds
 within words (Run named) is = record { some = is.encoded.workers.some; most = is.encoded.workers.within; steps = is.encoded.budget.within }
 
 -- A program that was checked runs as its certificate types it.

@@ -1,9 +1,9 @@
--- What each command makes of the files that it names: one chain of steps for each, of which the first that fails ends it.
+-- What each command makes of its words and the files that they name: one chain of steps for each, of which the first that fails ends it.
 -- (docs/COMMANDS.md)
 use Rattle.std.specs.Prelude.{◌≡◌, Result}
 use Rattle.command_words.specs.InlineWords.{NamedInline}
 use Rattle.command_words.specs.ReplayWords.{NamedReplay}
-use Rattle.command_words.specs.Words.{Check, Inline, NamedCheck, NamedCommand, NamedPolicy, NamedRace, NamedShow, Policy, Race, Replay, Run, Show}
+use Rattle.command_words.specs.Words.{Check, Gen, Inline, NamedCheck, NamedCommand, NamedPolicy, NamedRace, NamedShow, Policy, Race, Replay, Run, Show}
 use Rattle.input_files.specs.declared.check_inputs.CheckInputs.{CheckInputs}
 use Rattle.input_files.specs.declared.files.Stop.{Stop}
 use Rattle.input_files.specs.declared.inline_inputs.InlineInputs.{InlineInputs}
@@ -21,6 +21,7 @@ use Rattle.input_files.specs.ReplayInputs.{ReadsReplay}
 use Rattle.input_files.specs.ShowInputs.{ReadsShow}
 use Rattle.inliner_tool.specs.declared.answer.Made.{Made}
 use Rattle.inliner_tool.specs.Check.{Checks}
+use Rattle.inliner_tool.specs.Generate.{Generates}
 use Rattle.inliner_tool.specs.Inline.{Inlines}
 use Rattle.inliner_tool.specs.Policy.{Judges}
 use Rattle.inliner_tool.specs.Race.{Races}
@@ -65,7 +66,7 @@ readings_in contents = record {
 
 -- ---- the commands
 
--- The files of the command are read, and it makes this of what they are.
+-- The files of the command are read, and it makes this of what they are; `gen` has none.
 abbrev pub Makes : Readings → NamedCommand → Step Made → Type 0
 Makes reads (Check named) = Then (Reading (reads.check named)) (Checks named.main)
 Makes reads (Show named) = Then (Reading (reads.show named)) Shows
@@ -73,4 +74,5 @@ Makes reads (Policy named) = Then (Reading (reads.policy named)) Judges
 Makes reads (Race named) = Then (Reading (reads.race named)) Races
 Makes reads (Inline named) = Then (Reading (reads.inline named)) (Inlines named)
 Makes reads (Replay named) = Then (Reading (reads.replay named)) (Replays named.main)
+Makes reads (Gen named) = Generates named
 Makes reads (Run named) = Then (Reading (reads.check named.check)) (Runs named)

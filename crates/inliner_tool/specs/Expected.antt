@@ -20,7 +20,7 @@ use Rattle.conspec_automaton.specs.Building.{built}
 use Rattle.input_files.specs.declared.inline_inputs.InlineInputs.{InlineInputs}
 use Rattle.input_files.specs.InlineInputs.{InlineSound}
 use Rattle.output_files.specs.Outputs.{is_written}
-use Rattle.cert_maker.specs.Told.{FitsTyping}
+use Rattle.cert_maker.specs.Canonical.{FitsTyping}
 use Rattle.typed_runs.specs.Programs.{IsLinkedProgram}
 use Rattle.woven_linking.specs.Program.{HaveRoom, program_with}
 use Rattle.inliner_tool.specs.declared.inline.Given.{Given}
@@ -64,3 +64,8 @@ abbrev pub WovenIsExpected : Type 0
 WovenIsExpected = (inputs : InlineInputs) (main : List ℕ) (given : Given) (made : Woven) → IsMadeOf inputs main given made
     → IsTyped given.client given.typing → IsLaidOut given.client given.typing.frames → AllByRecursion classes.IsEncodable made.files → length made.files ≤ 1001
     → IsExpected main given made
+
+-- Whatever is woven of it is as is expected, where its files can be encoded.
+abbrev pub IsExpectedOf : List ℕ → Given → Type 0
+IsExpectedOf main given = (made : Woven) → woven given.client (plan_of given.policy given.mode) given.policy.vars ≡ Ok made
+    → AllByRecursion classes.IsEncodable made.files → IsExpected main given made

@@ -16,6 +16,7 @@ pub mod Weaving
 pub mod Expected
 pub mod Inline
 pub mod Replay
+pub mod Generate
 pub mod Headline
 pub mod Commands
 pub mod Writing
@@ -25,4 +26,5 @@ pub mod Decision
 pub mod ReplayDecision
 pub mod CheckDecision
 pub mod InlineDecision
+pub mod GenDecision
 pub mod Rechecking

@@ -4,7 +4,8 @@ use Rattle.std.specs.List.{filter_map}
 use Rattle.api_shelf.specs.Shelf.{View}
 use Rattle.api_shelf.specs.Telling.{Log}
 use Rattle.bytecode_model.specs.declared.program.Program.{Program}
-use Rattle.command_words.specs.Words.{Check, Inline, NamedCommand, NamedRun, Policy, Race, Replay, Run, Show}
+use Rattle.command_words.specs.GenWords.{IsInBounds}
+use Rattle.command_words.specs.Words.{Check, Gen, Inline, NamedCommand, NamedRun, Policy, Race, Replay, Run, Show}
 use Rattle.conspec_automaton.specs.Building.{built}
 use Rattle.conspec_automaton.specs.Obeys.{Obeys}
 use Rattle.event_record.specs.declared.writing.EndLine.{EndLine}
@@ -96,6 +97,13 @@ HasBookOrNone (Err (stops.Device book)) = Unit {0}
 HasBookOrNone (Err (stops.Mismatch book)) = ⊥
 HasBookOrNone (Err stops.Memory) = Unit {0}
 
+-- There is a book, and it is of this run: memory did not run out.
+abbrev pub HasBook : {E D : Type 0} → Result (RunBook E D × EndLine) (RunStop E D) → Type 0
+HasBook (Ok ended) = Unit {0}
+HasBook (Err (stops.Device book)) = Unit {0}
+HasBook (Err (stops.Mismatch book)) = ⊥
+HasBook (Err stops.Memory) = ⊥
+
 -- what is seen of a book over the interpreter
 abbrev pub interpreted : {D : Type 0} → (D → Option Log) → (D → ℕ) → RunBook Interpreted D → RunView
 interpreted told faults book = book_view (λ run. run.program) (λ run. run.machine) told faults book
@@ -152,14 +160,16 @@ TellsBook told (Err ended) = ⊥
 abbrev pub TellsKept : Option Told → Answer → Type 0
 TellsKept kept answer = (told : Told) × (kept ≡ Some told) × (answer ≡ answers.Ran told.1 (told_text told))
 
-abbrev pub IsWithinIfRun : NamedCommand → Type 0
-IsWithinIfRun (Check named) = Unit {0}
-IsWithinIfRun (Show named) = Unit {0}
-IsWithinIfRun (Policy named) = Unit {0}
-IsWithinIfRun (Race named) = Unit {0}
-IsWithinIfRun (Inline named) = Unit {0}
-IsWithinIfRun (Replay named) = Unit {0}
-IsWithinIfRun (Run named) = IsWithin named
+-- The numbers of the words are within their bounds.
+abbrev pub AreWithin : NamedCommand → Type 0
+AreWithin (Check named) = Unit {0}
+AreWithin (Show named) = Unit {0}
+AreWithin (Policy named) = Unit {0}
+AreWithin (Race named) = Unit {0}
+AreWithin (Inline named) = Unit {0}
+AreWithin (Replay named) = Unit {0}
+AreWithin (Gen named) = IsInBounds named
+AreWithin (Run named) = IsWithin named
 
 -- ---- what is printed
 

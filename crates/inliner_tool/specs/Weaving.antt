@@ -2,6 +2,7 @@
 use Rattle.std.specs.Prelude.{◌≡◌, ℕ, true, List, length, if◌then◌else◌, Result, Ok, Err}
 use Rattle.mon_store.specs.declared.outputs.Output.{Output}
 use Rattle.api_listing.specs.declared.types.Listing.{Listing}
+use Rattle.bytecode_model.specs.declared.program.LinkedClass.{LinkedClass}
 use Rattle.bytecode_model.specs.declared.program.Program.{Program}
 use Rattle.bytecode_model.specs.declared.program.Side.TheVariants.{Original}
 use Rattle.bytecode_model.specs.Files.{unlinked}
@@ -40,7 +41,8 @@ use Rattle.race_free_check.specs.declared.verdict.RaceVerdict.{RaceVerdict}
 use Rattle.race_free_check.specs.declared.verdict.RaceVerdict.TheVariants as races
 use Rattle.race_free_check.specs.Deciding.{decided}
 use Rattle.race_free_check.specs.Limit.{AllHaveFewPoints}
-use Rattle.cert_maker.specs.Told.{told}
+use Rattle.cert_maker.specs.Canonical.{canonical}
+use Rattle.woven_linking.specs.declared.inlining.Inlined.{Inlined}
 use Rattle.woven_typing.specs.Framing.{typing_of}
 use Rattle.inliner_tool.specs.declared.refusal.Ended.{Ended}
 use Rattle.inliner_tool.specs.declared.refusal.Ended.TheVariants as ends
@@ -121,7 +123,11 @@ outputs_step folder program certificate =
 -- the certificate of the program that is woven
 abbrev pub certificate_for : Given → Program → Certificate
 certificate_for given program =
-    certificate_of given.client.classes given.policy given.mode (told program (typing_of given.client given.policy given.mode given.typing))
+    certificate_of given.client.classes given.policy given.mode (canonical program (typing_of given.client given.policy given.mode given.typing))
+
+-- the certificate of a program with its blocks, which was made of these classes and has these types
+abbrev pub certificate_with : List LinkedClass → Policy → Inlined → Typing → Certificate
+certificate_with old policy inlined typing = certificate_of old policy inlined.mode (canonical inlined.program typing)
 
 -- What is woven is a program that is typed, and that is accepted with the certificate that is made of the client's types.
 pub record IsRemade (main : List ℕ) (given : Given) (made : Woven) (program : Program) (accepted : Accepted) : Type 0 where
@@ -167,6 +173,13 @@ Accepts folder policy program certificate result =
 
 -- ---- what is known of what is ready
 
+-- The program was accepted with the certificate, and obeys the policy; both are to be written.
+pub record IsJudgedReady (folder : List ℕ) (policy : Policy) (program : Program) (certificate : Certificate) (ready : Ready) : Type 0 where
+  pub verdict : judged program policy certificate ≡ Ok ready.accepted
+  pub secure : Secure certificate.mode program policy
+  pub written : is_written certificate ≡ true
+  pub outputs : ready.outputs ≡ outputs_of folder program certificate
+
 -- What is woven links to a program of these files, which is accepted with a certificate, and obeys the policy for every
 -- list of guest steps; it and the certificate, which can be read again, are to be written.
 pub record IsRewoven (main folder : List ℕ) (given : Given) (files : List ClassFile) (ready : Ready) : Type 0 where
@@ -182,6 +195,12 @@ pub record IsRewoven (main folder : List ℕ) (given : Given) (files : List Clas
   pub encodes : IsEncodable (length given.policy.vars) certificate
   pub written : is_written certificate ≡ true
   pub outputs : ready.outputs ≡ outputs_of folder program certificate
+
+-- What is woven of it is ready.
+pub record IsMadeReady (main folder : List ℕ) (given : Given) (ready : Ready) : Type 0 where
+  pub made : Woven
+  pub weaves : woven given.client (plan_of given.policy given.mode) given.policy.vars ≡ Ok made
+  pub rewoven : IsRewoven main folder given made.files ready
 
 -- The inputs link to a program, and what the weaving of the policy makes of it, in this mode, is to be written: it links to the same
 -- classes in their order, where each call that the policy has clauses for, and no other, stands in its block, and conspec/State

@@ -22,11 +22,23 @@ pub enum Answer {
     /// The events of a policy do not race.
     RaceFree,
     /// The program was woven, checked and written, in so many class files.
-    Inlined { accepted: Accepted, classes: u64 },
+    Inlined {
+        accepted: Accepted,
+        classes: u64,
+    },
+    /// A program was made from a number and written: so many class files, with so many sites and bytes in all.
+    Generated {
+        classes: u64,
+        sites: u64,
+        bytes: u64,
+    },
     /// The events of a run and its end, as they are printed.
     Replayed(Bytes),
     /// The record of a run that was made, as it is printed, and how it ended.
-    Ran { end: EndLine, text: Bytes },
+    Ran {
+        end: EndLine,
+        text: Bytes,
+    },
 }
 
 /// What a command makes of its inputs: its answer, and the files that are written, in their order, before it is given.

@@ -1,7 +1,6 @@
 //! The command `inline`: its inputs, what is woven of them and judged before anything is written, what it answers, and what it
 //! writes.
-ghost use Rattle.std.specs.Prelude.{◌≡◌, ◌≤◌, IfOk, Ok, length, true};
-ghost use Rattle.std.specs.List.{AllByRecursion};
+ghost use Rattle.std.specs.Prelude.{◌≡◌, ◌≤◌, Err, IfErr, IfOk, Ok, length, true};
 ghost use Rattle.api_listing.specs.declared.types.Listing.{Listing};
 ghost use Rattle.api_listing.specs.Listing.{IsFew};
 ghost use Rattle.block_template.specs.Blocks.{plan_of};
@@ -9,10 +8,8 @@ ghost use Rattle.bytecode_model.specs.Layout.{IsLaidOut};
 ghost use Rattle.bytecode_model.specs.Order.{IsInOrder};
 ghost use Rattle.bytecode_model.specs.Sound.{IsSound};
 ghost use Rattle.cert_checker.specs.Judging.{IsAllowed, judged};
-ghost use Rattle.cert_checker.specs.Secure.{Secure};
 ghost use Rattle.cert_format.specs.declared.certificate.Mode.TheVariants as modes;
 ghost use Rattle.cert_maker.specs.Noting.{certificate_of};
-ghost use Rattle.class_codec.specs.Fits.{IsEncodable};
 ghost use Rattle.class_weaving.specs.Woven.{woven};
 ghost use Rattle.command_words.specs.InlineWords.{inline_named};
 ghost use Rattle.conspec_automaton.specs.Building.{built};
@@ -21,24 +18,26 @@ ghost use Rattle.conspec_tree.specs.Tree.{IsPolicyTree};
 ghost use Rattle.input_files.specs.InlineInputs.{InlineSound};
 ghost use Rattle.input_files.specs.Named.{IsListed};
 ghost use Rattle.output_files.specs.Outputs.{is_written, outputs_of};
-ghost use Rattle.cert_maker.specs.Told.{FitsTyping, told};
+ghost use Rattle.cert_maker.specs.Canonical.{FitsTyping, canonical};
 ghost use Rattle.typed_runs.specs.Programs.{IsLinkedProgram};
-ghost use Rattle.woven_linking.specs.Program.{program_with};
+ghost use Rattle.woven_linking.specs.Inlined.{IsOfFiles};
 ghost use Rattle.woven_typing.specs.Framing.{typing_of};
 ghost use Rattle.inliner_tool.specs.Seen.{seen};
-ghost use Rattle.inliner_tool.specs.Expected.{IsExpected, WovenHasBlocks, WovenIsExpected};
+ghost use Rattle.inliner_tool.specs.Expected.{IsExpectedOf, WovenHasBlocks, WovenIsExpected};
 ghost use Rattle.inliner_tool.specs.Policy.{IsSoundFor};
 ghost use Rattle.inliner_tool.specs.Steps.{Equals, UnlessMemory};
 ghost use Rattle.inliner_tool.specs.Weaving.{
   Accepts,
+  Fits,
   Gathers,
   GathersBoth,
   IsFreeOfRaces,
   IsGathered,
+  IsJudgedReady,
+  IsMadeReady,
   IsPlanned,
-  IsRewoven,
   Plans,
-  Remakes,
+  certificate_with,
   mode_for,
   outputs_step,
   splice_end,
@@ -57,13 +56,11 @@ use crate::race::{auto_mode, race_step};
 use crate::refusal::{Ended, Refusal, stopped};
 use api_listing::Listing;
 use block_template::plans_are_good;
-use bytecode_model::{LinkedClass, Method, Program, Side};
+use bytecode_model::{LinkedClass, Program, Side};
 use cert_checker::{Accepted, Denial, check};
 use cert_format::{CertLong, Certificate, Mode, Typing};
-use cert_maker::{make, told, told_is_typed, woven_is_accepted};
-use class_codec::ClassFile;
+use cert_maker::{canonical, canonical_is_typed, make, woven_is_accepted};
 use class_linking::{linked_is_in_order, linked_operands_are_right, linked_programs_are_named};
-use class_weaving::Woven;
 use command_words::{InlineWords, Weaving};
 use conspec_automaton::{Policy, build};
 use conspec_parse::kinds_are_told;
@@ -72,11 +69,10 @@ use input_files::{InlineInputs, read_inline};
 use mon_base::{Bytes, List, NoMemory};
 use mon_store::{Output, Store};
 use offset_patch::SpliceFault;
-use policy_weaving::inline;
 use std::alloc::Global;
 use type_lattice::Indexed;
 use typed_runs::policies_tell_types;
-use woven_linking::{original_is_free, program_with, woven_files_link, woven_program_is_linked};
+use woven_linking::{Inlined, inline, original_is_free, woven_files_link, woven_program_is_linked};
 use woven_typing::{
     items_are_reached, listings_know_throwable, policies_tell, typing_of, woven_is_typed,
 };
@@ -157,17 +153,10 @@ pub fn plan(
     } = inputs;
     let client = program_of(alloc, listing, classes, main, Side::Original)?;
     let given = given_of(alloc, weaving, policy, client)?;
-    let made = match woven(alloc, &given.client, &given.policy, given.mode) {
-        Ok(made) => made,
-        Err(ended) => {
-            drop(given);
-            return Err(ended);
-        }
-    };
     kinds_are_told();
     policies_tell_types();
     woven_is_expected();
-    rewoven(alloc, main, folder, given, made)
+    rewoven(alloc, main, folder, given)
 }
 
 /// What is woven of inputs links to their program with its blocks, and is as is expected.
@@ -186,7 +175,7 @@ fn woven_is_expected()
     listings_know_throwable();
     woven_is_typed();
     items_are_reached();
-    told_is_typed();
+    canonical_is_typed();
     woven_is_accepted();
     linked_programs_are_named();
 }
@@ -302,13 +291,18 @@ fn mode_for(
     }
 }
 
-/// The woven files.
-fn woven(alloc: Global, client: &Program, policy: &Policy, mode: Mode) -> Result<Woven, Ended>
-    requires sound { IsSound client.now }
+/// The program with its blocks, and the classes that it was made of.
+fn inlined(
+    alloc: Global,
+    client: Program,
+    policy: &Policy,
+    mode: Mode,
+) -> Result<(Inlined, List<LinkedClass>), Ended>
+    requires sound { IsSound client }
     requires policy { IsPolicy policy.now }
-    ensures is { UnlessMemory (Equals (weave_step (woven client.now (plan_of policy.now mode) policy.now.vars))) result }
-    ensures exact { IfOk result (λ made. woven client.now (plan_of policy.now mode) policy.now.vars ≡ Ok made) }
-    ensures fits { IfOk result (λ made. AllByRecursion IsEncodable made.files) }
+    ensures made { IfOk result (λ made. IsOfFiles client policy.now mode made) }
+    ensures unfit { IfErr result (λ ended. UnlessMemory
+        (Equals (weave_step (woven client (plan_of policy.now mode) policy.now.vars))) (Err ended)) }
 {
     match inline(alloc, client, policy, mode) {
         Ok(made) => Ok(made),
@@ -337,23 +331,15 @@ fn unfit(fault: SpliceFault) -> Ended
 }
 
 /// What is woven, as the program that it links to, with its certificate, which is accepted.
-fn rewoven(
-    alloc: Global,
-    main: &Bytes,
-    folder: &Bytes,
-    given: Given,
-    made: Woven,
-) -> Result<Ready, Ended>
+fn rewoven(alloc: Global, main: &Bytes, folder: &Bytes, given: Given) -> Result<Ready, Ended>
     requires sound { IsSound given.client }
     requires few { IsFew given.client.listing }
     requires listed { IsListed given.client.listing }
     requires policy { IsSoundFor given.client.listing given.policy }
     requires free { given.mode ≡ modes.Release → IsFreeOfRaces given.policy }
-    requires count { length made.files ≤ 1001 }
-    requires fits { AllByRecursion IsEncodable made.files }
-    requires expected { IsExpected main.now given made }
-    ensures steps { UnlessMemory (Remakes main.now folder.now given made) result }
-    ensures rewoven { IfOk result (λ ready. IsRewoven main.now folder.now given made.files ready) }
+    requires expected { IsExpectedOf main.now given }
+    ensures steps { UnlessMemory (Fits main.now folder.now given) result }
+    ensures rewoven { IfOk result (λ ready. IsMadeReady main.now folder.now given ready) }
 {
     match typing_of(
         alloc,
@@ -362,9 +348,8 @@ fn rewoven(
         given.mode,
         &given.typing,
     ) {
-        Ok(typing) => retyped(alloc, main, folder, given, typing, made),
+        Ok(typing) => retyped(alloc, main, folder, given, typing),
         Err(NoMemory) => {
-            drop(made);
             drop(given);
             Err(Ended::Memory)
         }
@@ -378,18 +363,16 @@ fn retyped(
     folder: &Bytes,
     given: Given,
     typing: Typing,
-    made: Woven,
 ) -> Result<Ready, Ended>
+    requires sound { IsSound given.client }
     requires few { IsFew given.client.listing }
     requires listed { IsListed given.client.listing }
     requires policy { IsSoundFor given.client.listing given.policy }
     requires free { given.mode ≡ modes.Release → IsFreeOfRaces given.policy }
-    requires count { length made.files ≤ 1001 }
-    requires fits { AllByRecursion IsEncodable made.files }
-    requires expected { IsExpected main.now given made }
+    requires expected { IsExpectedOf main.now given }
     requires typing { typing ≡ typing_of given.client given.policy given.mode given.typing }
-    ensures steps { UnlessMemory (Remakes main.now folder.now given made) result }
-    ensures rewoven { IfOk result (λ ready. IsRewoven main.now folder.now given made.files ready) }
+    ensures steps { UnlessMemory (Fits main.now folder.now given) result }
+    ensures rewoven { IfOk result (λ ready. IsMadeReady main.now folder.now given ready) }
 {
     let Given {
         client,
@@ -397,35 +380,75 @@ fn retyped(
         mode,
         ..
     } = given;
-    let Woven { files, methods, .. } = made;
-    let (program, certificate) = remade(alloc, &policy, mode, client, typing, files, methods)?;
-    let ready = judged(alloc, folder, &policy, &program, &certificate);
+    match inlined(alloc, client, &policy, mode) {
+        Ok((inlined, old)) => {
+            let ready = ready_of(alloc, folder, &policy, inlined, old, typing);
+            drop(policy);
+            ready
+        }
+        Err(ended) => {
+            drop(typing);
+            drop(policy);
+            Err(ended)
+        }
+    }
+}
+
+/// What is to be written of a program with its blocks, which was made of these classes and has these types.
+fn ready_of(
+    alloc: Global,
+    folder: &Bytes,
+    policy: &Policy,
+    inlined: Inlined,
+    old: List<LinkedClass>,
+    typing: Typing,
+) -> Result<Ready, Ended>
+    requires order { IsInOrder inlined.program }
+    requires linked { IsLinkedProgram inlined.program }
+    requires policy { IsSoundFor inlined.program.listing policy.now }
+    requires allowed { IsAllowed inlined.program policy.now (certificate_with old policy.now inlined typing) }
+    ensures accepts { UnlessMemory (Accepts folder.now policy.now inlined.program (certificate_with old policy.now inlined typing)) result }
+    ensures judged { IfOk result (IsJudgedReady folder.now policy.now inlined.program (certificate_with old policy.now inlined typing)) }
+    ensures fits { IfOk result (λ ready. FitsTyping (certificate_with old policy.now inlined typing).typing) }
+{
+    let Inlined {
+        program,
+        mode,
+        origins,
+    } = inlined;
+    drop(origins);
+    let (program, certificate) = certified(alloc, old, policy, mode, program, typing)?;
+    let ready = judged(alloc, folder, policy, &program, &certificate);
     drop(certificate);
     drop(program);
-    drop(policy);
     ready
 }
 
-/// The program of these woven files and methods of a client, and its certificate, which tells these types.
-fn remade(
+/// The program with an index of its classes, and its certificate, which tells these types.
+fn certified(
     alloc: Global,
+    old: List<LinkedClass>,
     policy: &Policy,
     mode: Mode,
-    client: Program,
+    program: Program,
     typing: Typing,
-    files: List<ClassFile>,
-    methods: List<List<Method>>,
 ) -> Result<(Indexed, Certificate), NoMemory>
     requires policy { IsPolicy policy.now }
-    requires order { IsInOrder (program_with client files methods) }
-    ensures program { IfOk result (λ made. made.0 ≡ program_with client files methods) }
-    ensures certificate { IfOk result (λ made. made.1 ≡ certificate_of client.classes policy.now mode (told made.0 typing)) }
+    requires order { IsInOrder program }
+    ensures program { IfOk result (λ made. made.0 ≡ program) }
+    ensures certificate { IfOk result (λ made. made.1 ≡ certificate_of old policy.now mode (canonical program typing)) }
     ensures fits { IfOk result (λ made. FitsTyping made.1.typing) }
 {
-    let (program, classes) = relinked(alloc, client, files, methods)?;
-    let old = classes.as_slice();
-    let certificate = certified(alloc, old, policy, mode, program.program(), typing);
-    drop(classes);
+    let program = Indexed::new(alloc, program)?;
+    let certificate = certificate_of(
+        alloc,
+        old.as_slice(),
+        policy,
+        mode,
+        program.program(),
+        typing,
+    );
+    drop(old);
     match certificate {
         Ok(certificate) => Ok((program, certificate)),
         Err(NoMemory) => {
@@ -435,24 +458,8 @@ fn remade(
     }
 }
 
-/// The program of woven files and methods, with an index of its classes, and the classes that it was woven of.
-fn relinked(
-    alloc: Global,
-    client: Program,
-    files: List<ClassFile>,
-    methods: List<List<Method>>,
-) -> Result<(Indexed, List<LinkedClass>), NoMemory>
-    requires order { IsInOrder (program_with client files methods) }
-    ensures is { IfOk result (λ made. made.0 ≡ program_with client files methods) }
-    ensures old { IfOk result (λ made. made.1 ≡ client.classes) }
-{
-    let (woven, classes) = program_with(alloc, client, files, methods)?;
-    let program = Indexed::new(alloc, woven)?;
-    Ok((program, classes))
-}
-
 /// The certificate of a woven program of these classes with these types.
-fn certified(
+fn certificate_of(
     alloc: Global,
     classes: &[LinkedClass],
     policy: &Policy,
@@ -461,11 +468,11 @@ fn certified(
     typing: Typing,
 ) -> Result<Certificate, NoMemory>
     requires { IsPolicy policy.now }
-    ensures is { IfOk result (λ made. made ≡ certificate_of classes.now policy.now mode (told program.now typing)) }
+    ensures is { IfOk result (λ made. made ≡ certificate_of classes.now policy.now mode (canonical program.now typing)) }
     // It can be told.
     ensures fits { IfOk result (λ made. FitsTyping made.typing) }
 {
-    let typing = told(alloc, program, typing)?;
+    let typing = canonical(alloc, program, typing)?;
     make(alloc, classes, policy, mode, typing)
 }
 
@@ -481,10 +488,7 @@ fn judged(
     requires policy { IsSoundFor program.now.listing policy.now }
     requires allowed { IsAllowed program.now policy.now certificate.now }
     ensures accepts { UnlessMemory (Accepts folder.now policy.now program.now certificate.now) result }
-    ensures secure { IfOk result (λ ready. Secure certificate.now.mode program.now policy.now) }
-    ensures verdict { IfOk result (λ ready. judged program.now policy.now certificate.now ≡ Ok ready.accepted) }
-    ensures written { IfOk result (λ ready. is_written certificate.now ≡ true) }
-    ensures outputs { IfOk result (λ ready. ready.outputs ≡ outputs_of folder.now program.now certificate.now) }
+    ensures judged { IfOk result (IsJudgedReady folder.now policy.now program.now certificate.now) }
 {
     let accepted = match check(alloc, program, policy, certificate) {
         Ok(accepted) => accepted,

@@ -9,6 +9,7 @@
 mod answer;
 mod check;
 mod classes;
+mod generate;
 mod inline;
 mod numbers;
 mod policy;
@@ -25,6 +26,7 @@ mod writing;
 
 pub use answer::Answer;
 pub use check::check_decides;
+pub use generate::gen_decides;
 pub use inline::{inline_decides, written_is_accepted};
 pub use race::race_decides;
 pub use refusal::Refusal;

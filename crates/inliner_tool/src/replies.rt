@@ -60,6 +60,15 @@ fn answer_reply(alloc: Global, answer: Answer) -> Result<Reply, NoMemory>
         Answer::Judged(verdict) => verdict_reply(alloc, verdict),
         Answer::RaceFree => Ok(Reply::Line(Line::Free)),
         Answer::Inlined { accepted, classes } => inlined_reply(alloc, accepted, classes),
+        Answer::Generated {
+            classes,
+            sites,
+            bytes,
+        } => Ok(Reply::Line(Line::Generated {
+            classes,
+            sites,
+            bytes,
+        })),
         Answer::Replayed(text) => Ok(Reply::Text(text)),
         Answer::Ran { end: _, text } => Ok(Reply::Text(text)),
     }

@@ -14,6 +14,7 @@ ghost use Rattle.input_files.specs.CheckInputs.{AreSound};
 ghost use Rattle.inliner_tool.specs.Commands.{Makes, readings_of};
 ghost use Rattle.inliner_tool.specs.Run.{
   Executes,
+  HasBook,
   HasBookOrNone,
   HasStopValue,
   IsKept,
@@ -71,6 +72,7 @@ pub fn make_run<S: Store, D: ApiDevice + Send, G: Gate + Sync, R: Threads + Wait
         (Run (run_named words.now))) result }
     ensures kept { KeepsRun (IsKept (seen S.files S.faults S.last store.old store.new) (run_named words.now)
         (views D.told D.faults slots.items)) (told_of D.told D.faults kept.new) result }
+    ensures book { IfSome kept.new HasBook }
     ensures files { S.files store.new ≡ S.files store.old }
     ensures faults { S.faults store.old ≤ S.faults store.new }
 {
@@ -97,6 +99,7 @@ fn run_made<D: ApiDevice + Send, G: Gate + Sync, R: Threads + Wait + Sync>(
     ensures runs { UnlessMemory (Runs (run_named words.now) inputs) result }
     ensures kept { KeepsRun (IsRunOfInputs (run_named words.now) inputs (views D.told D.faults slots.items))
         (told_of D.told D.faults kept.new) result }
+    ensures book { IfSome kept.new HasBook }
 {
     runs_are_traces();
     lines_of_runs_are_told();
@@ -136,6 +139,7 @@ fn run_program<D: ApiDevice + Send, G: Gate + Sync, R: Threads + Wait + Sync>(
     requires within { IsWithin (run_named words.now) }
     ensures kept { KeepsRun (IsRunAs (identity (new_book program (views D.told D.faults slots.items) words.now.budget)))
         (told_of D.told D.faults kept.new) result }
+    ensures book { IfSome kept.new HasBook }
     ensures executes { UnlessMemory (Executes program words.now.budget) result }
 {
     let execution = Interpreter::start(alloc, program)?;
@@ -168,10 +172,12 @@ fn fits(value: i32)
     ensures { FitsSigned w32 value }
 {}
 
-/// KeepsRun the run, if it has a book.
+/// Keeps the run, if it has a book.
 fn keep<D: ApiDevice>(answer: RunAnswer<D>, kept: &mut Option<RunAnswer<D>>)
-    requires { kept.old ≡ None }
-    ensures { told_of D.told D.faults kept.new ≡ told_by (interpreted D.told D.faults) answer }
+    requires none { kept.old ≡ None }
+    requires own { HasBookOrNone answer }
+    ensures told { told_of D.told D.faults kept.new ≡ told_by (interpreted D.told D.faults) answer }
+    ensures book { IfSome kept.new HasBook }
 {
     match answer {
         Ok(ended) => *kept = Some(Ok(ended)),

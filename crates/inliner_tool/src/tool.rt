@@ -2,6 +2,7 @@
 
 ghost use Rattle.std.specs.Prelude.{◌≡◌, ◌≢◌, ◌≤◌, ℕ, List, None, Some, IfOk, IfSome};
 ghost use Rattle.api_shelf.specs.Shelf.{AllAreSilent, views};
+ghost use Rattle.command_words.specs.GenWords.{IsGen, NamedGen};
 ghost use Rattle.command_words.specs.InlineWords.{IsInline, NamedInline};
 ghost use Rattle.command_words.specs.ReplayWords.{IsReplay, NamedReplay};
 ghost use Rattle.command_words.specs.Words.{
@@ -21,10 +22,11 @@ ghost use Rattle.command_words.specs.Words.{
 ghost use Rattle.input_files.specs.Contents.{Contents};
 ghost use Rattle.inliner_tool.specs.Commands.{Makes, readings_of};
 ghost use Rattle.inliner_tool.specs.Decides.{Decides, GivesOnce};
+ghost use Rattle.inliner_tool.specs.Generate.{IsGenerated};
 ghost use Rattle.inliner_tool.specs.Headline.{Obeyed};
 ghost use Rattle.inliner_tool.specs.Inline.{IsInlined, IsReadyToWrite};
 ghost use Rattle.inliner_tool.specs.Replay.{ReplayedRuns};
-ghost use Rattle.inliner_tool.specs.Run.{IsKept, IsRunStatus, IsWithin, IsWithinIfRun, PrintsRun, TellsKept, run_status, told_of};
+ghost use Rattle.inliner_tool.specs.Run.{AreWithin, HasBook, IsKept, IsRunStatus, IsWithin, PrintsRun, TellsKept, run_status, told_of};
 ghost use Rattle.inliner_tool.specs.Seen.{seen};
 ghost use Rattle.inliner_tool.specs.Status.{code_of};
 ghost use Rattle.inliner_tool.specs.Steps.{UnlessMemory};
@@ -43,6 +45,7 @@ ghost use Rattle.mon_store.specs.Store.{Rose};
 
 use crate::answer::{Answer, Made};
 use crate::check::make_check;
+use crate::generate::make_gen;
 use crate::inline::make_inline;
 use crate::policy::make_policy;
 use crate::race::make_race;
@@ -117,11 +120,12 @@ impl Status {
 /// they obey the policy; `race POLICY LISTING` says of a policy whether its events race;
 /// `inline POLICY LISTING MAIN OUTDIR MODE CLASS..` weaves blocks into the classes, checks the program that they make with
 /// its certificate, and writes all of it; `replay LISTING MAIN RECORD CLASS..` links and types the classes, makes the steps of
-/// a recorded run, and gives the events that the library sees and the end; `run POLICY LISTING CERT MAIN WORKERS BUDGET CLASS..`
-/// checks the program, and has so many worker threads run it, in at most so many steps, and gives the record of the run.
+/// a recorded run, and gives the events that the library sees and the end; `gen SEED CLASSES SITES OUTDIR` makes a program from a
+/// number, with a listing and a policy, and writes all of it; `run POLICY LISTING CERT MAIN WORKERS BUDGET CLASS..` checks the
+/// program, and has so many worker threads run it, in at most so many steps, and gives the record of the run.
 ///
-/// Other commands than `inline` change no file. One output is put into the sink, which says the answer. The devices answer the calls
-/// of the library in a run, the workers pass the gate, and the run is kept. The other commands have no part in threads
+/// Other commands than `inline` and `gen` change no file. One output is put into the sink, which says the answer. The devices answer
+/// the calls of the library in a run, the workers pass the gate, and the run is kept. The other commands have no part in threads
 /// ([`carry_out_files`]), so they end.
 pub fn run_tool<S: Store, K: Sink, D: ApiDevice + Send, G: Gate + Sync, R: Threads + Wait + Sync>(
     rt: &R,
@@ -161,10 +165,16 @@ pub fn run_tool<S: Store, K: Sink, D: ApiDevice + Send, G: Gate + Sync, R: Threa
     // Whatever is kept is such a run.
     ensures kept { IfSome (told_of D.told D.faults kept.new) (λ told. (named : NamedRun) × IsRunCommand words.now named
         × IsKept (seen S.files S.faults S.last store.old store.new) named (views D.told D.faults slots.items) told) }
+    // It has a book: want of memory is not kept, and no book of another run.
+    ensures book { IfSome kept.new HasBook }
 
     // Where weaving ends well, what is written is the program with its blocks, and is accepted with its certificate.
     ensures inlined { (named : NamedInline) → IsInline words.now named → result ≡ Status.Done
         → IsInlined (seen S.files S.faults S.last store.old store.new) named }
+
+    // Where `gen` ends well, what is written is the program of its number.
+    ensures generated { (named : NamedGen) → IsGen words.now named → result ≡ Status.Done
+        → IsGenerated (seen S.files S.faults S.last store.old store.new) named }
 
     // The status is that of the command's outcome, and the output is for it; of words that are no command's, the usage line.
     ensures answer { Replies (seen S.files S.faults S.last store.old store.new) words.now
@@ -218,7 +228,7 @@ fn carry_out<S: Store, D: ApiDevice + Send, G: Gate + Sync, R: Threads + Wait + 
 ) -> Result<Answer, Ended>
     requires silent { AllAreSilent (views D.told D.faults slots.items) }
     requires none { kept.old ≡ None }
-    requires within { IsWithinIfRun (named_by command.now) }
+    requires within { AreWithin (named_by command.now) }
     ensures carries { UnlessMemory
         (CarriesOut (seen S.files S.faults S.last store.old store.new) (named_by command.now)) result }
     ensures holds { (named : NamedCheck) → named_by command.now ≡ Check named
@@ -231,6 +241,7 @@ fn carry_out<S: Store, D: ApiDevice + Send, G: Gate + Sync, R: Threads + Wait + 
         → IfOk result (TellsKept (told_of D.told D.faults kept.new)) }
     ensures kept { IfSome (told_of D.told D.faults kept.new) (λ told. (named : NamedRun) × (named_by command.now ≡ Run named)
         × IsKept (seen S.files S.faults S.last store.old store.new) named (views D.told D.faults slots.items) told) }
+    ensures book { IfSome kept.new HasBook }
     ensures files { Begins (seen S.files S.faults S.last store.old store.new) (named_by command.now) }
     ensures faults { S.faults store.old ≤ S.faults store.new }
 {
@@ -246,6 +257,7 @@ fn carry_out_files<S: Store>(
     command: &FileCommand,
     store: &mut S,
 ) -> Result<Answer, Ended>
+    requires within { AreWithin (files_named command.now) }
     ensures carries { UnlessMemory
         (CarriesOut (seen S.files S.faults S.last store.old store.new) (files_named command.now)) result }
     ensures holds { (named : NamedCheck) → files_named command.now ≡ Check named
@@ -282,6 +294,7 @@ fn carry_out_run<S: Store, D: ApiDevice + Send, G: Gate + Sync, R: Threads + Wai
     ensures ran { IfOk result (TellsKept (told_of D.told D.faults kept.new)) }
     ensures kept { IfSome (told_of D.told D.faults kept.new) (IsKept (seen S.files S.faults S.last store.old store.new)
         (run_named words.now) (views D.told D.faults slots.items)) }
+    ensures book { IfSome kept.new HasBook }
     ensures files { Begins (seen S.files S.faults S.last store.old store.new) (Run (run_named words.now)) }
     ensures faults { S.faults store.old ≤ S.faults store.new }
 {
@@ -293,6 +306,7 @@ fn carry_out_run<S: Store, D: ApiDevice + Send, G: Gate + Sync, R: Threads + Wai
 
 /// What a command over files makes of them.
 fn make<S: Store>(alloc: Global, command: &FileCommand, store: &mut S) -> Result<Made, Ended>
+    requires within { AreWithin (files_named command.now) }
     ensures makes { UnlessMemory
         (Makes (readings_of (seen S.files S.faults S.last store.old store.new)) (files_named command.now)) result }
     ensures holds { (named : NamedCheck) → files_named command.now ≡ Check named
@@ -311,6 +325,7 @@ fn make<S: Store>(alloc: Global, command: &FileCommand, store: &mut S) -> Result
         FileCommand::Race(words) => make_race(alloc, words, store),
         FileCommand::Inline(words) => make_inline(alloc, words, store),
         FileCommand::Replay(words) => make_replay(alloc, words, store),
+        FileCommand::Gen(words) => make_gen(alloc, words),
     }
 }
 
@@ -343,6 +358,7 @@ fn answer_status(answer: &Answer) -> Status
         Answer::Judged(verdict) => judged_status(*verdict),
         Answer::RaceFree => Status::Done,
         Answer::Inlined { .. } => Status::Done,
+        Answer::Generated { .. } => Status::Done,
         Answer::Replayed(_) => Status::Done,
         Answer::Ran { end, .. } => run_status(*end),
     }

@@ -18,10 +18,10 @@ run-answer-requires-clause-plain g c κs within = subst PlainAnswersFit (sym c.i
 pub returns-clause-kept : goal.returns-clause-kept
 returns-clause-kept g c =
     let gives = subst (λ (p : Program). Gives (interpreted g.D.ApiDevice.told g.D.ApiDevice.faults) (identity (new_book p (views g.D.ApiDevice.told g.D.ApiDevice.faults c.args.slots.items) c.args.words.now.budget)) c.run-answer.result) c.in_ok-execution.ensures.program c.run-answer.ensures in
-    kept_as (interpreted g.D.ApiDevice.told g.D.ApiDevice.faults) _ c.run-answer.result gives c.stops_with_value.ensures _ c.keep.ensures c.told-made.result c.told-made.ensures
+    kept_as (interpreted g.D.ApiDevice.told g.D.ApiDevice.faults) _ c.run-answer.result gives c.stops_with_value.ensures _ c.keep.ensures.told c.told-made.result c.told-made.ensures
 
 pub returns-clause-executes : goal.returns-clause-executes
 returns-clause-executes g c =
     let gives = subst (λ (p : Program). Gives (interpreted g.D.ApiDevice.told g.D.ApiDevice.faults) (identity (new_book p (views g.D.ApiDevice.told g.D.ApiDevice.faults c.args.slots.items) c.args.words.now.budget)) c.run-answer.result) c.in_ok-execution.ensures.program c.run-answer.ensures in
     executes c.args.program _ c.args.words.now.budget _ _ c.told-made.result
-    (kept_as (interpreted g.D.ApiDevice.told g.D.ApiDevice.faults) _ c.run-answer.result gives c.stops_with_value.ensures _ c.keep.ensures c.told-made.result c.told-made.ensures) c.told-made.ensures
+    (kept_as (interpreted g.D.ApiDevice.told g.D.ApiDevice.faults) _ c.run-answer.result gives c.stops_with_value.ensures _ c.keep.ensures.told c.told-made.result c.told-made.ensures) c.told-made.ensures

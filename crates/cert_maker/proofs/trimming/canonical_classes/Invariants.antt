@@ -1,0 +1,13 @@
+use Rattle.std.proofs.Common.{◌≡◌, ◌++◌, length}
+use Rattle.std.specs.List.{AllByRecursion}
+use Rattle.cert_maker.specs.Canonical.{FitsIfSome, canonical_classes}
+use Rattle.cert_maker.proofs.trimming.canonical_classes.Given as goal
+
+abbrev pub invariant-loop-left : goal.invariant-loop-left
+invariant-loop-left l = record {
+  so_far : l.made ++ canonical_classes l.left l.frames.items ≡ canonical_classes l.classes l.fn.frames;
+  fits : AllByRecursion (AllByRecursion (AllByRecursion FitsIfSome)) l.made;
+}
+
+abbrev pub decreases-loop-left : goal.decreases-loop-left
+decreases-loop-left l = length l.left
