@@ -1,5 +1,5 @@
-"""Draws the two pictures of docs/ARCHITECTURE.md from crates.txt, and says whether they are as drawn: docs/house.svg has the crates
-by floors, those below the checker marked; docs/way.svg has the way of `check` and `inline` from files to an answer.
+"""Draws the two pictures of docs/ARCHITECTURE.md from crates.txt, and says whether they are as drawn: docs/pictures/house.svg has the crates
+by floors, those below the checker marked; docs/pictures/way.svg has the way of `check` and `inline` from files to an answer.
 """
 import os
 import re
@@ -133,10 +133,10 @@ def faults(is_written):
     floors, below = read_crates()
     found = list(wrong_stages(below))
     for name, text in (("house.svg", house(floors, below)), ("way.svg", way(below))):
-        path = os.path.join(ROOT, "docs", name)
+        path = os.path.join(ROOT, "docs", "pictures", name)
         if is_written:
             with open(path, "w", encoding="utf-8") as file:
                 file.write(text)
         elif not os.path.exists(path) or open(path, encoding="utf-8").read() != text:
-            found.append(f"docs/{name} is not what crates.txt says: tests/crates --write")
+            found.append(f"docs/pictures/{name} is not what crates.txt says: tests/crates --write")
     return found

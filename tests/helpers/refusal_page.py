@@ -1,11 +1,11 @@
-"""The words of docs/REFUSALS.md, from tools/refusals.py: of each section the title, the meaning, the mistakes and the remedy; and the
-rows of its tables. What the page has besides, its examples and what is printed, is its own."""
+"""The words of docs/REFUSALS.md and its further pages, from tools/refusals.py: of each section the title, the meaning, the mistakes and the remedy; and the
+rows of its tables. What a page has besides, its examples and what is printed, is its own."""
 import os
 import re
 import sys
 
 ROOT = os.path.dirname(os.path.dirname(os.path.dirname(os.path.realpath(__file__))))
-PATH = os.path.join(ROOT, "docs", "REFUSALS.md")
+PAGES = ("REFUSALS.md", "refusals/LINKING.md", "refusals/POLICIES.md", "refusals/CHECKS.md")
 sys.path.insert(0, os.path.join(ROOT, "tools"))
 import refusals as words  # noqa: E402
 
@@ -41,9 +41,18 @@ def with_words(text):
     return text
 
 
-def page():
-    with open(PATH, encoding="utf-8") as file:
+def path_of(name):
+    return os.path.join(ROOT, "docs", name)
+
+
+def text_of(name):
+    with open(path_of(name), encoding="utf-8") as file:
         return file.read()
+
+
+def page():
+    """All pages, one after the other."""
+    return "".join(text_of(name) for name in PAGES)
 
 
 def differences(text):
@@ -56,6 +65,7 @@ def differences(text):
 
 
 def write():
-    text = with_words(page())
-    with open(PATH, "w", encoding="utf-8") as file:
-        file.write(text)
+    for name in PAGES:
+        text = with_words(text_of(name))
+        with open(path_of(name), "w", encoding="utf-8") as file:
+            file.write(text)
