@@ -1,5 +1,34 @@
 -- What a check does: atoms are asked, updates are made, and the first branch is taken whose atoms hold.
-use Rattle.std.proofs.Common.{◌≡◌, ℕ, ◌+◌, ◌<◌, ◌≤◌, ℤ, pos, ◌+ℤ◌, Bool, true, false, List, [], ◌∷◌, ◌++◌, length, map, Option, Some, None, refl, sym, ap, ◌∙◌, subst, arith, append_assoc, length-append}
+use Rattle.std.proofs.Common.{
+  ◌≡◌,
+  ℕ,
+  ◌+◌,
+  ◌<◌,
+  ◌≤◌,
+  ℤ,
+  pos,
+  ◌+ℤ◌,
+  Bool,
+  true,
+  false,
+  List,
+  [],
+  ◌∷◌,
+  ◌++◌,
+  length,
+  map,
+  Option,
+  Some,
+  None,
+  refl,
+  sym,
+  ap,
+  ◌∙◌,
+  subst,
+  arith,
+  append_assoc,
+  length-append,
+}
 use Rattle.std.specs.Prelude.{◌&&◌, find, if◌then◌else◌, option_map, slice_get, slice_set, ⊤}
 use Rattle.std.specs.Int.{w32, int_wrapping_add}
 use Rattle.std.specs.List.{AllByRecursion, list_all}
@@ -22,7 +51,20 @@ use Rattle.offset_patch.specs.declared.block.BlockInsn.TheVariants.{Plain, Byte,
 use Rattle.offset_patch.specs.declared.block.PoolWant.TheVariants.{Exit}
 use Rattle.block_template.specs.declared.item.Item.{Item}
 use Rattle.block_template.specs.declared.item.Role.TheVariants as roles
-use Rattle.block_template.specs.Parts.{ask, asks, asks_size, branch_size, branches, branches_size, item, stop, tried, updates_size, write, writes}
+use Rattle.block_template.specs.Parts.{
+  ask,
+  asks,
+  asks_size,
+  branch_size,
+  branches,
+  branches_size,
+  item,
+  stop,
+  tried,
+  updates_size,
+  write,
+  writes,
+}
 use Rattle.block_template.specs.Pushing.{field, negated, push, push_base}
 use Rattle.block_template.proofs.Goods.{insns_of}
 use Rattle.block_template.proofs.Sizes.{asks_length, branches_length, mapped_length, writes_length}

@@ -1,5 +1,30 @@
 -- What comes of an event before a call, after it and where it throws: in each the clause is asked, if there is one.
-use Rattle.std.proofs.Common.{◌≡◌, ℕ, ◌+◌, ◌<◌, ◌≤◌, Bool, true, false, List, [], ◌∷◌, ◌++◌, length, map, take, Option, Some, None, refl, sym, ap, subst, arith, length-set}
+use Rattle.std.proofs.Common.{
+  ◌≡◌,
+  ℕ,
+  ◌+◌,
+  ◌<◌,
+  ◌≤◌,
+  Bool,
+  true,
+  false,
+  List,
+  [],
+  ◌∷◌,
+  ◌++◌,
+  length,
+  map,
+  take,
+  Option,
+  Some,
+  None,
+  refl,
+  sym,
+  ap,
+  subst,
+  arith,
+  length-set,
+}
 use Rattle.std.specs.Prelude.{IfSome, option_and_then, reverse, slice_get, slice_set}
 use Rattle.std.specs.Option.{option_map_or}
 use Rattle.std.proofs.lemmas.List.{take-set-le}
@@ -14,7 +39,6 @@ use Rattle.conspec_automaton.specs.declared.policy.Policy.{Policy}
 use Rattle.conspec_automaton.specs.Next.{Values, argument, moment, next_by}
 use Rattle.conspec_automaton.specs.Range.{in_range}
 use Rattle.conspec_automaton.specs.Sound.{IsPolicy}
-use Rattle.offset_patch.specs.Splicing.{operands_needed}
 use Rattle.block_template.specs.declared.item.Item.{Item}
 use Rattle.block_template.specs.declared.item.Role.TheVariants as roles
 use Rattle.block_template.specs.Blocks.{catches, checked, following, front, handler, is_locked, kept, released, rethrow}
@@ -29,7 +53,7 @@ use Rattle.guest_model.specs.Parts.{number_in}
 use Rattle.block_runs.specs.Spots.{Spot}
 use Rattle.block_runs.specs.Running.{Thrown}
 use Rattle.block_runs.specs.Passed.{AreOfKinds, ArePassed, IsGiven}
-use Rattle.block_runs.specs.Transparent.{IsAfter, refused}
+use Rattle.block_runs.specs.Transparent.{IsAfter, most_pushed, refused}
 use Rattle.block_runs.proofs.Blocks.{
   EndsAt,
   LeadsAt,
@@ -122,7 +146,7 @@ module _ (state : ℕ) (policy : Policy) (sound : IsPolicy policy) (bools : List
       refuses = λ e. front_stops state size bools base event now clause arguments beneath locals are inside count room can_before mode e;
     }
 
-  module _ (items locals : List Value) (room : length items + operands_needed ≤ size) where
+  module _ (items locals : List Value) (room : length items + most_pushed ≤ size) where
     pub before_judges : (mode : Mode) (o : Option Clause) → IfSome o (IsOf policy Before) → IfSome o (λ c. ArePassed c.args event items)
         → base + option_map_or (λ (c : Clause). length c.args) o 0 ≤ length locals
         → JudgesPart state o event now base 0 (is_locked mode) (front mode bools base o) (at_spot items locals now false)
@@ -262,7 +286,7 @@ module _ (state : ℕ) (policy : Policy) (sound : IsPolicy policy) (bools : List
 
   -- ---- where it throws
 
-  module _ (v : Value) (there : is_null v ≡ false) (locals : List Value) (room : 1 + operands_needed ≤ size) where
+  module _ (v : Value) (there : is_null v ≡ false) (locals : List Value) (room : 1 + most_pushed ≤ size) where
     pub thrown_judges : (mode : Mode) (at : ℕ) (o : Option Clause) → IfSome o (IsOf policy Exceptional) → catches mode o ≡ true
         → ThrowsPart state o event now base at v (handler mode bools base at o) (at_spot (v ∷ []) locals now (is_locked mode))
     thrown_judges Release at None is caught = absurd cc

@@ -31,7 +31,7 @@ use Rattle.block_runs.specs.Weaves.{LocalsFit, plan_sites}
 
 -- ---- where the call of a part stands
 
-call_there : (insns : List BlockInsn) → calls_in insns ≡ 1 → slice_get insns (call_place insns) ≡ Some Call
+pub call_there : (insns : List BlockInsn) → calls_in insns ≡ 1 → slice_get insns (call_place insns) ≡ Some Call
 unfolding call_place
 call_there [] e = absurd cc
 call_there (Call ∷ insns) e = refl
@@ -47,29 +47,34 @@ unfolding call_place
 site_call None is = refl
 site_call (Some block) is = call_there block.insns is.once
 
-below_length : {X : Type 0} (xs : List X) (i : ℕ) (x : X) → slice_get xs i ≡ Some x → i < length xs
+pub below_length : {X : Type 0} (xs : List X) (i : ℕ) (x : X) → slice_get xs i ≡ Some x → i < length xs
 below_length [] i x e = absurd cc
 below_length (y ∷ xs) zero x e = omega arith
 below_length (y ∷ xs) (suc i) x e = omega (arith, below_length xs i x e)
 
 -- ---- what stands there
 
-insn_stands : (pool : List Const) (fronts : List ℕ) (begin : ℕ) (own : List Insn) (sites : Sites) → AllByRecursion IsSite sites → length sites ≡ length own
-    → (i : ℕ) (insn : Insn) → slice_get own i ≡ Some insn → slice_get (parts_from pool fronts begin own sites) (stand sites i) ≡ Some (aimed fronts insn)
+insn_stands : (pool : List Const) (fronts : List ℕ) (begin : ℕ) (own : List Insn) (sites : Sites) → AllByRecursion IsSite sites
+    → length sites ≡ length own
+    → (i : ℕ) (insn : Insn) → slice_get own i ≡ Some insn
+    → slice_get (parts_from pool fronts begin own sites) (stand sites i) ≡ Some (aimed fronts insn)
 insn_stands pool fronts begin [] sites are many i insn e = absurd cc
 insn_stands pool fronts begin (x ∷ own) [] are many i insn e = absurd (omega arith)
 insn_stands pool fronts begin (x ∷ own) (site ∷ sites) are many zero insn e =
     let same : x ≡ insn = cc in
     let part = part_of site in
     let here : List Insn = map (put pool fronts begin x) part in
-    let less : call_place part < length here = omega (arith, below_length part (call_place part) Call (site_call site are.0), length-map part (put pool fronts begin x)) in
-    get_left here (parts_from pool fronts (begin + length part) own sites) (call_place part) less ∙ slice_get-map (put pool fronts begin x) part (call_place part)
+    let less : call_place part < length here = omega
+    (arith, below_length part (call_place part) Call (site_call site are.0), length-map part (put pool fronts begin x)) in
+    get_left here (parts_from pool fronts (begin + length part) own sites) (call_place part) less ∙ slice_get-map
+    (put pool fronts begin x) part (call_place part)
     ∙ ap (option_map (put pool fronts begin x)) (site_call site are.0) ∙ ap (λ (y : Insn). Some (aimed fronts y)) same
 insn_stands pool fronts begin (x ∷ own) (site ∷ sites) are many (suc i) insn e =
     let part = part_of site in
     let here : List Insn = map (put pool fronts begin x) part in
     let at : length part + stand sites i ≡ length here + stand sites i = omega (arith, length-map part (put pool fronts begin x)) in
-    rw at (get_right here (parts_from pool fronts (begin + length part) own sites) (stand sites i) ∙ insn_stands pool fronts (begin + length part) own sites are.1 (omega arith) i insn e)
+    rw at (get_right here (parts_from pool fronts (begin + length part) own sites) (stand sites i) ∙ insn_stands pool fronts
+    (begin + length part) own sites are.1 (omega arith) i insn e)
 
 ref_stands : (state : ℕ) (own : List Target) (sites : Sites) → AllByRecursion IsSite sites → length sites ≡ length own
     → (i : ℕ) (ref : Target) → slice_get own i ≡ Some ref → slice_get (parts_named state own sites) (stand sites i) ≡ Some ref
@@ -79,7 +84,8 @@ ref_stands state (x ∷ own) (site ∷ sites) are many zero ref e =
     let same : x ≡ ref = cc in
     let part = part_of site in
     let here : List Target = map (part_named state x) part in
-    let less : call_place part < length here = omega (arith, below_length part (call_place part) Call (site_call site are.0), length-map part (part_named state x)) in
+    let less : call_place part < length here = omega
+    (arith, below_length part (call_place part) Call (site_call site are.0), length-map part (part_named state x)) in
     get_left here (parts_named state own sites) (call_place part) less ∙ slice_get-map (part_named state x) part (call_place part)
     ∙ ap (option_map (part_named state x)) (site_call site are.0) ∙ ap (λ (y : Target). Some y) same
 ref_stands state (x ∷ own) (site ∷ sites) are many (suc i) ref e =
@@ -105,7 +111,7 @@ jumps_within n (insns.Local op slot wide) h = tt
 jumps_within n (insns.Inc slot by wide) h = tt
 jumps_within n (insns.NewArray kind) h = tt
 
-each_at : {X : Type 0} (P : X → Type 0) (xs : List X) → AllByRecursion P xs → (i : ℕ) (x : X) → slice_get xs i ≡ Some x → P x
+pub each_at : {X : Type 0} (P : X → Type 0) (xs : List X) → AllByRecursion P xs → (i : ℕ) (x : X) → slice_get xs i ≡ Some x → P x
 each_at P [] are i x e = absurd cc
 each_at P (y ∷ xs) are zero x e =
     let same : y ≡ x = cc in
@@ -118,18 +124,20 @@ all_within n (h ∷ handlers) are = (record { from = omega (arith, are.0.from); 
 
 -- ---- a method
 
-module _ (plan : Plan) (kinds : List Bool) (good : IsGood kinds plan) (state : ℕ) (pool : List Const) (old new : Method) (ok : IsSoundMethod old) (room : LocalsFit plan old)
+module _ (plan : Plan) (kinds : List Bool) (good : IsGood kinds plan) (state : ℕ) (pool : List Const) (old new : Method)
+    (ok : IsSoundMethod old) (room : LocalsFit plan old)
     (woven : IsWovenMethod plan state pool old new) where
   abbrev fronts : List ℕ
   fronts = fronts_of (plan_sites plan old)
 
-  count : length (plan_sites plan old) ≡ length old.insns
+  pub count : length (plan_sites plan old) ≡ length old.insns
   count = length-map old.refs (plan.block old.max_locals) ∙ ok.refs
 
   alone : is_woven plan old ≡ false → AllByRecursion (λ ref. plan.block old.max_locals ref ≡ None) old.refs
   alone e = all_alone plan old.max_locals (good.there old.max_locals) old.refs e
 
-  none_fit : (refs : List Target) → AllByRecursion (λ ref. plan.block old.max_locals ref ≡ None) refs → AllByRecursion IsSite (map (plan.block old.max_locals) refs)
+  none_fit : (refs : List Target) → AllByRecursion (λ ref. plan.block old.max_locals ref ≡ None) refs
+      → AllByRecursion IsSite (map (plan.block old.max_locals) refs)
   none_fit [] are = tt
   none_fit (ref ∷ refs) are = (subst IsSite (sym are.0) tt, none_fit refs are.1)
 
@@ -137,7 +145,7 @@ module _ (plan : Plan) (kinds : List Bool) (good : IsGood kinds plan) (state : �
   blocks_by true e = refs_fit kinds plan good old.max_locals old.refs (room e)
   blocks_by false e = none_fit old.refs (alone e)
 
-  blocks : AllByRecursion IsSite (plan_sites plan old)
+  pub blocks : AllByRecursion IsSite (plan_sites plan old)
   blocks = blocks_by (is_woven plan old) refl
 
   insns_by : (b : Bool) → is_woven plan old ≡ b → insns_woven plan pool old ≡ spliced pool old.insns (plan_sites plan old)
@@ -146,25 +154,29 @@ module _ (plan : Plan) (kinds : List Bool) (good : IsGood kinds plan) (state : �
       ap (λ (b : Bool). cond b (spliced pool old.insns (plan_sites plan old)) old.insns) e
       ∙ sym (insns_alone plan old.max_locals pool old.insns old.refs (alone e) (sym ok.refs) ok.targets)
 
-  refs_by : (b : Bool) → is_woven plan old ≡ b → refs_woven plan state old ≡ parts_named state old.refs (plan_sites plan old)
+  pub refs_by : (b : Bool) → is_woven plan old ≡ b → refs_woven plan state old ≡ parts_named state old.refs (plan_sites plan old)
   refs_by true e = ap (λ (b : Bool). cond b (parts_named state old.refs (plan_sites plan old)) old.refs) e
   refs_by false e =
-      ap (λ (b : Bool). cond b (parts_named state old.refs (plan_sites plan old)) old.refs) e ∙ sym (named_alone plan old.max_locals state old.refs (alone e))
+      ap (λ (b : Bool). cond b (parts_named state old.refs (plan_sites plan old)) old.refs) e ∙ sym
+      (named_alone plan old.max_locals state old.refs (alone e))
 
   handlers_by : (b : Bool) → is_woven plan old ≡ b → handlers_woven plan old ≡ handlers_with (plan_sites plan old) old.handlers
   handlers_by true e = ap (λ (b : Bool). cond b (handlers_with (plan_sites plan old) old.handlers) old.handlers) e
   handlers_by false e =
       ap (λ (b : Bool). cond b (handlers_with (plan_sites plan old) old.handlers) old.handlers) e
       ∙ sym (ap (λ (hs : List Handler). hs ++ map (at_fronts fronts) old.handlers) (own_alone plan old.max_locals 0 old.refs (alone e))
-      ∙ handlers_same plan old.max_locals fronts (length old.insns) (λ i le. front_alone plan old.max_locals old.refs (alone e) i (omega (arith, le, ok.refs))) old.handlers ok.handlers)
+      ∙ handlers_same plan old.max_locals fronts (length old.insns)
+      (λ i le. front_alone plan old.max_locals old.refs (alone e) i (omega (arith, le, ok.refs))) old.handlers ok.handlers)
 
-  insns_are : new.insns ≡ spliced pool old.insns (plan_sites plan old)
+  pub insns_are : new.insns ≡ spliced pool old.insns (plan_sites plan old)
   insns_are = woven.insns ∙ insns_by (is_woven plan old) refl
 
-  code_by : (own : List Insn) (sites : Sites) → AllByRecursion IsSite sites → length sites ≡ length own → nat_lt 0 (length (parts_from pool fronts 0 own sites)) ≡ nat_lt 0 (length own)
+  code_by : (own : List Insn) (sites : Sites) → AllByRecursion IsSite sites → length sites ≡ length own
+      → nat_lt 0 (length (parts_from pool fronts 0 own sites)) ≡ nat_lt 0 (length own)
   code_by [] sites are many = refl
   code_by (x ∷ own) sites are many =
-      let there = below_length (parts_from pool fronts 0 (x ∷ own) sites) (stand sites 0) (aimed fronts x) (insn_stands pool fronts 0 (x ∷ own) sites are many 0 x refl) in
+      let there = below_length (parts_from pool fronts 0 (x ∷ own) sites) (stand sites 0) (aimed fronts x)
+      (insn_stands pool fronts 0 (x ∷ own) sites are many 0 x refl) in
       grind (arith)
 
   stack_by : (b : Bool) → old.max_stack ≤ cond b (old.max_stack + 3) old.max_stack

@@ -11,6 +11,28 @@ pub mod Example
 pub mod Monitors
 pub mod Shapes
 pub mod Making
-mod Laying
-mod Adding
-mod Starting
+pub mod Throwing
+pub mod Made
+pub mod Reaching
+pub mod Laying
+pub mod Adding
+pub mod Callers
+pub mod Changes
+pub mod Quiet
+pub mod Waiting
+pub mod Alone
+pub mod Standing
+pub mod Joined
+pub mod Calls
+pub mod Answered
+pub mod Returns
+pub mod Caught
+pub mod Thrown
+pub mod Lifted
+pub mod Putting
+pub mod Fitting
+pub mod Starting
+pub mod Passing
+pub mod Clients
+pub mod WovenClients
+pub mod AcceptedRuns

@@ -1,6 +1,31 @@
 -- The machine makes what an instruction of a block does.
-use Rattle.std.proofs.Common.{◌≡◌, ℕ, zero, suc, ◌+◌, ◌<◌, ℤ, Bool, true, false, cond, List, [], ◌∷◌, length, drop, Option, Some, None, refl, sym, ap, ◌∙◌, subst, arith}
-use Rattle.std.specs.Prelude.{◌==◌, ◌&&◌, if◌then◌else◌, nat_lt, not, option_map, option_and_then, slice_get, slice_set, Result, Ok}
+use Rattle.std.proofs.Common.{
+  ◌≡◌,
+  ℕ,
+  zero,
+  suc,
+  ◌+◌,
+  ℤ,
+  Bool,
+  true,
+  false,
+  cond,
+  List,
+  [],
+  ◌∷◌,
+  length,
+  drop,
+  Option,
+  Some,
+  None,
+  refl,
+  sym,
+  ap,
+  ◌∙◌,
+  subst,
+  arith,
+}
+use Rattle.std.specs.Prelude.{◌==◌, ◌&&◌, if◌then◌else◌, nat_lt, not, option_map, option_and_then, slice_get, slice_set, Ok}
 use Rattle.std.specs.Option.{option_map_or}
 use Rattle.std.proofs.lemmas.Bool.{and_parts, eqb-true}
 use Rattle.bytecode_model.specs.declared.program.Program.{Program}
@@ -49,7 +74,7 @@ use Rattle.offset_patch.specs.declared.block.PoolWant.{PoolWant}
 use Rattle.offset_patch.specs.declared.block.PoolWant.TheVariants as wants
 use Rattle.offset_patch.specs.Entries.{place_in, state_name}
 use Rattle.offset_patch.specs.Fits.{IsBlockInsn}
-use Rattle.offset_patch.specs.Splicing.{part_named, put, want_named}
+use Rattle.offset_patch.specs.Splicing.{want_named}
 use Rattle.guest_heap.specs.Stack.{Operands}
 use Rattle.guest_heap.specs.declared.object.Monitor.{Monitor}
 use Rattle.guest_heap.specs.declared.value.Value.{Value}
@@ -57,8 +82,7 @@ use Rattle.guest_heap.specs.declared.value.Value.TheVariants as values
 use Rattle.guest_frames.specs.Stepping.{after, fitted, frame_stepped, moved_to}
 use Rattle.guest_frames.specs.Values.{are_one, is_null, values_moved, values_seen}
 use Rattle.guest_model.specs.declared.machine.Machine.{Machine}
-use Rattle.guest_model.specs.Changes.{Change, World, goes, throws, with_monitors, with_statics, world_of}
-use Rattle.guest_model.specs.Kinds.{class_of_value}
+use Rattle.guest_model.specs.Changes.{Change, World, goes, with_monitors, with_statics, world_of}
 use Rattle.guest_model.specs.Monitors.{entered, left}
 use Rattle.guest_model.specs.Parts.{constant_value, number_in}
 use Rattle.guest_model.specs.Places.{class_index}
@@ -79,7 +103,7 @@ use Rattle.block_runs.specs.Spots.{
   pushes,
   reads_field,
   stopped_by,
-  takes,
+  takes_one,
   thrown,
   want_went,
   with_fields,
@@ -87,13 +111,13 @@ use Rattle.block_runs.specs.Spots.{
   with_top,
   writes_field,
 }
-use Rattle.block_runs.specs.Steps.{ComesTo, MovesAreMade, StandsAt, StateIndex, ThrowsAreMade, held_by, locks_in, others_in, placed}
+use Rattle.block_runs.specs.Steps.{ComesTo, MovesAreMade, StandsAt, StateIndex, held_by, locks_in, others_in, placed_insn}
 use Rattle.block_runs.proofs.Monitors.{lock_is, lock_left, lock_taken}
 use Rattle.block_runs.proofs.Shapes.{local_stays, plain_stays, stays}
 
 -- ---- what is known where an instruction goes on
 
-set_same : {X : Type 0} (xs : List X) (n : ℕ) (x : X) → slice_get xs n ≡ Some x → slice_set xs n x ≡ xs
+pub set_same : {X : Type 0} (xs : List X) (n : ℕ) (x : X) → slice_get xs n ≡ Some x → slice_set xs n x ≡ xs
 set_same [] n x there = refl
 set_same (y ∷ xs) zero x there =
     let same : x ≡ y = cc in
@@ -104,7 +128,8 @@ set_same (y ∷ xs) (suc n) x there = ap (λ (zs : List _). y ∷ zs) (set_same 
 record GoesSo (place to : ℕ) (spot : Spot) (locals items : List Value) (went : Spot) : Type 0 where
   same : place ≡ to
   fits : nat_lt spot.stack.size (length items) ≡ false
-  is : record { stack = record { items = items; size = spot.stack.size }; locals = locals; fields = spot.fields; locked = spot.locked } ≡ went
+  is : record { stack = record { items = items; size = spot.stack.size }; locals = locals; fields = spot.fields; locked = spot.locked }
+      ≡ went
 
 goes_so : (place to : ℕ) (spot : Spot) (locals items : List Value) (went : Spot) → goes_with place spot locals items ≡ Goes to went
     → GoesSo place to spot locals items went
@@ -113,7 +138,8 @@ goes_so place to spot locals items went e = by (nat_lt spot.stack.size (length i
     end : Spot
     end = record { stack = record { items = items; size = spot.stack.size }; locals = locals; fields = spot.fields; locked = spot.locked }
 
-    by : (b : Bool) → nat_lt spot.stack.size (length items) ≡ b → (if b then Stuck else Goes place end) ≡ Goes to went → GoesSo place to spot locals items went
+    by : (b : Bool) → nat_lt spot.stack.size (length items) ≡ b → (if b then Stuck else Goes place end) ≡ Goes to went
+        → GoesSo place to spot locals items went
     by true is e = absurd cc
     by false is e = record { same = cc; fits = is; is = cc }
 
@@ -136,7 +162,8 @@ if_goes false went to end e = absurd cc
 
 -- ---- shapes that work on the frame alone
 
-frame_only : (shape : Shape) (locals items : List Value) (m : Moved Value) → effect values_moved shape locals items ≡ Some m → heap_in shape ≡ None
+frame_only : (shape : Shape) (locals items : List Value) (m : Moved Value) → effect values_moved shape locals items ≡ Some m
+    → heap_in shape ≡ None
 frame_only (shapes.Heap what) locals items m e = absurd cc
 frame_only shapes.Nothing locals items m e = refl
 frame_only (shapes.Push n) locals items m e = refl
@@ -157,7 +184,8 @@ frame_only shapes.Switch locals items m e = refl
 -- The one instruction stands in a block, the other in code, where the block begins at a place: they do the same, and go to the same.
 record AreAlike (begin : ℕ) (inner outer : Shape) : Type 0 where
   same : (locals items : List Value) → effect values_moved outer locals items ≡ effect values_moved inner locals items
-  there : (one other : Insn) (next : ℕ) (items : List Value) → goes_to values_seen other outer (begin + next) items ≡ begin + goes_to values_seen one inner next items
+  there : (one other : Insn) (next : ℕ) (items : List Value) → goes_to values_seen other outer (begin + next) items
+      ≡ begin + goes_to values_seen one inner next items
 
 by_test : (begin : ℕ) (b : Bool) (to next : ℕ) → cond b (begin + to) (begin + next) ≡ begin + cond b to next
 by_test begin true to next = refl
@@ -214,7 +242,11 @@ module _ (begin to : ℕ) where
 
 -- a shape that does not jump
 stays_alike : (begin : ℕ) (shape : Shape) → stays shape ≡ true → AreAlike begin shape shape
-stays_alike begin shape so = record { same = λ locals items. refl; there = λ one other next items. goes_past shape so one other next items }
+stays_alike begin shape so = record {
+  same = λ locals items. refl;
+  there = λ one other next items. goes_past shape so one other next
+      items;
+}
   where
     goes_past : (s : Shape) → stays s ≡ true → (one other : Insn) (next : ℕ) (items : List Value)
         → goes_to values_seen other s (begin + next) items ≡ begin + goes_to values_seen one s next items
@@ -258,12 +290,28 @@ module _ (program : Program) (state : StateIndex) (begin next : ℕ) (machine : 
       → made ≡ onward (world_of machine) (begin + place) locals items → Comes to went made
   alone place to locals items went made so is =
       subst (λ (s : Spot). Comes to s made) so.is
-      (subst (λ (p : ℕ). Comes p (record { stack = record { items = items; size = a.frame.stack.size }; locals = locals; fields = fields; locked = locked }) made) so.same
-      (record { world = world_of machine; is = is; size = refl; heap = refl; statics = sym (set_same machine.statics state.class fields there); lock = lock; others = refl }))
+      (subst (λ (p : ℕ). Comes p (record {
+        stack = record { items = items; size = a.frame.stack.size };
+        locals = locals;
+        fields =
+            fields;
+        locked = locked;
+      }) made) so.same
+      (record {
+        world = world_of machine;
+        is = is;
+        size = refl;
+        heap = refl;
+        statics = sym
+            (set_same machine.statics state.class fields there);
+        lock = lock;
+        others = refl;
+      }))
 
   -- ---- on the frame alone
 
-  frame_comes : (insn : Insn) (ref : Target) (inner : Shape) → AreAlike begin inner (shape_of insn) → (to : ℕ) (went : Spot) → frame_went inner next spot ≡ Goes to went
+  frame_comes : (insn : Insn) (ref : Target) (inner : Shape) → AreAlike begin inner (shape_of insn) → (to : ℕ) (went : Spot)
+      → frame_went inner next spot ≡ Goes to went
       → Comes to went (insn_stepped program machine a (insn, ref))
   frame_comes insn ref inner alike to went e = by (effect values_moved inner a.frame.locals a.frame.stack.items) refl e
     where
@@ -271,18 +319,23 @@ module _ (program : Program) (state : StateIndex) (begin next : ℕ) (machine : 
       from = goes_to values_seen (insns.GotoW next) inner next a.frame.stack.items
 
       by : (o : Option (Moved Value)) → effect values_moved inner a.frame.locals a.frame.stack.items ≡ o
-          → option_map_or (λ (m : Moved Value). goes_with from spot m.0 m.1) o Stuck ≡ Goes to went → Comes to went (insn_stepped program machine a (insn, ref))
+          → option_map_or (λ (m : Moved Value). goes_with from spot m.0 m.1) o Stuck ≡ Goes to went
+          → Comes to went (insn_stepped program machine a (insn, ref))
       by None is e = absurd cc
       by (Some m) is e =
           let so = goes_so from to spot m.0 m.1 went e in
-          let does : effect values_moved (shape_of insn) a.frame.locals a.frame.stack.items ≡ Some m = alike.same a.frame.locals a.frame.stack.items ∙ is in
+          let does : effect values_moved (shape_of insn) a.frame.locals a.frame.stack.items
+          ≡ Some m = alike.same a.frame.locals a.frame.stack.items ∙ is in
           let only : heap_in (shape_of insn) ≡ None = frame_only (shape_of insn) a.frame.locals a.frame.stack.items m does in
           let place : goes_to values_seen insn (shape_of insn) (a.frame.at + 1) a.frame.stack.items ≡ begin + from =
-          ap (λ (n : ℕ). goes_to values_seen insn (shape_of insn) n a.frame.stack.items) here ∙ alike.there (insns.GotoW next) insn next a.frame.stack.items in
+          ap (λ (n : ℕ). goes_to values_seen insn (shape_of insn) n a.frame.stack.items) here
+          ∙ alike.there (insns.GotoW next) insn next a.frame.stack.items in
           let steps : insn_stepped program machine a (insn, ref) ≡ onward (world_of machine) (begin + from) m.0 m.1 =
-          ap (λ (o : Option Heap). option_map_or (λ what. heap_stepped program machine a what ref) o (acts_on (world_of machine) a (frame_stepped insn a.frame))) only
+          ap (λ (o : Option Heap). option_map_or (λ what. heap_stepped program machine a what ref) o (acts_on (world_of machine) a
+          (frame_stepped insn a.frame))) only
           ∙ ap (λ (o : Option (Moved Value)). acts_on (world_of machine) a
-          (option_and_then (λ (n : Moved Value). fitted a.frame (goes_to values_seen insn (shape_of insn) (a.frame.at + 1) a.frame.stack.items) n.0 n.1) o)) does
+          (option_and_then (λ (n : Moved Value). fitted a.frame (goes_to values_seen insn (shape_of insn)
+          (a.frame.at + 1) a.frame.stack.items) n.0 n.1) o)) does
           ∙ ap (λ (n : ℕ). acts_on (world_of machine) a (fitted a.frame n m.0 m.1)) place
           ∙ fits_so (world_of machine) (begin + from) m.0 m.1 so.fits in
           alone from to m.0 m.1 went (insn_stepped program machine a (insn, ref)) so steps
@@ -291,19 +344,24 @@ module _ (program : Program) (state : StateIndex) (begin next : ℕ) (machine : 
 
   after_so : (world : World) (items : List Value) → nat_lt a.frame.stack.size (length items) ≡ false
       → acts_on world a (after a.frame items) ≡ onward world (begin + next) a.frame.locals items
-  after_so world items fits = fits_so world (a.frame.at + 1) a.frame.locals items fits ∙ ap (λ (n : ℕ). onward world n a.frame.locals items) here
+  after_so world items fits = fits_so world (a.frame.at + 1) a.frame.locals items fits
+      ∙ ap (λ (n : ℕ). onward world n a.frame.locals items) here
 
   pushed : (insn : Insn) (ref : Target) (v : Value) → shape_of insn ≡ shapes.Heap heap.Constant → constant_value program ref ≡ Some v
       → (to : ℕ) (went : Spot) → pushes next spot v ≡ Goes to went → Comes to went (insn_stepped program machine a (insn, ref))
   pushed insn ref v shape names to went e =
       let so = goes_so next to spot a.frame.locals (v ∷ a.frame.stack.items) went e in
-      let steps : insn_stepped program machine a (insn, ref) ≡ onward (world_of machine) (begin + next) a.frame.locals (v ∷ a.frame.stack.items) =
-      ap (λ (s : Shape). option_map_or (λ what. heap_stepped program machine a what ref) (heap_in s) (acts_on (world_of machine) a (frame_stepped insn a.frame))) shape
-      ∙ ap (λ (o : Option Value). option_and_then (comes_to program (world_of machine) a) (option_map (λ (w : Value). Ok (world_of machine, w ∷ a.frame.stack.items)) o)) names
+      let steps : insn_stepped program machine a (insn, ref) ≡ onward (world_of machine) (begin + next) a.frame.locals
+      (v ∷ a.frame.stack.items) =
+      ap (λ (s : Shape). option_map_or (λ what. heap_stepped program machine a what ref) (heap_in s) (acts_on (world_of machine) a
+      (frame_stepped insn a.frame))) shape
+      ∙ ap (λ (o : Option Value). option_and_then (comes_to program (world_of machine) a) (option_map (λ (w : Value). Ok
+      (world_of machine, w ∷ a.frame.stack.items)) o)) names
       ∙ after_so (world_of machine) (v ∷ a.frame.stack.items) so.fits in
       alone next to a.frame.locals (v ∷ a.frame.stack.items) went (insn_stepped program machine a (insn, ref)) so steps
 
-  read : (insn : Insn) (var : ℕ) → shape_of insn ≡ shapes.Heap heap.ReadStatic → (to : ℕ) (went : Spot) → reads_field next spot var ≡ Goes to went
+  read : (insn : Insn) (var : ℕ) → shape_of insn ≡ shapes.Heap heap.ReadStatic → (to : ℕ) (went : Spot) → reads_field next spot var
+      ≡ Goes to went
       → Comes to went (insn_stepped program machine a (insn, target.Field state.class var))
   read insn var shape to went e = by (slice_get fields var) refl e
     where
@@ -315,22 +373,28 @@ module _ (program : Program) (state : StateIndex) (begin next : ℕ) (machine : 
       by None is e = absurd cc
       by (Some v) is e =
           let so = goes_so next to spot a.frame.locals (v ∷ a.frame.stack.items) went e in
-          let steps : insn_stepped program machine a (insn, target.Field state.class var) ≡ onward (world_of machine) (begin + next) a.frame.locals (v ∷ a.frame.stack.items) =
-          ap (λ (s : Shape). option_map_or (λ what. heap_stepped program machine a what (target.Field state.class var)) (heap_in s) (acts_on (world_of machine) a (frame_stepped insn a.frame))) shape
+          let steps : insn_stepped program machine a (insn, target.Field state.class var)
+          ≡ onward (world_of machine) (begin + next) a.frame.locals (v ∷ a.frame.stack.items) =
+          ap (λ (s : Shape). option_map_or (λ what. heap_stepped program machine a what (target.Field state.class var)) (heap_in s)
+          (acts_on (world_of machine) a (frame_stepped insn a.frame))) shape
           ∙ ap (λ (o : Option (List Value)). option_and_then (comes_to program (world_of machine) a)
-          (option_map (λ (w : Value). Ok (world_of machine, w ∷ a.frame.stack.items)) (option_and_then (λ (list : List Value). slice_get list var) o))) there
-          ∙ ap (λ (o : Option Value). option_and_then (comes_to program (world_of machine) a) (option_map (λ (w : Value). Ok (world_of machine, w ∷ a.frame.stack.items)) o)) is
+          (option_map (λ (w : Value). Ok (world_of machine, w ∷ a.frame.stack.items)) (option_and_then (λ
+          (list : List Value). slice_get list var) o))) there
+          ∙ ap (λ (o : Option Value). option_and_then (comes_to program (world_of machine) a) (option_map (λ (w : Value). Ok
+          (world_of machine, w ∷ a.frame.stack.items)) o)) is
           ∙ after_so (world_of machine) (v ∷ a.frame.stack.items) so.fits in
-          alone next to a.frame.locals (v ∷ a.frame.stack.items) went (insn_stepped program machine a (insn, target.Field state.class var)) so steps
+          alone next to a.frame.locals (v ∷ a.frame.stack.items) went (insn_stepped program machine a
+          (insn, target.Field state.class var)) so steps
 
-  written : (insn : Insn) (var : ℕ) → shape_of insn ≡ shapes.Heap heap.WriteStatic → (to : ℕ) (went : Spot) → with_top spot (writes_field next spot var) ≡ Goes to went
+  written : (insn : Insn) (var : ℕ) → shape_of insn ≡ shapes.Heap heap.WriteStatic → (to : ℕ) (went : Spot)
+      → with_top spot (writes_field next spot var) ≡ Goes to went
       → Comes to went (insn_stepped program machine a (insn, target.Field state.class var))
   written insn var shape to went e =
       let top = top_is spot (writes_field next spot var) to went e in
       by top.value top.there (slice_get fields var) refl top.is
     where
       by : (v : Value) → slice_get a.frame.stack.items 0 ≡ Some v → (o : Option Value) → slice_get fields var ≡ o
-          → option_map_or (λ (old : Value). takes next (with_fields spot (slice_set fields var v))) o Stuck ≡ Goes to went
+          → option_map_or (λ (old : Value). takes_one next (with_fields spot (slice_set fields var v))) o Stuck ≡ Goes to went
           → Comes to went (insn_stepped program machine a (insn, target.Field state.class var))
       by v top None is e = absurd cc
       by v top (Some old) is e =
@@ -338,21 +402,31 @@ module _ (program : Program) (state : StateIndex) (begin next : ℕ) (machine : 
           let left : List Value = drop 1 a.frame.stack.items in
           let world : World = with_statics (world_of machine) (slice_set machine.statics state.class new) in
           let so = goes_so next to (with_fields spot new) a.frame.locals left went e in
-          let made : heap_stepped program machine a heap.WriteStatic (target.Field state.class var) ≡ onward world (a.frame.at + 1) a.frame.locals left =
+          let made : heap_stepped program machine a heap.WriteStatic (target.Field state.class var)
+          ≡ onward world (a.frame.at + 1) a.frame.locals left =
           rw (top, there, is, so.fits) refl in
-          let steps : insn_stepped program machine a (insn, target.Field state.class var) ≡ onward world (begin + next) a.frame.locals left =
-          ap (λ (s : Shape). option_map_or (λ what. heap_stepped program machine a what (target.Field state.class var)) (heap_in s) (acts_on (world_of machine) a (frame_stepped insn a.frame))) shape
+          let steps : insn_stepped program machine a (insn, target.Field state.class var)
+          ≡ onward world (begin + next) a.frame.locals left =
+          ap (λ (s : Shape). option_map_or (λ what. heap_stepped program machine a what (target.Field state.class var)) (heap_in s)
+          (acts_on (world_of machine) a (frame_stepped insn a.frame))) shape
           ∙ made ∙ ap (λ (n : ℕ). onward world n a.frame.locals left) here in
           subst (λ (s : Spot). Comes to s (insn_stepped program machine a (insn, target.Field state.class var))) so.is
-          (subst (λ (p : ℕ). Comes p (record { stack = record { items = left; size = a.frame.stack.size }; locals = a.frame.locals; fields = new; locked = locked })
+          (subst (λ (p : ℕ). Comes p (record {
+            stack = record { items = left; size = a.frame.stack.size };
+            locals = a.frame.locals;
+            fields = new;
+            locked = locked;
+          })
           (insn_stepped program machine a (insn, target.Field state.class var))) so.same
           (record { world = world; is = steps; size = refl; heap = refl; statics = refl; lock = lock; others = refl }))
 
   -- ---- the lock
 
-  lock_comes : (held : Bool) (insn : Insn) (what : Heap) (to : ℕ) (went : Spot) (monitors : List Monitor) → shape_of insn ≡ shapes.Heap what
-      → locks_in state.number monitors ≡ held_by state.number a.number held → others_in state.number monitors ≡ others_in state.number machine.monitors
-      → takes next (with_lock spot held) ≡ Goes to went
+  lock_comes : (held : Bool) (insn : Insn) (what : Heap) (to : ℕ) (went : Spot) (monitors : List Monitor) → shape_of insn
+      ≡ shapes.Heap what
+      → locks_in state.number monitors ≡ held_by state.number a.number held → others_in state.number monitors
+      ≡ others_in state.number machine.monitors
+      → takes_one next (with_lock spot held) ≡ Goes to went
       → (nat_lt a.frame.stack.size (length (drop 1 a.frame.stack.items)) ≡ false → heap_stepped program machine a what target.None
       ≡ onward (with_monitors (world_of machine) monitors) (a.frame.at + 1) a.frame.locals (drop 1 a.frame.stack.items))
       → Comes to went (insn_stepped program machine a (insn, target.None))
@@ -361,12 +435,27 @@ module _ (program : Program) (state : StateIndex) (begin next : ℕ) (machine : 
       let world : World = with_monitors (world_of machine) monitors in
       let so = goes_so next to (with_lock spot held) a.frame.locals left_items went e in
       let steps : insn_stepped program machine a (insn, target.None) ≡ onward world (begin + next) a.frame.locals left_items =
-      ap (λ (s : Shape). option_map_or (λ w. heap_stepped program machine a w target.None) (heap_in s) (acts_on (world_of machine) a (frame_stepped insn a.frame))) shape
+      ap (λ (s : Shape). option_map_or (λ w. heap_stepped program machine a w target.None) (heap_in s) (acts_on (world_of machine) a
+      (frame_stepped insn a.frame))) shape
       ∙ made so.fits ∙ ap (λ (n : ℕ). onward world n a.frame.locals left_items) here in
       subst (λ (s : Spot). Comes to s (insn_stepped program machine a (insn, target.None))) so.is
-      (subst (λ (p : ℕ). Comes p (record { stack = record { items = left_items; size = a.frame.stack.size }; locals = a.frame.locals; fields = fields; locked = held })
+      (subst (λ (p : ℕ). Comes p (record {
+        stack = record { items = left_items; size = a.frame.stack.size };
+        locals = a.frame.locals;
+        fields = fields;
+        locked = held;
+      })
       (insn_stepped program machine a (insn, target.None))) so.same
-      (record { world = world; is = steps; size = refl; heap = refl; statics = sym (set_same machine.statics state.class fields there); lock = now_held; others = others }))
+      (record {
+        world = world;
+        is = steps;
+        size = refl;
+        heap = refl;
+        statics = sym
+            (set_same machine.statics state.class fields there);
+        lock = now_held;
+        others = others;
+      }))
 
   -- the lock on top, and whether it is held
   lock_on_top : (b : Bool) (v : Value) → are_one v (values.Class state.number) && b ≡ true → (v ≡ values.Class state.number) × (b ≡ true)
@@ -381,34 +470,44 @@ module _ (program : Program) (state : StateIndex) (begin next : ℕ) (machine : 
   -- what the machine does with the lock on top
   abbrev lock_moves : Heap → List Monitor → Type 0
   lock_moves what monitors =
-      slice_get a.frame.stack.items 0 ≡ Some (values.Class state.number) → nat_lt a.frame.stack.size (length (drop 1 a.frame.stack.items)) ≡ false
-      → heap_stepped program machine a what target.None ≡ onward (with_monitors (world_of machine) monitors) (a.frame.at + 1) a.frame.locals (drop 1 a.frame.stack.items)
+      slice_get a.frame.stack.items 0 ≡ Some (values.Class state.number)
+      → nat_lt a.frame.stack.size (length (drop 1 a.frame.stack.items)) ≡ false
+      → heap_stepped program machine a what target.None ≡ onward (with_monitors (world_of machine) monitors)
+      (a.frame.at + 1) a.frame.locals (drop 1 a.frame.stack.items)
 
-  enter_moves : (monitors : List Monitor) → entered machine.monitors a.number (values.Class state.number) ≡ Some monitors → lock_moves heap.Enter monitors
+  enter_moves : (monitors : List Monitor) → entered machine.monitors a.number (values.Class state.number) ≡ Some monitors
+      → lock_moves heap.Enter monitors
   enter_moves monitors is top fits = rw (top, is, fits) refl
 
-  exit_moves : (monitors : List Monitor) → left machine.monitors a.number (values.Class state.number) ≡ Some monitors → lock_moves heap.Exit monitors
+  exit_moves : (monitors : List Monitor) → left machine.monitors a.number (values.Class state.number) ≡ Some monitors
+      → lock_moves heap.Exit monitors
   exit_moves monitors is top fits = rw (top, is, fits) refl
 
-  takes_lock : (insn : Insn) → shape_of insn ≡ shapes.Heap heap.Enter → (to : ℕ) (went : Spot) → with_top spot (enters state.number next spot) ≡ Goes to went
+  takes_lock : (insn : Insn) → shape_of insn ≡ shapes.Heap heap.Enter → (to : ℕ) (went : Spot)
+      → with_top spot (enters state.number next spot) ≡ Goes to went
       → Comes to went (insn_stepped program machine a (insn, target.None))
   takes_lock insn shape to went e =
       let top = top_is spot (enters state.number next spot) to went e in
-      let goes_on = if_goes (are_one top.value (values.Class state.number) && not locked) (takes next (with_lock spot true)) to went top.is in
+      let goes_on = if_goes (are_one top.value (values.Class state.number) && not locked) (takes_one next
+      (with_lock spot true)) to went top.is in
       let is = lock_on_top (not locked) top.value goes_on.0 in
       let on_top : slice_get a.frame.stack.items 0 ≡ Some (values.Class state.number) = top.there ∙ ap Some is.0 in
       let free : locks_in state.number machine.monitors ≡ [] = lock ∙ ap (held_by state.number a.number) (not_held locked is.1) in
       let taken = lock_taken state.number a.number machine.monitors free in
-      lock_comes true insn heap.Enter to went taken.new shape taken.lock_held taken.others goes_on.1 (enter_moves taken.new taken.is on_top)
+      lock_comes true insn heap.Enter to went taken.new shape taken.lock_held taken.others goes_on.1
+      (enter_moves taken.new taken.is on_top)
 
-  leaves_lock : (insn : Insn) → shape_of insn ≡ shapes.Heap heap.Exit → (to : ℕ) (went : Spot) → with_top spot (leaves state.number next spot) ≡ Goes to went
+  leaves_lock : (insn : Insn) → shape_of insn ≡ shapes.Heap heap.Exit → (to : ℕ) (went : Spot)
+      → with_top spot (leaves state.number next spot) ≡ Goes to went
       → Comes to went (insn_stepped program machine a (insn, target.None))
   leaves_lock insn shape to went e =
       let top = top_is spot (leaves state.number next spot) to went e in
-      let goes_on = if_goes (are_one top.value (values.Class state.number) && locked) (takes next (with_lock spot false)) to went top.is in
+      let goes_on = if_goes (are_one top.value (values.Class state.number) && locked) (takes_one next
+      (with_lock spot false)) to went top.is in
       let is = lock_on_top locked top.value goes_on.0 in
       let on_top : slice_get a.frame.stack.items 0 ≡ Some (values.Class state.number) = top.there ∙ ap Some is.0 in
-      let held : locks_in state.number machine.monitors ≡ held_by state.number a.number true = lock ∙ ap (held_by state.number a.number) is.1 in
+      let held : locks_in state.number machine.monitors ≡ held_by state.number a.number true = lock
+      ∙ ap (held_by state.number a.number) is.1 in
       let free = lock_left state.number a.number machine.monitors held in
       lock_comes false insn heap.Exit to went free.new shape free.lock_held free.others goes_on.1 (exit_moves free.new free.is on_top)
 
@@ -434,7 +533,8 @@ module _ (program : Program) (state : StateIndex) (begin next : ℕ) (machine : 
       third false is e = frame_comes (insns.Plain op) target.None (plain_shape op) (stays_alike begin (plain_shape op) still) to went e
 
       second : (b : Bool) → (op == MONITOREXIT) ≡ b
-          → (if b then with_top spot (leaves state.number next spot) else if op == ATHROW then with_top spot thrown else frame_went (plain_shape op) next spot) ≡ Goes to went
+          → (if b then with_top spot (leaves state.number next spot) else if op == ATHROW then with_top spot thrown else frame_went
+          (plain_shape op) next spot) ≡ Goes to went
           → Comes to went (insn_stepped program machine a (insns.Plain op, target.None))
       second true is e =
           let same : op ≡ MONITOREXIT = eqb-true op MONITOREXIT is in
@@ -463,23 +563,27 @@ module _ (program : Program) (state : StateIndex) (begin next : ℕ) (machine : 
       by None e = cc
       by (Some n) e = cc
 
-  want_comes : (pool : List Const) (op : ℕ) (want : PoolWant) → class_index program state_name ≡ Some state.number → (to : ℕ) (went : Spot)
+  want_comes : (pool : List Const) (op : ℕ) (want : PoolWant) → class_index program state_name ≡ Some state.number
+      → (to : ℕ) (went : Spot)
       → want_went state.number next spot op want ≡ Goes to went
       → Comes to went (insn_stepped program machine a (insns.Pool op (place_in pool want), want_named state.class want))
   want_comes pool op wants.StateClass known to went e =
       let is = if_goes (op == LDC_W) (pushes next spot (values.Class state.number)) to went e in
-      pushed (insns.Pool op (place_in pool wants.StateClass)) (target.ClassName state_name) (values.Class state.number) (ap pool_shape (eqb-true op LDC_W is.0))
+      pushed (insns.Pool op (place_in pool wants.StateClass)) (target.ClassName state_name) (values.Class state.number) (ap pool_shape
+      (eqb-true op LDC_W is.0))
       (ap (option_map values.Class) known) to went is.1
   want_comes pool op (wants.Integer n) known to went e =
       let is = if_goes (op == LDC_W) (pushes next spot (values.Int n)) to went e in
-      pushed (insns.Pool op (place_in pool (wants.Integer n))) (target.Number n) (values.Int n) (ap pool_shape (eqb-true op LDC_W is.0)) refl to went is.1
+      pushed (insns.Pool op (place_in pool (wants.Integer n))) (target.Number n) (values.Int n) (ap pool_shape
+      (eqb-true op LDC_W is.0)) refl to went is.1
   want_comes pool op (wants.StateField var is_bool) known to went e = by (op == GETSTATIC) refl e
     where
       insn : Insn
       insn = insns.Pool op (place_in pool (wants.StateField var is_bool))
 
       by : (b : Bool) → (op == GETSTATIC) ≡ b
-          → (if b then reads_field next spot var else if op == PUTSTATIC then with_top spot (writes_field next spot var) else Stuck) ≡ Goes to went
+          → (if b then reads_field next spot var else if op == PUTSTATIC then with_top spot (writes_field next spot var) else Stuck)
+          ≡ Goes to went
           → Comes to went (insn_stepped program machine a (insn, target.Field state.class var))
       by true is e = read insn var (ap pool_shape (eqb-true op GETSTATIC is)) to went e
       by false is e =
@@ -491,16 +595,18 @@ module _ (program : Program) (state : StateIndex) (begin next : ℕ) (machine : 
 
   -- ---- each
 
-  insn_comes : (pool : List Const) (fronts : List ℕ) (own : Insn) (ref : Target) (insn : BlockInsn) → IsBlockInsn insn → class_index program state_name ≡ Some state.number
+  insn_comes : (pool : List Const) (fronts : List ℕ) (own : Insn) (ref : Target) (insn : BlockInsn) → IsBlockInsn insn
+      → class_index program state_name ≡ Some state.number
       → (to : ℕ) (went : Spot) → block_insn_stepped state.number next spot insn ≡ Goes to went
-      → Comes to went (insn_stepped program machine a (placed pool fronts begin own state ref insn))
+      → Comes to went (insn_stepped program machine a (placed_insn pool fronts begin own state ref insn))
   insn_comes pool fronts own ref (Plain op) is known to went e = plain_comes op (plain_stays op is.0) to went e
   insn_comes pool fronts own ref (Byte n) is known to went e =
       frame_comes (insns.Byte n) target.None (shapes.Push n) (stays_alike begin (shapes.Push n) refl) to went e
   insn_comes pool fronts own ref (Short n) is known to went e =
       frame_comes (insns.Short n) target.None (shapes.Push n) (stays_alike begin (shapes.Push n) refl) to went e
   insn_comes pool fronts own ref (Local op slot wide) is known to went e =
-      frame_comes (insns.Local op slot wide) target.None (local_shape op slot) (stays_alike begin (local_shape op slot) (local_stays op slot)) to went e
+      frame_comes (insns.Local op slot wide) target.None (local_shape op slot) (stays_alike begin (local_shape op slot)
+      (local_stays op slot)) to went e
   insn_comes pool fronts own ref (Want op want) is known to went e = want_comes pool op want known to went e
   insn_comes pool fronts own ref (Jump op place) is known to went e =
       frame_comes (insns.Branch op (begin + place)) target.None (branch_shape op place) (branches_alike begin place op) to went e
@@ -518,4 +624,5 @@ moves_are_made program state known pool fronts begin at own ref insn is machine 
     let so : Spot = record { stack = a.frame.stack; locals = a.frame.locals; fields = s.fields; locked = s.locked } in
     let from : block_insn_stepped state.number (at + 1) so insn ≡ Goes place went =
     ap (λ (x : Spot). block_insn_stepped state.number (at + 1) x insn) (spot_from state begin at machine a s stands) ∙ e in
-    insn_comes program state begin (at + 1) machine a s.fields s.locked here stands.fields stands.lock pool fronts own ref insn is known place went from
+    insn_comes program state begin (at + 1) machine a s.fields s.locked here stands.fields stands.lock pool fronts own ref insn is
+    known place went from

@@ -1,12 +1,12 @@
 -- The lock is taken where it is free, and left where the thread holds it.
-use Rattle.std.proofs.Common.{◌≡◌, ℕ, Bool, true, false, List, [], ◌∷◌, Some, refl, sym, ap, ◌∙◌, subst}
-use Rattle.std.specs.Prelude.{◌==◌, filter, if◌then◌else◌, not, option_map, Option}
+use Rattle.std.proofs.Common.{◌≡◌, ℕ, Bool, true, false, List, [], ◌∷◌, Some, refl, ap}
+use Rattle.std.specs.Prelude.{◌==◌, if◌then◌else◌, option_map, Option}
 use Rattle.std.proofs.lemmas.Bool.{eq-eqb, eqb-true}
 use Rattle.guest_heap.specs.declared.object.Monitor.{Monitor}
 use Rattle.guest_heap.specs.declared.value.Value.{Value}
 use Rattle.guest_heap.specs.declared.value.Value.TheVariants as values
-use Rattle.guest_frames.specs.Values.{are_one, is_null}
-use Rattle.guest_model.specs.Monitors.{entered, held_once_less, left}
+use Rattle.guest_frames.specs.Values.{are_one}
+use Rattle.guest_model.specs.Monitors.{entered, left}
 use Rattle.block_runs.specs.Steps.{held_by, is_lock, locks_in, others_in}
 
 pub lock_is : (state : ℕ) (v : Value) → are_one v (values.Class state) ≡ true → v ≡ values.Class state
@@ -39,7 +39,8 @@ module _ (state number : ℕ) where
   lock_taken (m ∷ monitors) free = by (is_lock state m) refl free (λ f. lock_taken monitors f)
     where
       by : (b : Bool) → is_lock state m ≡ b → (if b then m ∷ locks_in state monitors else locks_in state monitors) ≡ []
-          → (locks_in state monitors ≡ [] → IsChanged true monitors (entered monitors number lock)) → IsChanged true (m ∷ monitors) (entered (m ∷ monitors) number lock)
+          → (locks_in state monitors ≡ [] → IsChanged true monitors (entered monitors number lock))
+          → IsChanged true (m ∷ monitors) (entered (m ∷ monitors) number lock)
       by true so none later = absurd cc
       by false so none later =
           let c = later none in
@@ -50,14 +51,16 @@ module _ (state number : ℕ) where
             others = rw so (ap (λ (rest : List Monitor). m ∷ rest) c.others);
           }
 
-  pub lock_left : (monitors : List Monitor) → locks_in state monitors ≡ held_by state number true → IsChanged false monitors (left monitors number lock)
+  pub lock_left : (monitors : List Monitor) → locks_in state monitors ≡ held_by state number true
+      → IsChanged false monitors (left monitors number lock)
   lock_left [] held = absurd cc
   lock_left (m ∷ monitors) held = by (is_lock state m) refl held (λ f. lock_left monitors f)
     where
       own : Monitor
       own = record { on = lock; owner = number; count = 1 }
 
-      by : (b : Bool) → is_lock state m ≡ b → (if b then m ∷ locks_in state monitors else locks_in state monitors) ≡ held_by state number true
+      by : (b : Bool) → is_lock state m ≡ b → (if b then m ∷ locks_in state monitors else locks_in state monitors)
+          ≡ held_by state number true
           → (locks_in state monitors ≡ held_by state number true → IsChanged false monitors (left monitors number lock))
           → IsChanged false (m ∷ monitors) (left (m ∷ monitors) number lock)
       by true so one later =

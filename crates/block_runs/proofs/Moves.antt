@@ -1,5 +1,27 @@
 -- What each instruction of a block does.
-use Rattle.std.proofs.Common.{◌≡◌, ℕ, ◌+◌, ◌<◌, ◌≤◌, ℤ, pos, neg_ℤ, Bool, true, false, List, ◌∷◌, length, Some, refl, sym, ap, ◌∙◌, subst, arith}
+use Rattle.std.proofs.Common.{
+  ◌≡◌,
+  ℕ,
+  ◌+◌,
+  ◌<◌,
+  ◌≤◌,
+  ℤ,
+  pos,
+  neg_ℤ,
+  Bool,
+  true,
+  false,
+  List,
+  ◌∷◌,
+  length,
+  Some,
+  refl,
+  sym,
+  ap,
+  ◌∙◌,
+  subst,
+  arith,
+}
 use Rattle.std.specs.Prelude.{◌&&◌, if◌then◌else◌, int_le, int_lt, nat_le, nat_lt, not, slice_get, slice_set}
 use Rattle.std.specs.Int.{w32, int_wrapping_add}
 use Rattle.std.specs.Ordering.{int_eq}

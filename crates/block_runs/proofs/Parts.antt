@@ -1,5 +1,26 @@
 -- What the parts of a block do that do not jump: arguments are saved and loaded, the lock is taken and left, the result is kept.
-use Rattle.std.proofs.Common.{◌≡◌, ℕ, ◌+◌, ◌<◌, ◌≤◌, Bool, true, false, List, [], ◌∷◌, ◌++◌, length, sym, ap, ◌∙◌, subst, arith, append_assoc, length-append}
+use Rattle.std.proofs.Common.{
+  ◌≡◌,
+  ℕ,
+  ◌+◌,
+  ◌<◌,
+  ◌≤◌,
+  Bool,
+  true,
+  false,
+  List,
+  [],
+  ◌∷◌,
+  ◌++◌,
+  length,
+  sym,
+  ap,
+  ◌∙◌,
+  subst,
+  arith,
+  append_assoc,
+  length-append,
+}
 use Rattle.std.specs.Prelude.{reverse, slice_set}
 use Rattle.std.proofs.lemmas.List.{map-append}
 use Rattle.conspec_tree.specs.declared.types.Kind.{Kind}
@@ -21,7 +42,7 @@ use Rattle.block_runs.specs.Spots.{Spot, Goes, block_insn_stepped}
 use Rattle.block_runs.specs.Running.{End, block_run}
 use Rattle.block_runs.specs.Passed.{AreOfKinds}
 use Rattle.block_runs.proofs.Locals.{HasSaved, last_on_top, saved_count, with_saved}
-use Rattle.block_runs.proofs.Moves.{Moves, enters, leaves, lock_pushed, spot_at}
+use Rattle.block_runs.proofs.Moves.{enters, leaves, lock_pushed, spot_at}
 use Rattle.block_runs.proofs.Moves as moves
 use Rattle.block_runs.proofs.Runs.{run_next, run_over}
 

@@ -52,4 +52,5 @@ either true x y p q = p
 either false x y p q = q
 
 pub local_stays : (op slot : ℕ) → stays (local_shape op slot) ≡ true
-local_stays op slot = either (op == ILOAD) _ _ refl (either (op == ALOAD) _ _ refl (either (op == ISTORE) _ _ refl (either (op == ASTORE) _ _ refl refl)))
+local_stays op slot = either (op == ILOAD) _ _ refl (either (op == ALOAD) _ _ refl (either (op == ISTORE) _ _ refl (either
+    (op == ASTORE) _ _ refl refl)))

@@ -1,6 +1,31 @@
 -- What the clauses of a policy ask of an event is there: in the locals, in which a block keeps what was passed or given, and in the
 -- policy's variables; and no sum wraps.
-use Rattle.std.proofs.Common.{◌≡◌, ℕ, zero, suc, ◌+◌, ℤ, pos, ◌+ℤ◌, Bool, true, List, [], ◌∷◌, length, Option, Some, None, refl, sym, ap, ◌∙◌, subst, arith, FitsSigned}
+use Rattle.std.proofs.Common.{
+  ◌≡◌,
+  ℕ,
+  zero,
+  suc,
+  ◌+◌,
+  ℤ,
+  pos,
+  ◌+ℤ◌,
+  Bool,
+  true,
+  List,
+  [],
+  ◌∷◌,
+  length,
+  Option,
+  Some,
+  None,
+  refl,
+  sym,
+  ap,
+  ◌∙◌,
+  subst,
+  arith,
+  FitsSigned,
+}
 use Rattle.std.specs.Prelude.{◌==◌, ◌&&◌, ◌≤ℤ◌, find, if◌then◌else◌, option_and_then, slice_get}
 use Rattle.std.specs.Int.{w32}
 use Rattle.std.specs.List.{AllByRecursion}
@@ -22,7 +47,18 @@ use Rattle.conspec_tree.specs.Tree.{Askable, AreAtoms, IsBase, IsNumber, asked, 
 use Rattle.conspec_automaton.specs.declared.policy.Branch.{Branch}
 use Rattle.conspec_automaton.specs.declared.policy.Clause.{Clause}
 use Rattle.conspec_automaton.specs.declared.policy.Policy.{Policy}
-use Rattle.conspec_automaton.specs.Next.{Values, argument, clause_of, is_phase_of, is_taken, method_of, moment, returned, speaks_of, updated_once}
+use Rattle.conspec_automaton.specs.Next.{
+  Values,
+  argument,
+  clause_of,
+  is_phase_of,
+  is_taken,
+  method_of,
+  moment,
+  returned,
+  speaks_of,
+  updated_once,
+}
 use Rattle.conspec_automaton.specs.Range.{MayUpdate, in_range, is_between}
 use Rattle.conspec_automaton.specs.Sound.{IsBranchIn, IsPolicy}
 use Rattle.conspec_automaton.proofs.Ranges.{between_is, found_may, may_go_on, same_length, sum_fits, target_there, value_there}

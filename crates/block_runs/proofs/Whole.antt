@@ -1,5 +1,29 @@
 -- A whole block: it reaches its call from its front, is left after its call, and throws on from its handler.
-use Rattle.std.proofs.Common.{◌≡◌, ℕ, suc, ◌+◌, ◌≤◌, Bool, true, false, List, [], ◌∷◌, ◌++◌, length, map, Option, Some, None, refl, sym, ap, ◌∙◌, subst, arith}
+use Rattle.std.proofs.Common.{
+  ◌≡◌,
+  ℕ,
+  suc,
+  ◌+◌,
+  ◌≤◌,
+  Bool,
+  true,
+  false,
+  List,
+  [],
+  ◌∷◌,
+  ◌++◌,
+  length,
+  map,
+  Option,
+  Some,
+  None,
+  refl,
+  sym,
+  ap,
+  ◌∙◌,
+  subst,
+  arith,
+}
 use Rattle.std.specs.Prelude.{if◌then◌else◌}
 use Rattle.std.specs.Option.{option_map_or}
 use Rattle.std.proofs.lemmas.List.{append-nil}
@@ -15,9 +39,32 @@ use Rattle.insn_codec.specs.declared.opcodes.TheConstants.{GOTO}
 use Rattle.offset_patch.specs.declared.block.Block.{Block}
 use Rattle.offset_patch.specs.declared.block.BlockInsn.{BlockInsn}
 use Rattle.offset_patch.specs.declared.block.BlockInsn.TheVariants.{Call, Jump}
-use Rattle.offset_patch.specs.Splicing.{call_place, operands_needed}
+use Rattle.offset_patch.specs.Splicing.{call_place}
 use Rattle.block_template.specs.declared.item.Item.{Item}
-use Rattle.block_template.specs.Blocks.{Clauses, block, block_with, bools_of, call, called, catches, caught, clause_at, clauses_of, following, from_call, from_handler, front, handler, handler_at, is_locked, items, leave, lets_pass, locals_used, with_handler}
+use Rattle.block_template.specs.Blocks.{
+  Clauses,
+  block,
+  block_with,
+  bools_of,
+  call,
+  called,
+  catches,
+  caught,
+  clause_at,
+  clauses_of,
+  following,
+  from_call,
+  from_handler,
+  front,
+  handler,
+  handler_at,
+  is_locked,
+  items,
+  leave,
+  lets_pass,
+  locals_used,
+  with_handler,
+}
 use Rattle.block_template.specs.Parts.{if_reached}
 use Rattle.block_template.proofs.Calling.{call_item, place_is, split}
 use Rattle.block_template.proofs.Goods.{insns_of, same_reached}
@@ -28,7 +75,7 @@ use Rattle.guest_heap.specs.declared.value.Value.{Value}
 use Rattle.guest_heap.specs.declared.value.Value.TheVariants as values
 use Rattle.block_runs.specs.Spots.{Spot}
 use Rattle.block_runs.specs.Running.{Called, End, Left, Thrown, block_run, run_from}
-use Rattle.block_runs.specs.Transparent.{BlocksNeedNoHandler, BlocksReachCalls, BlocksReturn, BlocksThrowOn, Holds, IsEvent, Judges, refused}
+use Rattle.block_runs.specs.Transparent.{BlocksNeedNoHandler, BlocksReachCalls, BlocksReturn, BlocksThrowOn, Holds, IsEvent, Judges, most_pushed, refused}
 use Rattle.block_runs.proofs.Blocks.{EndsAt, LeadsAt, skips_reached}
 use Rattle.block_runs.proofs.Judging.{after_judges, before_judges, next_with, thrown_judges}
 use Rattle.block_runs.proofs.Moves.{spot_at}
@@ -227,7 +274,7 @@ throw_on policy mode method base state place made sound e has event now is spot 
     let told = next_is policy method Exceptional event now is in
     let handled : handler_at mode bools base clauses ≡ Some place = ap (λ (m : Block). m.handler)
     (made_is policy mode method base made e) ∙ has in
-    let room : 1 + operands_needed ≤ size = omega (arith, holds.room, ap length caught) in
+    let room : 1 + most_pushed ≤ size = omega (arith, holds.room, ap length caught) in
     let judged = thrown_judges state policy sound bools base event now is.ranged size v there spot.locals room mode place
     (clause_at policy method Exceptional) (clause_is policy method Exceptional sound)
     (handler_is state mode bools base clauses place handled).0 in

@@ -4,5 +4,10 @@ pub mod Passed
 pub mod Transparent
 pub mod Example
 pub mod Steps
+pub mod Made
+pub mod Reaching
 pub mod Weaves
-pub mod Starting
+pub mod Joining
+pub mod Clients
+pub mod ClientRuns
+pub mod WovenClients

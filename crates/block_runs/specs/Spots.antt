@@ -1,6 +1,23 @@
 -- What an instruction of a block does to the thread that runs it: a machine that knows no program and no place of the client.
 -- (docs/BLOCKS.md)
-use Rattle.std.specs.Prelude.{ℕ, ℤ, ◌==◌, ◌&&◌, Bool, true, false, not, nat_lt, if◌then◌else◌, List, ◌∷◌, length, drop, slice_get, slice_set}
+use Rattle.std.specs.Prelude.{
+  ℕ,
+  ℤ,
+  ◌==◌,
+  ◌&&◌,
+  Bool,
+  true,
+  false,
+  not,
+  nat_lt,
+  if◌then◌else◌,
+  List,
+  ◌∷◌,
+  length,
+  drop,
+  slice_get,
+  slice_set,
+}
 use Rattle.std.specs.Option.{option_map_or}
 use Rattle.insn_codec.specs.declared.insn.Insn.TheVariants as insns
 use Rattle.insn_codec.specs.declared.shape.Shape.{Shape}
@@ -57,8 +74,8 @@ abbrev pub pushes : ℕ → Spot → Value → Went
 pushes next spot v = goes_with next spot spot.locals (v ∷ spot.stack.items)
 
 -- It goes on with the topmost operand taken, which is the one that is worked on.
-abbrev pub takes : ℕ → Spot → Went
-takes next spot = goes_with next spot spot.locals (drop 1 spot.stack.items)
+abbrev pub takes_one : ℕ → Spot → Went
+takes_one next spot = goes_with next spot spot.locals (drop 1 spot.stack.items)
 
 abbrev pub with_top : Spot → (Value → Went) → Went
 with_top spot f = option_map_or f (slice_get spot.stack.items 0) Stuck
@@ -78,10 +95,10 @@ with_lock spot locked = record { stack = spot.stack; locals = spot.locals; field
 
 -- The lock is the monitor of the class of this number, conspec/State.
 abbrev pub enters : ℕ → ℕ → Spot → Value → Went
-enters state next spot on = if are_one on (values.Class state) && not spot.locked then takes next (with_lock spot true) else Stuck
+enters state next spot on = if are_one on (values.Class state) && not spot.locked then takes_one next (with_lock spot true) else Stuck
 
 abbrev pub leaves : ℕ → ℕ → Spot → Value → Went
-leaves state next spot on = if are_one on (values.Class state) && spot.locked then takes next (with_lock spot false) else Stuck
+leaves state next spot on = if are_one on (values.Class state) && spot.locked then takes_one next (with_lock spot false) else Stuck
 
 abbrev pub thrown : Value → Went
 thrown v = if is_null v then Stuck else Throws v
@@ -102,7 +119,7 @@ abbrev pub reads_field : ℕ → Spot → ℕ → Went
 reads_field next spot var = option_map_or (pushes next spot) (slice_get spot.fields var) Stuck
 
 abbrev pub writes_field : ℕ → Spot → ℕ → Value → Went
-writes_field next spot var v = option_map_or (λ (old : Value). takes next (with_fields spot (slice_set spot.fields var v)))
+writes_field next spot var v = option_map_or (λ (old : Value). takes_one next (with_fields spot (slice_set spot.fields var v)))
     (slice_get spot.fields var) Stuck
 
 abbrev pub stopped_by : Value → Went

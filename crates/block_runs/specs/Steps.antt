@@ -1,6 +1,24 @@
 -- The machine makes what a block does: where a frame stands at an instruction of a block, a step of its thread changes the frame, the
 -- fields of conspec/State and its monitor as is told of blocks, and nothing else. (docs/BLOCKS.md)
-use Rattle.std.specs.Prelude.{◌≡◌, ℕ, ℤ, ◌+◌, Bool, true, false, not, List, [], ◌∷◌, filter, slice_get, slice_set, Option, Some, None, option_map}
+use Rattle.std.specs.Prelude.{
+  ◌≡◌,
+  ℕ,
+  ◌+◌,
+  Bool,
+  true,
+  false,
+  not,
+  List,
+  [],
+  ◌∷◌,
+  filter,
+  slice_get,
+  slice_set,
+  Option,
+  Some,
+  None,
+  option_map,
+}
 use Rattle.bytecode_model.specs.declared.program.Program.{Program}
 use Rattle.bytecode_model.specs.declared.program.Target.{Target}
 use Rattle.class_codec.specs.declared.tree.Const.{Const}
@@ -19,7 +37,7 @@ use Rattle.guest_model.specs.Changes.{Change, World, goes, throws, world_of}
 use Rattle.guest_model.specs.Kinds.{class_of_value}
 use Rattle.guest_model.specs.Places.{class_index}
 use Rattle.guest_model.specs.Stepping.{Acting, insn_stepped}
-use Rattle.block_runs.specs.Spots.{Spot, Goes, Stops, Throws, block_insn_stepped}
+use Rattle.block_runs.specs.Spots.{Spot, Goes, Throws, block_insn_stepped}
 
 -- ---- the lock
 
@@ -54,7 +72,8 @@ pub record StandsAt (state : StateIndex) (begin at : ℕ) (machine : Machine) (a
   pub lock : locks_in state.number machine.monitors ≡ held_by state.number a.number spot.locked
 
 -- What the step changes: the frame goes on to this place of the block, and the thread is at this spot then.
-pub record ComesTo (state : StateIndex) (begin place : ℕ) (machine : Machine) (a : Acting) (after : Spot) (made : Option Change) : Type 0 where
+pub record ComesTo (state : StateIndex) (begin place : ℕ) (machine : Machine) (a : Acting) (after : Spot)
+    (made : Option Change) : Type 0 where
   pub world : World
   pub is : made ≡ Some (goes world a.thread (moved_to a.frame (begin + place) after.locals after.stack.items ∷ a.below))
   pub size : after.stack.size ≡ a.frame.stack.size
@@ -66,8 +85,8 @@ pub record ComesTo (state : StateIndex) (begin place : ℕ) (machine : Machine) 
 -- ---- the laws
 
 -- A block's instruction as it stands in code, with what its operand names.
-abbrev pub placed : List Const → List ℕ → ℕ → Insn → StateIndex → Target → BlockInsn → Insn × Target
-placed pool fronts begin own state ref insn = (put pool fronts begin own insn, part_named state.class ref insn)
+abbrev pub placed_insn : List Const → List ℕ → ℕ → Insn → StateIndex → Target → BlockInsn → Insn × Target
+placed_insn pool fronts begin own state ref insn = (put pool fronts begin own insn, part_named state.class ref insn)
 
 -- Where the instruction goes on, the machine does so.
 abbrev pub MovesAreMade : Type 0
@@ -76,13 +95,15 @@ MovesAreMade =
     → (pool : List Const) (fronts : List ℕ) (begin at : ℕ) (own : Insn) (ref : Target) (insn : BlockInsn) → IsBlockInsn insn
     → (machine : Machine) (a : Acting) (spot : Spot) → StandsAt state begin at machine a spot
     → (place : ℕ) (after : Spot) → block_insn_stepped state.number (at + 1) spot insn ≡ Goes place after
-    → ComesTo state begin place machine a after (insn_stepped program machine a (placed pool fronts begin own state ref insn))
+    → ComesTo state begin place machine a after (insn_stepped program machine a (placed_insn pool fronts begin own state ref insn))
 
 -- Where it throws, the machine throws that.
 abbrev pub ThrowsAreMade : Type 0
 ThrowsAreMade =
-    (program : Program) (state : StateIndex) (pool : List Const) (fronts : List ℕ) (begin at : ℕ) (own : Insn) (ref : Target) (insn : BlockInsn)
+    (program : Program) (state : StateIndex) (pool : List Const) (fronts : List ℕ) (begin at : ℕ) (own : Insn) (ref : Target)
+    (insn : BlockInsn)
     → (machine : Machine) (a : Acting) (spot : Spot) → StandsAt state begin at machine a spot
     → (v : Value) → block_insn_stepped state.number (at + 1) spot insn ≡ Throws v
-    → insn_stepped program machine a (placed pool fronts begin own state ref insn)
-    ≡ option_map (λ (class : List ℕ). throws program (world_of machine) a.number a.thread (a.frame ∷ a.below) v class None) (class_of_value machine.heap v)
+    → insn_stepped program machine a (placed_insn pool fronts begin own state ref insn)
+    ≡ option_map (λ (class : List ℕ). throws program (world_of machine) a.number a.thread (a.frame ∷ a.below) v class None)
+    (class_of_value machine.heap v)

@@ -11,7 +11,7 @@ use Rattle.conspec_automaton.specs.Next.{Values, is_phase_of, method_of, next}
 use Rattle.conspec_automaton.specs.Range.{in_range}
 use Rattle.conspec_automaton.specs.Sound.{IsPolicy}
 use Rattle.offset_patch.specs.declared.block.Block.{Block}
-use Rattle.offset_patch.specs.Splicing.{call_place, operands_needed}
+use Rattle.offset_patch.specs.Splicing.{call_place}
 use Rattle.block_template.specs.Blocks.{block, clause_at, is_locked, locals_used}
 use Rattle.guest_heap.specs.declared.value.Value.{Value}
 use Rattle.guest_heap.specs.declared.value.Value.TheVariants as values
@@ -28,13 +28,17 @@ pub record IsEvent (policy : Policy) (method : ℕ) (phase : Phase) (event : Eve
   pub phase_is : is_phase_of event phase ≡ true
   pub ranged : in_range policy now ≡ true
 
+-- A block pushes so many operands at most above those that it finds. The third for which weaving makes room is what its handler catches.
+abbrev pub most_pushed : ℕ
+most_pushed = 2
+
 -- The fields hold the policy's state, and the lock is held or not. From the base on so many locals are the block's, and there is room
 -- for what it pushes.
 pub record Holds (base used : ℕ) (now : Values) (held : Bool) (spot : Spot) : Type 0 where
   pub fields : spot.fields ≡ map values.Int now
   pub lock : spot.locked ≡ held
   pub locals : base + used ≤ length spot.locals
-  pub room : length spot.stack.items + operands_needed ≤ spot.stack.size
+  pub room : length spot.stack.items + most_pushed ≤ spot.stack.size
 
 -- The client's operands and locals are as they were, the fields hold this state, and the lock is held or not.
 pub record IsAfter (base : ℕ) (new : Values) (held : Bool) (before after : Spot) : Type 0 where

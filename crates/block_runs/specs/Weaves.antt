@@ -27,5 +27,6 @@ AllLocalsFit plan program = AllByRecursion (λ (c : LinkedClass). AllByRecursion
 
 abbrev pub WovenAddsState : Type 0
 WovenAddsState =
-    (old new : Program) (plan : Plan) (kinds : List Bool) (vars : List Var) → IsSound old → IsGood kinds plan → AllLocalsFit plan old → (woven : IsWoven old plan vars new)
+    (old new : Program) (plan : Plan) (kinds : List Bool) (vars : List Var) → IsSound old → IsGood kinds plan
+    → AllLocalsFit plan old → (woven : IsWoven old plan vars new)
     → woven.state.parent ≡ object → AddsState (plan_sites plan) old new

@@ -92,7 +92,7 @@ module _ (sites_of : Method → Sites) (client woven : Program) (tell : TellAlik
         by None h own = absurd cc
         by (Some c) h own = own c refl
 
-  throw_own : (class : Name) → may_throw client class ≡ true → IsClientName class
+  pub throw_own : (class : Name) → may_throw client class ≡ true → IsClientName class
   throw_own class e = known_own client.listing.classes roomy.listed class
       (and_parts (is_known client.listing.classes class) (is_below client class throwable) e).0
 
@@ -225,7 +225,25 @@ module _ (sites_of : Method → Sites) (client woven : Program) (tell : TellAlik
     given_alike (Some v) arguments own owns answers.Receiver fresh = alike_some GaveAlike _ _ (gives (Some v) own)
     given_alike receiver arguments own owns (answers.Throws class) fresh = alike_none GaveAlike None
 
-    shown_same : (gave more : World × Option Value) → GaveAlike gave more
+    -- What an answer gives that fits, it gives in both programs.
+    pub gives_alike : (result : Option FieldType) (receiver : Option Value) (arguments : List Value) → IfSome receiver (IsClientValue client)
+        → AllByRecursion (IsClientValue client) arguments
+        → (answer : ApiAnswer) → answer_fits client world.heap result receiver arguments answer ≡ true
+        → Alike GaveAlike (given world receiver arguments answer) (given other receiver arguments answer)
+    unfolding FreshOwn
+    gives_alike result receiver arguments own owns answers.Nothing fits = given_alike receiver arguments own owns answers.Nothing tt
+    gives_alike result receiver arguments own owns (answers.Int n) fits = given_alike receiver arguments own owns (answers.Int n) tt
+    gives_alike result receiver arguments own owns answers.Null fits = given_alike receiver arguments own owns answers.Null tt
+    gives_alike result receiver arguments own owns (answers.Text text) fits = given_alike receiver arguments own owns (answers.Text text) tt
+    gives_alike result receiver arguments own owns (answers.Fresh class) fits =
+        given_alike receiver arguments own owns (answers.Fresh class)
+        (listed_own class (and_parts (of_class result (λ name. is_interface client name || is_below client class name))
+        (is_listed_class client class) fits).1)
+    gives_alike result receiver arguments own owns (answers.Arg i) fits = given_alike receiver arguments own owns (answers.Arg i) tt
+    gives_alike result receiver arguments own owns answers.Receiver fits = given_alike receiver arguments own owns answers.Receiver tt
+    gives_alike result receiver arguments own owns (answers.Throws class) fits = alike_none GaveAlike None
+
+    pub shown_same : (gave more : World × Option Value) → GaveAlike gave more
         → option_map (value_shown woven more.0.heap) gave.1 ≡ option_map (value_shown client gave.0.heap) gave.1
     shown_same gave more a = by gave.1 a.own where
       by : (o : Option Value) → IfSome o (IsClientValue client)

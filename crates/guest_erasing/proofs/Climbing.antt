@@ -1,12 +1,12 @@
 -- What a thread does alone before a call and after its end is what lifting puts there.
-use Rattle.std.proofs.Common.{◌≡◌, ◌∙◌, ◌≤◌, ◌<◌, ℕ, zero, suc, List, [], ◌∷◌, ◌++◌, Bool, true, false, cond, Option, Some, None, refl, sym, ap, subst, arith, append-nil}
+use Rattle.std.proofs.Common.{◌≡◌, ◌∙◌, ◌≤◌, ℕ, zero, suc, List, [], ◌∷◌, ◌++◌, Bool, cond, Option, Some, None, refl, sym, ap, subst, arith, append-nil}
 use Rattle.std.specs.Option.{IsSomeAnd, option_to_list}
 use Rattle.api_listing.specs.declared.events.Event.{Event}
 use Rattle.bytecode_model.specs.declared.program.Method.{Method}
 use Rattle.bytecode_model.specs.declared.program.Program.{Program}
 use Rattle.guest_model.specs.declared.machine.Machine.{Machine}
 use Rattle.guest_model.specs.declared.machine.Step.{Step}
-use Rattle.guest_model.specs.Runs.{exec_from, stepped_or_same, trace_from}
+use Rattle.guest_model.specs.Runs.{stepped_or_same}
 use Rattle.guest_model.specs.Stepping.{stepped}
 use Rattle.guest_erasing.specs.Climbing.{Climbs, Lifts, plain_steps}
 use Rattle.guest_erasing.specs.Lifting.{goes_out, goes_up, lifted_step, made_there, most_steps, plain_step, steps_out, steps_up, while_goes}

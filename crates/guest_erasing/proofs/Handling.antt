@@ -20,7 +20,7 @@ use Rattle.guest_model.proofs.Options.{and_then_of, some_is}
 use Rattle.offset_patch.specs.Fits.{IsSite}
 use Rattle.offset_patch.specs.Splicing.{at_fronts, fronts_of, handlers_with, own_handlers}
 use Rattle.guest_erasing.specs.Laid.{IsClientName, IsWithin, TellAlike}
-use Rattle.guest_erasing.specs.Mirrors.{AreBelow, AreFrames, HasRoom, HoldsClientValues, IsAtFront, IsBelow}
+use Rattle.guest_erasing.specs.Mirrors.{AreBelow, AreFrames, HasRoomToCatch, HoldsClientValues, IsAtFront, IsBelow}
 use Rattle.guest_erasing.specs.Places.{Sites, front, has_block}
 use Rattle.guest_erasing.proofs.Framing.{moved_front}
 use Rattle.guest_erasing.proofs.Placing.{covers_front, front_is, own_miss, stands_at_front}
@@ -114,7 +114,7 @@ module _ (sites_of : Method → Sites) (client woven : Program) (tell : TellAlik
         → handler_of client frame class ≡ None
     none_there frame m there none = rw (there, none) refl
 
-    module _ (frame other : Frame) (b : Below frame other) (room : HasRoom client frame) where
+    module _ (frame other : Frame) (b : Below frame other) (room : HasRoomToCatch client frame) where
       -- a handler that is found is one of its method's
       handler_is : (h : Handler) → handler_of client frame class ≡ Some h
           → find (catches client frame.at class) b.mirrors.old.handlers ≡ Some h

@@ -1,33 +1,34 @@
-mod Lists
-mod Alike
-mod Holding
-mod Placing
-mod Aiming
-mod Moving
-mod Framing
-mod Handling
-mod Worlds
-mod Changing
-mod Beginning
-mod Operating
-mod Finding
-mod Passing
-mod Calling
-mod Answering
-mod Stepping
-mod Steps
+pub mod Lists
+pub mod Alike
+pub mod Holding
+pub mod Placing
+pub mod Inside
+pub mod Aiming
+pub mod Moving
+pub mod Framing
+pub mod Handling
+pub mod Worlds
+pub mod Changing
+pub mod Beginning
+pub mod Operating
+pub mod Finding
+pub mod Passing
+pub mod Calling
+pub mod Answering
+pub mod Stepping
+pub mod Steps
 pub mod Names
-mod Upwards
-mod Instances
-mod Endings
-mod Pairs
-mod Given
-mod Members
-mod Telling
+pub mod Upwards
+pub mod Instances
+pub mod Endings
+pub mod Pairs
+pub mod Given
+pub mod Members
+pub mod Telling
 pub mod Listings
 pub mod Clients
-mod Runs
-mod Climbing
-mod Erased
-mod Resting
-mod Starting
+pub mod Runs
+pub mod Climbing
+pub mod Erased
+pub mod Resting
+pub mod Starting

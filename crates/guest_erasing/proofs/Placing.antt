@@ -58,7 +58,7 @@ front_is sites i h = front_from 0 sites i h ∙ omega arith
 
 -- ---- what handlers cover
 
-le_as : (a b c d : ℕ) → (a ≤ b → c ≤ d) → (c ≤ d → a ≤ b) → nat_le a b ≡ nat_le c d
+pub le_as : (a b c d : ℕ) → (a ≤ b → c ≤ d) → (c ≤ d → a ≤ b) → nat_le a b ≡ nat_le c d
 le_as a b c d f g = by (nat_le a b) (nat_le c d) refl refl where
   by : (p q : Bool) → nat_le a b ≡ p → nat_le c d ≡ q → p ≡ q
   by true true e k = refl
@@ -66,7 +66,7 @@ le_as a b c d f g = by (nat_le a b) (nat_le c d) refl refl where
   by false true e k = absurd (let h : a ≤ b = g (leb-true c d k) in let l : b < a = leb-false a b e in omega arith)
   by false false e k = refl
 
-lt_as : (a b c d : ℕ) → (a < b → c < d) → (c < d → a < b) → nat_lt a b ≡ nat_lt c d
+pub lt_as : (a b c d : ℕ) → (a < b → c < d) → (c < d → a < b) → nat_lt a b ≡ nat_lt c d
 lt_as a b c d f g = by (nat_lt a b) (nat_lt c d) refl refl where
   by : (p q : Bool) → nat_lt a b ≡ p → nat_lt c d ≡ q → p ≡ q
   by true true e k = refl
@@ -75,7 +75,7 @@ lt_as a b c d f g = by (nat_lt a b) (nat_lt c d) refl refl where
   by false false e k = refl
 
 module _ (sites : Sites) (all : AllByRecursion IsSite sites) where
-  le_front : (i j : ℕ) → i ≤ j → front sites i ≤ front sites j
+  pub le_front : (i j : ℕ) → i ≤ j → front sites i ≤ front sites j
   le_front i j h = by (nat_lt i j) refl where
     by : (b : Bool) → nat_lt i j ≡ b → front sites i ≤ front sites j
     by true e = let l : front sites i < front sites j = front_rises sites all i j (ltb-true i j e) in omega arith
@@ -84,13 +84,13 @@ module _ (sites : Sites) (all : AllByRecursion IsSite sites) where
         let same : i ≡ j = omega arith in
         let l : front sites i ≡ front sites j = ap (front sites) same in omega arith
 
-  le_back : (i j : ℕ) → front sites i ≤ front sites j → i ≤ j
+  pub le_back : (i j : ℕ) → front sites i ≤ front sites j → i ≤ j
   le_back i j h = by (nat_lt j i) refl where
     by : (b : Bool) → nat_lt j i ≡ b → i ≤ j
     by true e = absurd (let l : front sites j < front sites i = front_rises sites all j i (ltb-true j i e) in omega arith)
     by false e = ltb-false j i e
 
-  lt_back : (i j : ℕ) → front sites i < front sites j → i < j
+  pub lt_back : (i j : ℕ) → front sites i < front sites j → i < j
   lt_back i j h = by (nat_lt i j) refl where
     by : (b : Bool) → nat_lt i j ≡ b → i < j
     by true e = ltb-true i j e
@@ -106,7 +106,7 @@ module _ (sites : Sites) (all : AllByRecursion IsSite sites) where
 
 -- ---- handlers of blocks cover their calls alone
 
-call_within : (insns : List BlockInsn) → calls_in insns ≡ 1 → call_place insns < length insns
+pub call_within : (insns : List BlockInsn) → calls_in insns ≡ 1 → call_place insns < length insns
 unfolding call_place
 call_within [] e = absurd (omega (arith, e))
 call_within (Call ∷ insns) e = omega arith
@@ -117,16 +117,16 @@ call_within (Local op slot wide ∷ insns) e = let h : call_place insns < length
 call_within (Want op want ∷ insns) e = let h : call_place insns < length insns = call_within insns e in omega arith
 call_within (Jump op place ∷ insns) e = let h : call_place insns < length insns = call_within insns e in omega arith
 
-abbrev Misses : ℕ → Handler → Type 0
+abbrev pub Misses : ℕ → Handler → Type 0
 Misses at h = covers at h ≡ false
 
-before : (at from to : ℕ) → at < from → (nat_le from at && nat_lt at to) ≡ false
+pub before : (at from to : ℕ) → at < from → (nat_le from at && nat_lt at to) ≡ false
 before at from to h = by (nat_le from at) refl where
   by : (b : Bool) → nat_le from at ≡ b → (b && nat_lt at to) ≡ false
   by true e = absurd (let l : from ≤ at = leb-true from at e in omega arith)
   by false e = refl
 
-behind : (at from to : ℕ) → to ≤ at → (nat_le from at && nat_lt at to) ≡ false
+pub behind : (at from to : ℕ) → to ≤ at → (nat_le from at && nat_lt at to) ≡ false
 behind at from to h = by (nat_le from at) (nat_lt at to) refl where
   by : (b c : Bool) → nat_lt at to ≡ c → (b && c) ≡ false
   by b true e = absurd (let l : at < to = ltb-true at to e in omega arith)
@@ -141,7 +141,7 @@ later_site : (at begin : ℕ) (site : Option Block) → at < begin → AllByRecu
 later_site at begin None h = tt
 later_site at begin (Some block) h = later_by at begin block.insns block.handler h
 
-later : (at begin : ℕ) (sites : Sites) → at < begin → AllByRecursion (Misses at) (own_handlers begin sites)
+pub later : (at begin : ℕ) (sites : Sites) → at < begin → AllByRecursion (Misses at) (own_handlers begin sites)
 later at begin [] h = tt
 later at begin (site ∷ sites) h =
     all_append (Misses at) (site_handlers begin site) _ (later_site at begin site h)
@@ -152,7 +152,7 @@ earlier_by : (at begin : ℕ) (insns : List BlockInsn) (o : Option ℕ) → call
 earlier_by at begin insns None c h = tt
 earlier_by at begin insns (Some place) c h = (behind at (begin + call_place insns) (begin + call_place insns + 1) (omega arith), tt)
 
-earlier_site : (at begin : ℕ) (site : Option Block) → IsSite site → begin + length (part_of site) ≤ at
+pub earlier_site : (at begin : ℕ) (site : Option Block) → IsSite site → begin + length (part_of site) ≤ at
     → AllByRecursion (Misses at) (site_handlers begin site)
 earlier_site at begin None s h = tt
 earlier_site at begin (Some block) s h = earlier_by at begin block.insns block.handler (call_within block.insns s.once) h

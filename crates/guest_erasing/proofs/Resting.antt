@@ -1,7 +1,7 @@
 -- A machine that mirrors its client's is at rest: no thread has to leave a block, and one at an instruction without a block has no call to
 -- go to.
-use Rattle.std.proofs.Common.{◌≡◌, ◌∙◌, ◌≤◌, ℕ, zero, suc, ◌+◌, ◌==◌, List, [], ◌∷◌, Bool, true, false, not, Option, Some, None, refl, sym, ap, subst, arith}
-use Rattle.std.specs.Prelude.{is_some, nat_lt, option_and_then, slice_get}
+use Rattle.std.proofs.Common.{◌≡◌, ◌∙◌, ℕ, zero, suc, ◌+◌, ◌==◌, List, [], ◌∷◌, Bool, true, false, not, Option, Some, None, refl, sym, ap, arith}
+use Rattle.std.specs.Prelude.{nat_lt, option_and_then, slice_get}
 use Rattle.std.specs.List.{AllByRecursion}
 use Rattle.std.specs.Option.{option_map_or}
 use Rattle.api_listing.specs.declared.events.Event.{Event}
@@ -18,9 +18,9 @@ use Rattle.offset_patch.specs.declared.block.Block.{Block}
 use Rattle.offset_patch.specs.Fits.{IsSite}
 use Rattle.offset_patch.specs.Splicing.{call_place, part_of}
 use Rattle.guest_erasing.specs.Climbing.{Lifts}
-use Rattle.guest_erasing.specs.Lifting.{frame_run, frame_run_by, goes_out, goes_up, sites_at}
-use Rattle.guest_erasing.specs.Mirrors.{AreAlike, AreFrames, FrameMirrors, FramesMirror, IsAtFront, Mirrors, ThreadMirrors}
-use Rattle.guest_erasing.specs.Places.{Sites, front, has_block, is_before_call, is_inside, own, stand}
+use Rattle.guest_erasing.specs.Lifting.{frame_run, goes_out, goes_up, sites_at}
+use Rattle.guest_erasing.specs.Mirrors.{AreAlike, FrameMirrors, FramesMirror, IsAtFront, Mirrors, ThreadMirrors}
+use Rattle.guest_erasing.specs.Places.{Sites, front, has_block, is_before_call, is_inside, stand}
 use Rattle.guest_erasing.specs.Steps.{IsAlone, IsMadeAlike, is_alone}
 use Rattle.guest_erasing.proofs.Erased.{own_front}
 

@@ -33,7 +33,7 @@ use Rattle.guest_erasing.proofs.Stepping.{frames_alike}
 -- ---- lists of which the items belong together
 
 module _ {X Y : Type 0} (Belong : X → Y → Type 0) where
-  got_alike : (xs : List X) (ys : List Y) (i : ℕ) (x : X) → AreAlike Belong xs ys → slice_get xs i ≡ Some x
+  pub got_alike : (xs : List X) (ys : List Y) (i : ℕ) (x : X) → AreAlike Belong xs ys → slice_get xs i ≡ Some x
       → (y : Y) × (slice_get ys i ≡ Some y) × Belong x y
   got_alike [] [] i x all e = absurd cc
   got_alike [] (z ∷ ys) i x all e = absurd all
@@ -41,7 +41,7 @@ module _ {X Y : Type 0} (Belong : X → Y → Type 0) where
   got_alike (w ∷ xs) (z ∷ ys) zero x all e = (z, refl, subst (λ (v : X). Belong v z) (some_is w x e) all.0)
   got_alike (w ∷ xs) (z ∷ ys) (suc i) x all e = got_alike xs ys i x all.1 e
 
-  set_alike : (xs : List X) (ys : List Y) (i : ℕ) (x : X) (y : Y) → AreAlike Belong xs ys → Belong x y
+  pub set_alike : (xs : List X) (ys : List Y) (i : ℕ) (x : X) (y : Y) → AreAlike Belong xs ys → Belong x y
       → AreAlike Belong (slice_set xs i x) (slice_set ys i y)
   set_alike [] [] i x y all b = tt
   set_alike [] (z ∷ ys) i x y all b = absurd all
@@ -49,7 +49,7 @@ module _ {X Y : Type 0} (Belong : X → Y → Type 0) where
   set_alike (w ∷ xs) (z ∷ ys) zero x y all b = (b, all.1)
   set_alike (w ∷ xs) (z ∷ ys) (suc i) x y all b = (all.0, set_alike xs ys i x y all.1 b)
 
-  append_alike : (xs vs : List X) (ys ws : List Y) → AreAlike Belong xs ys → AreAlike Belong vs ws → AreAlike Belong (xs ++ vs) (ys ++ ws)
+  pub append_alike : (xs vs : List X) (ys ws : List Y) → AreAlike Belong xs ys → AreAlike Belong vs ws → AreAlike Belong (xs ++ vs) (ys ++ ws)
   append_alike [] vs [] ws all b = b
   append_alike [] vs (z ∷ ys) ws all b = absurd all
   append_alike (w ∷ xs) vs [] ws all b = absurd all
@@ -65,7 +65,7 @@ module _ (sites_of : Method → Sites) (client woven : Program) where
 
   -- ---- a frame at an instruction without a block
 
-  lone : (frame : Frame) (old : Method) → method_at client frame.class frame.method ≡ Some old → is_alone sites_of client frame ≡ true
+  pub lone : (frame : Frame) (old : Method) → method_at client frame.class frame.method ≡ Some old → is_alone sites_of client frame ≡ true
       → has_block (sites_of old) frame.at ≡ false
   lone frame old there e = by (has_block (sites_of old) frame.at) (rw there at e) where
     by : (b : Bool) → not b ≡ true → b ≡ false

@@ -111,13 +111,13 @@ IsClientValue client (values.Class index) = index < length (classes_of client)
 IsClientValue client (values.Lit index) = ⊤
 
 -- Where the frame stands under a handler, it has room for what is caught.
-abbrev pub HasRoom : Program → Frame → Type 0
-HasRoom client frame = (class : Name) (handler : Handler) → handler_of client frame class ≡ Some handler → 1 ≤ frame.stack.size
+abbrev pub HasRoomToCatch : Program → Frame → Type 0
+HasRoomToCatch client frame = (class : Name) (handler : Handler) → handler_of client frame class ≡ Some handler → 1 ≤ frame.stack.size
 
 pub record HoldsClientValues (client : Program) (frame : Frame) : Type 0 where
   pub items : AllByRecursion (IsClientValue client) frame.stack.items
   pub lock : IfSome frame.lock (IsClientValue client)
-  pub room : HasRoom client frame
+  pub room : HasRoomToCatch client frame
 
 -- A call under way is of such values.
 abbrev pub PassesClientValues : Program → Doing → Type 0

@@ -1,15 +1,12 @@
 -- A run of the woven program for a run of its client: the same events, and machines that mirror each other. (docs/TRANSPARENCY.md)
 use Rattle.std.specs.Prelude.{◌≡◌, ⊤, List, [], ◌∷◌, Option, Some}
-use Rattle.std.specs.Option.{IsSomeAnd, option_to_list}
+use Rattle.std.specs.Option.{IsSomeAnd}
 use Rattle.api_listing.specs.declared.events.Event.{Event}
-use Rattle.bytecode_model.specs.declared.program.Method.{Method}
 use Rattle.bytecode_model.specs.declared.program.Program.{Program}
 use Rattle.guest_model.specs.declared.machine.Machine.{Machine}
 use Rattle.guest_model.specs.declared.machine.Step.{Step}
 use Rattle.guest_model.specs.Runs.{exec_from, trace_from}
 use Rattle.guest_model.specs.Stepping.{stepped}
-use Rattle.guest_erasing.specs.Lifting.{lifted_from, lifted_step}
-use Rattle.guest_erasing.specs.Places.{Sites}
 
 -- Each step is made in its place.
 abbrev pub AreMadeFrom : Program → Machine → List Step → Type 0

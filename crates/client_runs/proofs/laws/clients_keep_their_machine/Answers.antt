@@ -1,5 +1,0 @@
-use Rattle.client_runs.proofs.Machines.{machines_are_clients}
-use Rattle.client_runs.proofs.laws.clients_keep_their_machine.Goals as goal
-
-pub returns : goal.returns
-returns c = machines_are_clients c.typed_programs_run.ensures.fit
