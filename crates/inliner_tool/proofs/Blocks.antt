@@ -1,6 +1,6 @@
 -- What is woven of inputs links to their program with its blocks.
 use Rattle.std.proofs.Common.{◌≡◌, ℕ, ◌≤◌, List, length, Bool, true, false, cond, Ok, Err, inl, inr, refl, ap, sym, subst, ◌∙◌, arith}
-use Rattle.std.specs.Prelude.{nat_lt, IfOk}
+use Rattle.std.specs.Prelude.{nat_lt}
 use Rattle.api_listing.specs.declared.types.Listing.{Listing}
 use Rattle.bytecode_model.specs.declared.program.Program.{Program}
 use Rattle.bytecode_model.specs.declared.program.Side.TheVariants.{Original}
@@ -10,7 +10,6 @@ use Rattle.block_logic.specs.Accepted.{IsAccepted}
 use Rattle.block_template.specs.Blocks.{plan_of}
 use Rattle.block_template.specs.Good.{HasNumbers, PlansAreGood}
 use Rattle.cert_checker.specs.Judging.{IsAllowed, judged}
-use Rattle.cert_checker.specs.Secure.{Secure}
 use Rattle.cert_format.specs.Fits.{IsEncodable}
 use Rattle.class_linking.specs.Fault.{Linked}
 use Rattle.class_linking.specs.Linking.{linked}
@@ -22,7 +21,7 @@ use Rattle.conspec_automaton.specs.Building.{built}
 use Rattle.conspec_automaton.specs.Sound.{IsPolicy}
 use Rattle.input_files.specs.declared.inline_inputs.InlineInputs.{InlineInputs}
 use Rattle.input_files.specs.InlineInputs.{InlineSound}
-use Rattle.output_files.specs.Outputs.{is_written, outputs_of}
+use Rattle.output_files.specs.Outputs.{is_written}
 use Rattle.woven_linking.specs.Links.{WovenLinks}
 use Rattle.woven_linking.specs.Program.{IsWovenOf}
 use Rattle.inliner_tool.specs.declared.refusal.Ended.TheVariants as ends
@@ -31,7 +30,7 @@ use Rattle.inliner_tool.specs.declared.inline.Given.{Given}
 use Rattle.inliner_tool.specs.declared.inline.Ready.{Ready}
 use Rattle.inliner_tool.specs.Programs.{AreTypes, link_step, woven_links}
 use Rattle.inliner_tool.specs.Steps.{Step, UnlessMemory}
-use Rattle.inliner_tool.specs.Weaving.{Accepts, IsJudgedReady, IsPlanned, IsRewoven, Remakes, certificate_for, mode_for, original}
+use Rattle.inliner_tool.specs.Weaving.{Accepts, IsJudgedReady, IsPlanned, IsRewoven, IsTransparent, Remakes, certificate_for, mode_for, original}
 use Rattle.inliner_tool.proofs.Constants.{has_numbers}
 use Rattle.inliner_tool.proofs.Counting.{assembled_of, files_counted}
 
@@ -89,22 +88,27 @@ module _ (links : WovenLinks) (good : PlansAreGood) (inputs : InlineInputs) (kno
 module _ (main folder : List ℕ) (weaving : Weaving) (inputs : InlineInputs) (given : Given) (made : Woven) (links : original inputs.listing inputs.classes main ≡ Ok given.client)
     (typed : AreTypes given.client given.typing) (is : given.policy ≡ built inputs.policy) (chosen : mode_for weaving inputs.policy given.client.listing ≡ Ok given.mode) (listing : given.client.listing ≡ inputs.listing)
     (weaves : woven given.client (plan_of given.policy given.mode) given.policy.vars ≡ Ok made)
-    (remade : (new : Program) × ((woven_links made.files inputs.listing main ≡ Ok new) × IsWoven given.client (plan_of given.policy given.mode) given.policy.vars new)) where
+    (remade : (new : Program) × ((woven_links made.files inputs.listing main ≡ Ok new) × IsWoven given.client (plan_of given.policy given.mode) given.policy.vars new))
+    (transparent : (new : Program) → woven_links made.files given.client.listing main ≡ Ok new → IsSound new
+    → IsWoven given.client (plan_of given.policy given.mode) given.policy.vars new → IsTransparent given new) where
   pub whole : (ready : Ready) → IsRewoven main folder given made.files ready → IsPlanned main folder weaving inputs ready
-  whole ready rewoven = record {
-    given = given;
-    links = links;
-    listing = listing;
-    typed = typed;
-    policy = is;
-    chosen = chosen;
-    made = made;
-    woven = weaves;
-    rewoven = rewoven;
-    blocks =
-        subst (λ (p : Program). IsWoven given.client (plan_of given.policy given.mode) given.policy.vars p)
-        (same_program (woven_links made.files inputs.listing main) remade.0 rewoven.program remade.1.0 (ap (λ (l : Listing). woven_links made.files l main) (sym listing) ∙ rewoven.links)) remade.1.1;
-  }
+  whole ready rewoven =
+      let blocks : IsWoven given.client (plan_of given.policy given.mode) given.policy.vars rewoven.program =
+      subst (λ (p : Program). IsWoven given.client (plan_of given.policy given.mode) given.policy.vars p)
+      (same_program (woven_links made.files inputs.listing main) remade.0 rewoven.program remade.1.0 (ap (λ (l : Listing). woven_links made.files l main) (sym listing) ∙ rewoven.links)) remade.1.1 in
+      record {
+        given = given;
+        links = links;
+        listing = listing;
+        typed = typed;
+        policy = is;
+        chosen = chosen;
+        made = made;
+        woven = weaves;
+        rewoven = rewoven;
+        blocks = blocks;
+        transparent = transparent rewoven.program rewoven.links rewoven.sound blocks;
+      }
 
 -- ---- what is woven again
 

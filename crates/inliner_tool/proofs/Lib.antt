@@ -13,6 +13,7 @@ mod Once
 mod Constants
 mod Listed
 mod Counting
+mod Transparent
 mod Blocks
 mod Remade
 mod Bases

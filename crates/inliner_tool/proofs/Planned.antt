@@ -3,9 +3,7 @@ use Rattle.std.proofs.Common.{◌≡◌, ℕ, List, length, Ok, Err, inl, inr, s
 use Rattle.std.specs.List.{AllByRecursion}
 use Rattle.mon_base.proofs.Reading.{ok_is}
 use Rattle.api_listing.specs.declared.types.Listing.{Listing}
-use Rattle.block_template.specs.Blocks.{plan_of}
 use Rattle.bytecode_model.specs.declared.program.Program.{Program}
-use Rattle.class_weaving.specs.declared.woven.Woven.{Woven}
 use Rattle.class_weaving.specs.Woven.{woven}
 use Rattle.command_words.specs.declared.inline_words.Weaving.{Weaving}
 use Rattle.conspec_automaton.specs.declared.policy.Policy.{Policy}
@@ -22,9 +20,9 @@ use Rattle.inliner_tool.specs.declared.inline.Ready.{Ready}
 use Rattle.inliner_tool.specs.Policy.{IsSoundFor}
 use Rattle.inliner_tool.specs.Programs.{AreTypes, Types}
 use Rattle.inliner_tool.specs.Steps.{Equals, Step, UnlessMemory}
-use Rattle.inliner_tool.specs.Weaving.{Chosen, Fits, Gathers, GathersBoth, Plans, Remakes, Typed, mode_for, original, weave_step}
+use Rattle.inliner_tool.specs.Weaving.{Chosen, Fits, Gathers, GathersBoth, Plans, Typed, mode_for, original}
 use Rattle.inliner_tool.proofs.Listed.{tells_types}
-use Rattle.inliner_tool.proofs.Planning.{first_fails, later}
+use Rattle.inliner_tool.proofs.Planning.{later}
 
 -- What is known of the policy over the program's listing.
 pub sound_for : PoliciesTellTypes → KindsAreTold → ResultsAreTold → (inputs : InlineInputs) → InlineSound inputs → (policy : Policy) → policy ≡ built inputs.policy

@@ -31,15 +31,13 @@ use Rattle.typed_runs.specs.Programs.{IsLinkedProgram}
 use Rattle.woven_linking.specs.declared.inlining.Inlined.{Inlined}
 use Rattle.woven_linking.specs.Inlined.{IsOfFiles, as_program, inlined}
 use Rattle.woven_typing.specs.Framing.{typing_of}
-use Rattle.inliner_tool.specs.declared.refusal.Ended.{Ended}
-use Rattle.inliner_tool.specs.declared.refusal.Ended.TheVariants as ends
 use Rattle.inliner_tool.specs.declared.inline.Given.{Given}
 use Rattle.inliner_tool.specs.declared.inline.Ready.{Ready}
 use Rattle.inliner_tool.specs.Expected.{IsExpected, woven_program}
 use Rattle.inliner_tool.specs.Policy.{IsSoundFor}
 use Rattle.inliner_tool.specs.Programs.{AreTypes, woven_links}
 use Rattle.inliner_tool.specs.Steps.{Equals, Step, UnlessMemory}
-use Rattle.inliner_tool.specs.Weaving.{Accepts, Fits, IsFreeOfRaces, IsJudgedReady, IsMadeReady, IsPlanned, Remakes, certificate_for, certificate_with, mode_for, original, splice_end, weave_step}
+use Rattle.inliner_tool.specs.Weaving.{Accepts, Fits, IsFreeOfRaces, IsJudgedReady, IsMadeReady, IsPlanned, IsTransparent, Remakes, certificate_for, certificate_with, mode_for, original, splice_end, weave_step}
 use Rattle.inliner_tool.proofs.Blocks.{known_rewoven, remakes, whole}
 use Rattle.inliner_tool.proofs.Planning.{later}
 
@@ -48,10 +46,13 @@ use Rattle.inliner_tool.proofs.Planning.{later}
 module _ (main folder : List ℕ) (weaving : Weaving) (inputs : InlineInputs) (given : Given) (links : original inputs.listing inputs.classes main ≡ Ok given.client)
     (typed : AreTypes given.client given.typing) (is : given.policy ≡ built inputs.policy) (chosen : mode_for weaving inputs.policy given.client.listing ≡ Ok given.mode) (listing : given.client.listing ≡ inputs.listing)
     (remade : (made : Woven) → woven given.client (plan_of given.policy given.mode) given.policy.vars ≡ Ok made
-    → (new : Program) × ((woven_links made.files inputs.listing main ≡ Ok new) × IsWoven given.client (plan_of given.policy given.mode) given.policy.vars new)) where
+    → (new : Program) × ((woven_links made.files inputs.listing main ≡ Ok new) × IsWoven given.client (plan_of given.policy given.mode) given.policy.vars new))
+    (transparent : (made : Woven) → woven given.client (plan_of given.policy given.mode) given.policy.vars ≡ Ok made
+    → (new : Program) → woven_links made.files given.client.listing main ≡ Ok new → IsSound new
+    → IsWoven given.client (plan_of given.policy given.mode) given.policy.vars new → IsTransparent given new) where
   -- What is ready is what is planned.
   pub planned : (r : Step Ready) → IfOk r (IsMadeReady main folder given) → IfOk r (IsPlanned main folder weaving inputs)
-  planned (Ok ready) m = whole main folder weaving inputs given m.made links typed is chosen listing m.weaves (remade m.made m.weaves) ready m.rewoven
+  planned (Ok ready) m = whole main folder weaving inputs given m.made links typed is chosen listing m.weaves (remade m.made m.weaves) (transparent m.made m.weaves) ready m.rewoven
   planned (Err ended) m = tt
 
 -- ---- sizes that do not fit

@@ -14,6 +14,7 @@ pub mod Status
 pub mod Programs
 pub mod Weaving
 pub mod Expected
+pub mod Transparent
 pub mod Inline
 pub mod Replay
 pub mod Generate

@@ -9,6 +9,8 @@ use Rattle.bytecode_model.specs.Files.{unlinked}
 use Rattle.bytecode_model.specs.Layout.{IsLaidOut}
 use Rattle.bytecode_model.specs.Sound.{IsSound}
 use Rattle.bytecode_model.specs.Typed.{IsTyped}
+use Rattle.block_runs.specs.ClientRuns.{IsAcceptedRun, IsRunOf}
+use Rattle.block_runs.specs.WovenClients.{ConstantsAreThere}
 use Rattle.block_template.specs.Blocks.{plan_of}
 use Rattle.cert_checker.specs.declared.checking.Accepted.{Accepted}
 use Rattle.cert_checker.specs.Judging.{IsAllowed, judged}
@@ -28,8 +30,10 @@ use Rattle.command_words.specs.declared.inline_words.Weaving.{Weaving}
 use Rattle.command_words.specs.declared.inline_words.Weaving.TheVariants as weavings
 use Rattle.conspec_automaton.specs.declared.policy.Policy.{Policy}
 use Rattle.conspec_automaton.specs.Building.{built}
+use Rattle.conspec_automaton.specs.Next.{Values}
 use Rattle.conspec_automaton.specs.Racing.{IsRaceFree, all_pairs}
 use Rattle.conspec_tree.specs.declared.types.PolicyTree.{PolicyTree}
+use Rattle.guest_model.specs.declared.machine.Step.{Step as GuestStep}
 use Rattle.input_files.specs.declared.inline_inputs.InlineInputs.{InlineInputs}
 use Rattle.input_files.specs.declared.named.ReadClasses.{ReadClasses as Classes}
 use Rattle.input_files.specs.Forms.{Yields, Then}
@@ -202,9 +206,18 @@ pub record IsMadeReady (main folder : List ℕ) (given : Given) (ready : Ready) 
   pub weaves : woven given.client (plan_of given.policy given.mode) given.policy.vars ≡ Ok made
   pub rewoven : IsRewoven main folder given made.files ready
 
+-- Each run of the client that the policy accepts, and in which in mode hold no two calls of methods with clauses are under way at a
+-- time, is one of the program with blocks, with the monitor's steps put to it: the library sees the same, and the machine to which it
+-- comes is the client's once what the monitor adds is erased. What each ConstantValue of the client names is a constant of its file.
+abbrev pub IsTransparent : Given → Program → Type 0
+IsTransparent given program =
+    ConstantsAreThere given.client
+    → (steps : List GuestStep) (end : Values) → IsAcceptedRun given.policy given.mode given.client steps end
+    → IsRunOf given.policy given.mode given.client program steps end
+
 -- The inputs link to a program, and what the weaving of the policy makes of it, in this mode, is to be written: it links to the same
 -- classes in their order, where each call that the policy has clauses for, and no other, stands in its block, and conspec/State
--- after them.
+-- after them. It leaves the runs that the policy accepts as they were.
 pub record IsPlanned (main folder : List ℕ) (weaving : Weaving) (inputs : InlineInputs) (ready : Ready) : Type 0 where
   pub given : Given
   pub links : original inputs.listing inputs.classes main ≡ Ok given.client
@@ -216,3 +229,4 @@ pub record IsPlanned (main folder : List ℕ) (weaving : Weaving) (inputs : Inli
   pub woven : woven given.client (plan_of given.policy given.mode) given.policy.vars ≡ Ok made
   pub rewoven : IsRewoven main folder given made.files ready
   pub blocks : IsWoven given.client (plan_of given.policy given.mode) given.policy.vars rewoven.program
+  pub transparent : IsTransparent given rewoven.program

@@ -26,6 +26,7 @@ ghost use Rattle.inliner_tool.specs.Seen.{seen};
 ghost use Rattle.inliner_tool.specs.Expected.{IsExpectedOf, WovenHasBlocks, WovenIsExpected};
 ghost use Rattle.inliner_tool.specs.Policy.{IsSoundFor};
 ghost use Rattle.inliner_tool.specs.Steps.{Equals, UnlessMemory};
+ghost use Rattle.inliner_tool.specs.Transparent.{WovenIsTransparent};
 ghost use Rattle.inliner_tool.specs.Weaving.{
   Accepts,
   Fits,
@@ -55,6 +56,7 @@ use crate::programs::{program_of, types_of};
 use crate::race::{auto_mode, race_step};
 use crate::refusal::{Ended, Refusal, stopped};
 use api_listing::Listing;
+use block_runs::accepted_runs_are_lifted;
 use block_template::plans_are_good;
 use bytecode_model::{LinkedClass, Program, Side};
 use cert_checker::{Accepted, Denial, check};
@@ -156,6 +158,7 @@ pub fn plan(
     kinds_are_told();
     policies_tell_types();
     woven_is_expected();
+    woven_is_transparent();
     rewoven(alloc, main, folder, given)
 }
 
@@ -178,6 +181,15 @@ fn woven_is_expected()
     canonical_is_typed();
     woven_is_accepted();
     linked_programs_are_named();
+}
+
+/// What is woven of inputs leaves the runs that the policy accepts as they were.
+fn woven_is_transparent()
+    ensures { WovenIsTransparent }
+{
+    linked_is_in_order();
+    linked_programs_are_named();
+    accepted_runs_are_lifted();
 }
 
 /// What is to be woven: the program with its types, and the policy in its mode.

@@ -1,5 +1,9 @@
-use Rattle.std.proofs.Common.{sym}
+use Rattle.std.proofs.Common.{◌≡◌, Ok, sym}
 use Rattle.std.proofs.lemmas.Result.{err_from_is_err_and}
+use Rattle.block_template.specs.Blocks.{plan_of}
+use Rattle.class_weaving.specs.declared.woven.Woven.{Woven}
+use Rattle.class_weaving.specs.Woven.{woven}
+use Rattle.inliner_tool.specs.Expected.{IsMadeOf}
 use Rattle.inliner_tool.proofs.MadeOf.{client_chosen, client_laid_out, client_links, client_typed, few_made, kept_of, listing_same, made_of}
 use Rattle.inliner_tool.proofs.Planned.{fits_so, given_fails, typed_so}
 use Rattle.inliner_tool.proofs.Remade.{planned}
@@ -39,9 +43,12 @@ returns-clause-planned c =
     let given = c.in_ok-given.given in
     let gathered = c.in_ok-given.ensures.gathered in
     let so = typed_so main c.args.folder.now c.args.weaving inputs client c.in_ok-client.ensures.is given c.in_ok-given.ensures.gathers in
+    let of : (made : Woven) → woven given.client (plan_of given.policy given.mode) given.policy.vars ≡ Ok made → IsMadeOf inputs main given made = λ made weaves.
+    made_of inputs client given gathered c.policies_tell_types.ensures.tell c.kinds_are_told.ensures.arguments c.kinds_are_told.ensures.results c.requires main
+    (sym c.in_ok-client.ensures.is) c.in_ok-client.ensures.sound c.in_ok-client.ensures.links c.in_ok-client.ensures.listing (c.in_ok-given.ensures.sound inputs.listing c.requires.policy.sound)
+    made weaves in
     planned main c.args.folder.now c.args.weaving inputs given (client_links inputs client given gathered main (sym c.in_ok-client.ensures.is)) (client_typed inputs client given gathered so.0) gathered.policy
     (client_chosen inputs client given gathered c.args.weaving so.1) (listing_same inputs client given gathered c.in_ok-client.ensures.listing)
-    (λ made weaves. c.woven_is_expected.ensures.links inputs main given made
-    (made_of inputs client given gathered c.policies_tell_types.ensures.tell c.kinds_are_told.ensures.arguments c.kinds_are_told.ensures.results c.requires main
-    (sym c.in_ok-client.ensures.is) c.in_ok-client.ensures.sound c.in_ok-client.ensures.links c.in_ok-client.ensures.listing (c.in_ok-given.ensures.sound inputs.listing c.requires.policy.sound)
-    made weaves)) c.rewoven.result c.rewoven.ensures.rewoven
+    (λ made weaves. c.woven_is_expected.ensures.links inputs main given made (of made weaves))
+    (λ made weaves new. c.woven_is_transparent.ensures inputs main given made (of made weaves) (client_typed inputs client given gathered so.0).typed new)
+    c.rewoven.result c.rewoven.ensures.rewoven
