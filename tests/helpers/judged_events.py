@@ -26,18 +26,37 @@ class Judge:
         self.search = Search(self.policy)
         self.clauses = {(clause.phase, clause.method): clause for clause in self.policy.clauses}
 
+    def first(self):
+        """The state before the first event."""
+        return dict(self.policy.first)
+
+    def clause(self, line):
+        """The clause for an event, or None."""
+        word, _, owner, name, desc, *_ = line.split(" ")
+        return self.clauses.get((PHASES[word], method_in(owner, name, desc)))
+
+    def names(self, line):
+        """Whether a clause names the method of an event."""
+        _, _, owner, name, desc, *_ = line.split(" ")
+        return any(method == method_in(owner, name, desc) for _, method in self.clauses)
+
+    def after(self, state, line):
+        """The state after an event, which is the same where no clause is for it, or None where it is refused."""
+        clause, (word, _, _, _, _, *values) = self.clause(line), line.split(" ")
+        if clause is None:
+            return state
+        numbers = {RESULT if word == "return" else at: int(value) for at, value in enumerate(values) if value.lstrip("-").isdigit()}
+        return self.search.after(state, clause, numbers)
+
     def refused(self, events):
         """The place of the first event that is refused, or None; and whether it comes last of those with a clause, and is an end."""
-        state, refused = dict(self.policy.first), None
+        state, refused = self.first(), None
         for place, line in enumerate(events):
-            word, _, owner, name, desc, *values = line.split(" ")
-            clause = self.clauses.get((PHASES[word], method_in(owner, name, desc)))
-            if clause is None:
+            if self.clause(line) is None:
                 continue
             if refused is not None:
                 return refused, False
-            numbers = {RESULT if word == "return" else at: int(value) for at, value in enumerate(values) if value.lstrip("-").isdigit()}
-            behind = self.search.after(state, clause, numbers)
+            behind = self.after(state, line)
             refused, state = (place, state) if behind is None else (None, behind)
         return refused, refused is not None and not events[refused].startswith("call")
 
