@@ -12,22 +12,22 @@ CHECKER, TOP = "cert_checker", "inliner_tool"
 # The stages of a command: what goes in, the crates that work on it in this order, what comes out.
 WAYS = [
     ("check", [
-        ("words", ["command_words"], "names of files"),
-        ("files", ["input_files", "listing_text", "conspec_parse", "cert_format", "class_codec"], "listing, policy, certificate, classes"),
+        ("words", ["command_inputs"], "names of files"),
+        ("files", ["command_inputs", "listing_text", "conspec_parse", "cert_format", "class_codec"], "listing, policy, certificate, classes"),
         ("classes", ["class_linking"], "program"),
         ("policy", ["conspec_automaton"], "automaton"),
         ("program, automaton, certificate", [CHECKER], "yes, or the first rule that fails"),
-        ("answer", ["answer_text"], "one line and a status"),
+        ("answer", ["command_outputs"], "one line and a status"),
     ]),
     ("inline", [
-        ("words", ["command_words"], "names of files"),
-        ("files", ["input_files", "listing_text", "conspec_parse", "class_codec"], "listing, policy, classes"),
+        ("words", ["command_inputs"], "names of files"),
+        ("files", ["command_inputs", "listing_text", "conspec_parse", "class_codec"], "listing, policy, classes"),
         ("classes", ["class_linking", "type_infer"], "program with its types"),
         ("program, automaton", ["block_template", "class_weaving", "woven_linking", "woven_typing"], "woven classes, their program and types"),
         ("program, types, automaton", ["cert_maker"], "certificate"),
         ("program, automaton, certificate", [CHECKER], "yes"),
-        ("classes, certificate", ["output_files", "mon_store"], "files"),
-        ("answer", ["answer_text"], "one line and a status"),
+        ("classes, certificate", ["command_outputs", "mon_store"], "files"),
+        ("answer", ["command_outputs"], "one line and a status"),
     ]),
 ]
 

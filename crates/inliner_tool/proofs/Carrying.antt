@@ -2,13 +2,13 @@
 use Rattle.std.proofs.Common.{◌≡◌, inl, inr, ℕ, ◌≤◌, List, Result, Ok, Err, sym, ap, ◌∙◌, arith, ⊎_elim}
 use Rattle.std.specs.Prelude.{IfOk}
 use Rattle.api_shelf.specs.Shelf.{View}
-use Rattle.command_words.specs.InlineWords.{NamedInline}
-use Rattle.command_words.specs.ReplayWords.{NamedReplay}
-use Rattle.command_words.specs.Words.{Check, Gen, Inline, NamedCheck, NamedCommand, NamedRun, Policy, Race, Replay, Run, Show}
-use Rattle.input_files.specs.declared.files.Stop.{Stop}
-use Rattle.input_files.specs.declared.files.Stop.TheVariants as stops
-use Rattle.input_files.specs.Forms.{Count, Then, Yields, since}
-use Rattle.input_files.specs.Told.{IsSo}
+use Rattle.command_inputs.specs.InlineWords.{NamedInline}
+use Rattle.command_inputs.specs.ReplayWords.{NamedReplay}
+use Rattle.command_inputs.specs.Words.{Check, Gen, Inline, NamedCheck, NamedCommand, NamedRun, Policy, Race, Replay, Run, Show}
+use Rattle.command_inputs.specs.declared.files.Stop.{Stop}
+use Rattle.command_inputs.specs.declared.files.Stop.TheVariants as stops
+use Rattle.command_inputs.specs.Forms.{Count, Then, Yields, since}
+use Rattle.command_inputs.specs.Told.{IsSo}
 use Rattle.mon_store.specs.Outputs.{all_written}
 use Rattle.mon_store.specs.Store.{Files, Rose}
 use Rattle.inliner_tool.specs.declared.answer.Answer.{Answer}

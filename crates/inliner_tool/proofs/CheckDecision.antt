@@ -8,16 +8,16 @@ use Rattle.cert_checker.specs.declared.judging.Denial.{Denial}
 use Rattle.cert_checker.specs.declared.judging.Denial.TheVariants as denials
 use Rattle.cert_checker.specs.Judging.{judged}
 use Rattle.cert_format.specs.declared.certificate.Certificate.{Certificate}
-use Rattle.command_words.specs.Words.{Check, NamedCheck}
+use Rattle.command_inputs.specs.Words.{Check, NamedCheck}
 use Rattle.conspec_automaton.specs.Building.{built}
 use Rattle.conspec_tree.specs.declared.types.PolicyTree.{PolicyTree}
 use Rattle.mon_store.specs.Store.{Files, Rose}
-use Rattle.input_files.specs.declared.check_inputs.CheckInputs.{CheckInputs}
-use Rattle.input_files.specs.declared.files.Stop.{Stop}
-use Rattle.input_files.specs.declared.files.Stop.TheVariants as stops
-use Rattle.input_files.specs.CheckInputs.{ReadsCheck}
-use Rattle.input_files.specs.Forms.{Count, ReadsForm, Then, Yields}
-use Rattle.input_files.specs.Kinds.{certificate_form, listing_form, policy_form}
+use Rattle.command_inputs.specs.declared.check_inputs.CheckInputs.{CheckInputs}
+use Rattle.command_inputs.specs.declared.files.Stop.{Stop}
+use Rattle.command_inputs.specs.declared.files.Stop.TheVariants as stops
+use Rattle.command_inputs.specs.CheckInputs.{ReadsCheck}
+use Rattle.command_inputs.specs.Forms.{Count, ReadsForm, Then, Yields}
+use Rattle.command_inputs.specs.Kinds.{certificate_form, listing_form, policy_form}
 use Rattle.inliner_tool.specs.declared.answer.Answer.{Answer}
 use Rattle.inliner_tool.specs.declared.answer.Made.{Made}
 use Rattle.inliner_tool.specs.declared.refusal.Ended.{Ended}

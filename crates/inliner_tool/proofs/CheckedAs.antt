@@ -7,8 +7,8 @@ use Rattle.cert_checker.specs.Judging.{judged}
 use Rattle.cert_format.specs.declared.certificate.Certificate.{Certificate}
 use Rattle.conspec_automaton.specs.Building.{built}
 use Rattle.conspec_tree.specs.declared.types.PolicyTree.{PolicyTree}
-use Rattle.input_files.specs.declared.check_inputs.CheckInputs.{CheckInputs}
-use Rattle.input_files.specs.Forms.{Then}
+use Rattle.command_inputs.specs.declared.check_inputs.CheckInputs.{CheckInputs}
+use Rattle.command_inputs.specs.Forms.{Then}
 use Rattle.inliner_tool.specs.declared.answer.Answer.TheVariants as answers
 use Rattle.inliner_tool.specs.declared.check.Checked.{Checked}
 use Rattle.inliner_tool.specs.declared.refusal.Ended.{Ended}

@@ -23,7 +23,7 @@ use Rattle.conspec_tree.specs.declared.types.Update.{Update}
 use Rattle.conspec_tree.specs.declared.types.Update.TheVariants.{Set, Add}
 use Rattle.conspec_tree.specs.declared.types.Var.{Var}
 use Rattle.conspec_tree.specs.Tree.{IsClauseIn, IsGuardIn, IsUpdateIn, asked}
-use Rattle.input_files.specs.Named.{IsPolicyOf}
+use Rattle.command_inputs.specs.Named.{IsPolicyOf}
 
 -- ---- what is written
 

@@ -1,10 +1,10 @@
 -- What a command comes to over told files, without a fault of the store, is what its definition gives.
 use Rattle.std.proofs.Common.{◌≡◌, ℕ, List, Option, Some, Ok, Err, inl, inr, refl, subst}
-use Rattle.command_words.specs.Words.{Check, Gen, Inline, IsCommand, NamedCommand, Policy, Race, Replay, Run, Show}
-use Rattle.command_words.proofs.NamedOnce.{command_once}
-use Rattle.input_files.specs.Contents.{Contents, check_read, inline_read, policy_read, race_read, replay_read, show_read}
-use Rattle.input_files.specs.Forms.{Count, Then, Yields}
-use Rattle.input_files.specs.Told.{ToldAreRead}
+use Rattle.command_inputs.specs.Words.{Check, Gen, Inline, IsCommand, NamedCommand, Policy, Race, Replay, Run, Show}
+use Rattle.command_inputs.proofs.NamedOnce.{command_once}
+use Rattle.command_inputs.specs.Contents.{Contents, check_read, inline_read, policy_read, race_read, replay_read, show_read}
+use Rattle.command_inputs.specs.Forms.{Count, Then, Yields}
+use Rattle.command_inputs.specs.Told.{ToldAreRead}
 use Rattle.mon_store.specs.Sink.{Appends}
 use Rattle.mon_store.specs.Store.{Files, Rose}
 use Rattle.inliner_tool.specs.declared.answer.Made.{Made}

@@ -4,12 +4,12 @@ use Rattle.api_listing.specs.declared.types.Listing.{Listing}
 use Rattle.conspec_automaton.specs.Building.{built}
 use Rattle.conspec_tree.specs.declared.types.PolicyTree.{PolicyTree}
 use Rattle.mon_store.specs.Store.{Files, Rose}
-use Rattle.command_words.specs.Words.{NamedRace, Race}
-use Rattle.input_files.specs.declared.files.Stop.{Stop}
-use Rattle.input_files.specs.declared.files.Stop.TheVariants as stops
-use Rattle.input_files.specs.Forms.{Count, ReadsForm, Then, Yields}
-use Rattle.input_files.specs.Kinds.{listing_form, policy_form}
-use Rattle.input_files.specs.RaceInputs.{ReadsRace}
+use Rattle.command_inputs.specs.Words.{NamedRace, Race}
+use Rattle.command_inputs.specs.declared.files.Stop.{Stop}
+use Rattle.command_inputs.specs.declared.files.Stop.TheVariants as stops
+use Rattle.command_inputs.specs.Forms.{Count, ReadsForm, Then, Yields}
+use Rattle.command_inputs.specs.Kinds.{listing_form, policy_form}
+use Rattle.command_inputs.specs.RaceInputs.{ReadsRace}
 use Rattle.race_free_check.specs.declared.fault.RaceFault.{RaceFault}
 use Rattle.race_free_check.specs.declared.fault.RaceFault.TheVariants as faults
 use Rattle.race_free_check.specs.declared.verdict.RaceVerdict.{RaceVerdict}

@@ -19,7 +19,7 @@ use Rattle.cert_format.specs.Fits.{IsEncodable, FitClasses, FitsClass, FitsInstr
 use Rattle.cert_maker.specs.Noting.{certificate_of, class_notes, if_typed, method_notes, notes_of, parts_notes, where_typed}
 use Rattle.conspec_automaton.specs.declared.policy.Policy.{Policy}
 use Rattle.conspec_automaton.specs.Sound.{IsPolicy}
-use Rattle.output_files.specs.Outputs.{is_written}
+use Rattle.command_outputs.specs.Outputs.{is_written}
 use Rattle.cert_maker.specs.Canonical.{FitsIfSome, FitsTyping}
 use Rattle.inliner_tool.proofs.Bases.{few_locals}
 use Rattle.inliner_tool.proofs.Names.{fit_names}

@@ -29,12 +29,12 @@ use Rattle.class_weaving.specs.Woven.{woven}
 use Rattle.conspec_automaton.specs.declared.policy.Policy.{Policy}
 use Rattle.conspec_automaton.specs.Building.{built}
 use Rattle.conspec_parse.specs.Telling.{KindsAreTold, ResultsAreTold}
-use Rattle.input_files.specs.declared.inline_inputs.InlineInputs.{InlineInputs}
-use Rattle.input_files.specs.InlineInputs.{InlineSound}
+use Rattle.command_inputs.specs.declared.inline_inputs.InlineInputs.{InlineInputs}
+use Rattle.command_inputs.specs.InlineInputs.{InlineSound}
 use Rattle.cert_maker.specs.CanonicalIsTyped.{IsTypedStill, CanonicalIsTyped}
 use Rattle.woven_linking.specs.Links.{OriginalIsFree, WovenLinks}
 use Rattle.woven_linking.specs.Program.{IsWovenOf, WovenFilesComeBack, WovenFilesHaveRoom, WovenProgramIsLinked, WovenProgramIsSound}
-use Rattle.output_files.specs.Outputs.{is_written}
+use Rattle.command_outputs.specs.Outputs.{is_written}
 use Rattle.cert_maker.specs.Canonical.{FitsTyping, canonical}
 use Rattle.cert_format.specs.Fits as encode
 use Rattle.class_codec.specs.Fits.{IsEncodable}

@@ -1,7 +1,7 @@
 -- What `gen` makes is written, where the store has no fault.
 use Rattle.std.proofs.Common.{◌≡◌, inl, inr, Ok, Err, ap, subst, ◌∙◌}
-use Rattle.command_words.specs.GenWords.{NamedGen}
-use Rattle.command_words.specs.Words.{Gen, NamedCommand}
+use Rattle.command_inputs.specs.GenWords.{NamedGen}
+use Rattle.command_inputs.specs.Words.{Gen, NamedCommand}
 use Rattle.mon_store.specs.Outputs.{all_written}
 use Rattle.inliner_tool.specs.declared.answer.Answer.{Answer}
 use Rattle.inliner_tool.specs.declared.answer.Made.{Made}

@@ -8,7 +8,7 @@ use Rattle.cert_format.specs.declared.certificate.Mode.TheVariants.{Hold, Releas
 use Rattle.cert_format.specs.Fits.{EncodesCertificate}
 use Rattle.cert_format.specs.Encoding.{encode_head}
 use Rattle.class_linking.specs.Linking.{linked}
-use Rattle.command_words.specs.Words.{NamedCheck}
+use Rattle.command_inputs.specs.Words.{NamedCheck}
 use Rattle.mon_store.specs.Store.{Files, HasFile}
 use Rattle.inliner_tool.specs.Headline.{Obeyed, mode_byte}
 use Rattle.inliner_tool.specs.Seen.{Seen}

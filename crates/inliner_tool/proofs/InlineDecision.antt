@@ -11,18 +11,18 @@ use Rattle.cert_format.specs.declared.typing.Typing.{Typing}
 use Rattle.cert_format.specs.Encoding.{encode_certificate}
 use Rattle.class_weaving.specs.declared.woven.Woven.{Woven}
 use Rattle.class_weaving.specs.Woven.{woven}
-use Rattle.command_words.specs.InlineWords.{NamedInline}
-use Rattle.command_words.specs.Words.{Inline}
+use Rattle.command_inputs.specs.InlineWords.{NamedInline}
+use Rattle.command_inputs.specs.Words.{Inline}
 use Rattle.conspec_automaton.specs.Building.{built}
 use Rattle.conspec_tree.specs.declared.types.PolicyTree.{PolicyTree}
 use Rattle.mon_store.specs.Store.{Files, Rose}
-use Rattle.input_files.specs.declared.files.Stop.{Stop}
-use Rattle.input_files.specs.declared.files.Stop.TheVariants as stops
-use Rattle.input_files.specs.declared.inline_inputs.InlineInputs.{InlineInputs}
-use Rattle.input_files.specs.Forms.{Count, ReadsForm, Then, Yields}
-use Rattle.input_files.specs.InlineInputs.{ReadsInline}
-use Rattle.input_files.specs.Kinds.{listing_form, policy_form}
-use Rattle.output_files.specs.Outputs.{is_written, outputs_of}
+use Rattle.command_inputs.specs.declared.files.Stop.{Stop}
+use Rattle.command_inputs.specs.declared.files.Stop.TheVariants as stops
+use Rattle.command_inputs.specs.declared.inline_inputs.InlineInputs.{InlineInputs}
+use Rattle.command_inputs.specs.Forms.{Count, ReadsForm, Then, Yields}
+use Rattle.command_inputs.specs.InlineInputs.{ReadsInline}
+use Rattle.command_inputs.specs.Kinds.{listing_form, policy_form}
+use Rattle.command_outputs.specs.Outputs.{is_written, outputs_of}
 use Rattle.type_infer.specs.Untyped.{IsTypable}
 use Rattle.inliner_tool.specs.declared.answer.Made.{Made}
 use Rattle.inliner_tool.specs.declared.refusal.Ended.{Ended}

@@ -6,7 +6,7 @@ use Rattle.api_listing.specs.Listing.{EncodesListing}
 use Rattle.conspec_automaton.specs.Building.{built}
 use Rattle.conspec_parse.specs.Telling.{KindsAreTold, ResultsAreTold}
 use Rattle.conspec_tree.specs.declared.types.PolicyTree.{PolicyTree}
-use Rattle.input_files.specs.Named.{IsPolicyOf}
+use Rattle.command_inputs.specs.Named.{IsPolicyOf}
 use Rattle.typed_runs.specs.Formed.{PoliciesTellTypes, TellsTypes}
 
 -- The clauses of a policy that was read tell the types of their methods.

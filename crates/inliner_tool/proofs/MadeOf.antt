@@ -8,11 +8,11 @@ use Rattle.bytecode_model.specs.Sound.{IsSound}
 use Rattle.bytecode_model.specs.LinkedClasses.{IsLinkedOf}
 use Rattle.class_weaving.specs.declared.woven.Woven.{Woven}
 use Rattle.class_weaving.specs.Woven.{woven}
-use Rattle.command_words.specs.declared.inline_words.Weaving.{Weaving}
+use Rattle.command_inputs.specs.declared.inline_words.Weaving.{Weaving}
 use Rattle.conspec_automaton.specs.Sound.{IsPolicy, NamesMethods}
 use Rattle.conspec_parse.specs.Telling.{KindsAreTold, ResultsAreTold}
-use Rattle.input_files.specs.declared.inline_inputs.InlineInputs.{InlineInputs}
-use Rattle.input_files.specs.InlineInputs.{InlineSound}
+use Rattle.command_inputs.specs.declared.inline_inputs.InlineInputs.{InlineInputs}
+use Rattle.command_inputs.specs.InlineInputs.{InlineSound}
 use Rattle.typed_runs.specs.Formed.{PoliciesTellTypes}
 use Rattle.inliner_tool.specs.declared.inline.Given.{Given}
 use Rattle.inliner_tool.specs.Expected.{IsMadeOf}

@@ -14,7 +14,7 @@ use Rattle.cert_format.specs.Fits.{FitNames}
 use Rattle.cert_format.specs.Names.{Name, class_names, frame_names, method_names, name_index, names_of, type_names, typing_names, with_name, with_names}
 use Rattle.mon_base.specs.Widths.{u2, u4}
 use Rattle.cert_format.specs.Encoding.{encode_certificate, encode_classes, encode_head, encode_name, encode_names}
-use Rattle.output_files.specs.Outputs.{are_short, is_frame_short, is_type_short, is_written}
+use Rattle.command_outputs.specs.Outputs.{are_short, is_frame_short, is_type_short, is_written}
 
 -- ---- names that are short
 

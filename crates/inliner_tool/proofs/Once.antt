@@ -5,14 +5,14 @@ use Rattle.bytecode_model.specs.declared.program.LinkedClass.{LinkedClass}
 use Rattle.bytecode_model.specs.declared.program.Method.{Method}
 use Rattle.bytecode_model.specs.declared.program.Program.{Program}
 use Rattle.cert_format.specs.declared.typing.Typing.{Typing}
-use Rattle.command_words.specs.Words.{Check, Gen, Inline, NamedCommand, Policy, Race, Replay, Run, Show}
+use Rattle.command_inputs.specs.Words.{Check, Gen, Inline, NamedCommand, Policy, Race, Replay, Run, Show}
 use Rattle.conspec_automaton.specs.Building.{built}
-use Rattle.input_files.specs.declared.check_inputs.CheckInputs.{CheckInputs}
+use Rattle.command_inputs.specs.declared.check_inputs.CheckInputs.{CheckInputs}
 use Rattle.race_free_check.specs.Deciding.{decided}
-use Rattle.input_files.specs.declared.files.Stop.{Stop}
-use Rattle.input_files.specs.declared.replay_inputs.ReplayInputs.{ReplayInputs}
-use Rattle.input_files.specs.Contents.{Contents, check_read, policy_read, race_read, replay_read, show_read}
-use Rattle.input_files.specs.Forms.{Then, Yields}
+use Rattle.command_inputs.specs.declared.files.Stop.{Stop}
+use Rattle.command_inputs.specs.declared.replay_inputs.ReplayInputs.{ReplayInputs}
+use Rattle.command_inputs.specs.Contents.{Contents, check_read, policy_read, race_read, replay_read, show_read}
+use Rattle.command_inputs.specs.Forms.{Then, Yields}
 use Rattle.type_infer.specs.Untyped.{CanBeMet, IsUntypedAt, StandsBefore}
 use Rattle.inliner_tool.specs.declared.answer.Answer.{Answer}
 use Rattle.inliner_tool.specs.declared.answer.Answer.TheVariants as answers

@@ -5,14 +5,14 @@ use Rattle.mon_base.proofs.Reading.{ok_is}
 use Rattle.api_listing.specs.declared.types.Listing.{Listing}
 use Rattle.bytecode_model.specs.declared.program.Program.{Program}
 use Rattle.class_weaving.specs.Woven.{woven}
-use Rattle.command_words.specs.declared.inline_words.Weaving.{Weaving}
+use Rattle.command_inputs.specs.declared.inline_words.Weaving.{Weaving}
 use Rattle.conspec_automaton.specs.declared.policy.Policy.{Policy}
 use Rattle.conspec_tree.specs.declared.types.PolicyTree.{PolicyTree}
 use Rattle.conspec_automaton.specs.Building.{built}
 use Rattle.conspec_automaton.specs.Sound.{IsPolicy, NamesMethods}
 use Rattle.conspec_parse.specs.Telling.{KindsAreTold, ResultsAreTold}
-use Rattle.input_files.specs.declared.inline_inputs.InlineInputs.{InlineInputs}
-use Rattle.input_files.specs.InlineInputs.{InlineSound}
+use Rattle.command_inputs.specs.declared.inline_inputs.InlineInputs.{InlineInputs}
+use Rattle.command_inputs.specs.InlineInputs.{InlineSound}
 use Rattle.typed_runs.specs.Formed.{PoliciesTellTypes, TellsTypes}
 use Rattle.inliner_tool.specs.declared.refusal.Ended.{Ended}
 use Rattle.inliner_tool.specs.declared.inline.Given.{Given}

@@ -1,7 +1,7 @@
 -- The steps of weaving, one after the other.
 use Rattle.std.proofs.Common.{Ok, Err, inl, inr, ⊎_elim}
 use Rattle.inliner_tool.specs.declared.refusal.Ended.{Ended}
-use Rattle.input_files.specs.Forms.{Then}
+use Rattle.command_inputs.specs.Forms.{Then}
 use Rattle.inliner_tool.specs.Steps.{Step, UnlessMemory}
 
 module _ {A B : Type 0} (First : Step A → Type 0) (Second : A → Step B → Type 0) where

@@ -29,17 +29,17 @@ use Rattle.class_codec.specs.Encoding.{encoding}
 use Rattle.class_codec.proofs.FileLaws.{is_only as class_only}
 use Rattle.class_linking.specs.Laws.{LinkedAreNamed}
 use Rattle.class_linking.specs.Linking.{linked}
-use Rattle.command_words.specs.InlineWords.{NamedInline}
-use Rattle.command_words.specs.Words.{Check, NamedCheck}
+use Rattle.command_inputs.specs.InlineWords.{NamedInline}
+use Rattle.command_inputs.specs.Words.{Check, NamedCheck}
 use Rattle.conspec_tree.specs.declared.types.PolicyTree.{PolicyTree}
 use Rattle.mon_base.specs.Answer.{Answers}
 use Rattle.mon_store.specs.Outputs.{all_written}
 use Rattle.mon_store.specs.Store.{Files, Rose}
-use Rattle.input_files.specs.declared.check_inputs.CheckInputs.{CheckInputs}
-use Rattle.input_files.specs.declared.fault.InputFault.TheVariants as faults
-use Rattle.input_files.specs.Forms.{Count, HasText, Then, Yields}
-use Rattle.input_files.specs.Kinds.{certificate_form, certificate_read, class_form, class_read, listing_form, policy_form}
-use Rattle.output_files.specs.Outputs.{are_short, certificate_name, certificate_output, class_name, class_output, is_written}
+use Rattle.command_inputs.specs.declared.check_inputs.CheckInputs.{CheckInputs}
+use Rattle.command_inputs.specs.declared.fault.InputFault.TheVariants as faults
+use Rattle.command_inputs.specs.Forms.{Count, HasText, Then, Yields}
+use Rattle.command_inputs.specs.Kinds.{certificate_form, certificate_read, class_form, class_read, listing_form, policy_form}
+use Rattle.command_outputs.specs.Outputs.{are_short, certificate_name, certificate_output, class_name, class_output, is_written}
 use Rattle.inliner_tool.specs.declared.refusal.Ended.TheVariants as ends
 use Rattle.inliner_tool.specs.declared.refusal.Refusal.TheVariants as refusals
 use Rattle.inliner_tool.specs.declared.tool.Status.TheVariants as statuses

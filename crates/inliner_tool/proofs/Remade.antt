@@ -20,13 +20,13 @@ use Rattle.cert_maker.specs.Canonical.{FitsTyping, canonical}
 use Rattle.class_weaving.specs.declared.woven.Woven.{Woven}
 use Rattle.class_weaving.specs.Outcome.{IsWoven}
 use Rattle.class_weaving.specs.Woven.{woven}
-use Rattle.command_words.specs.declared.inline_words.Weaving.{Weaving}
+use Rattle.command_inputs.specs.declared.inline_words.Weaving.{Weaving}
 use Rattle.conspec_automaton.specs.declared.policy.Policy.{Policy}
 use Rattle.conspec_automaton.specs.Building.{built}
-use Rattle.input_files.specs.declared.inline_inputs.InlineInputs.{InlineInputs}
+use Rattle.command_inputs.specs.declared.inline_inputs.InlineInputs.{InlineInputs}
 use Rattle.offset_patch.specs.declared.fault.SpliceFault.{SpliceFault}
 use Rattle.offset_patch.specs.declared.fault.SpliceFault.TheVariants as splices
-use Rattle.output_files.specs.Outputs.{is_written}
+use Rattle.command_outputs.specs.Outputs.{is_written}
 use Rattle.typed_runs.specs.Programs.{IsLinkedProgram}
 use Rattle.woven_linking.specs.declared.inlining.Inlined.{Inlined}
 use Rattle.woven_linking.specs.Inlined.{IsOfFiles, as_program, inlined}

@@ -1,11 +1,11 @@
 -- What the status of a call says of its outcome.
 use Rattle.std.proofs.Common.{◌≡◌, inl, inr, ℕ, List, Option, Ok, Err, sym, subst, ap, ◌∙◌}
 use Rattle.std.specs.Prelude.{IfSome}
-use Rattle.command_words.specs.GenWords.{IsGen, NamedGen}
-use Rattle.command_words.specs.InlineWords.{IsInline, NamedInline}
-use Rattle.command_words.specs.ReplayWords.{IsReplay, NamedReplay}
-use Rattle.command_words.specs.Words.{Check, Gen, Inline, IsCheck, IsCommand, IsRunCommand, NamedCheck, NamedCommand, NamedRun, Policy, Race, Replay, Run, Show}
-use Rattle.command_words.proofs.NamedOnce.{command_once}
+use Rattle.command_inputs.specs.GenWords.{IsGen, NamedGen}
+use Rattle.command_inputs.specs.InlineWords.{IsInline, NamedInline}
+use Rattle.command_inputs.specs.ReplayWords.{IsReplay, NamedReplay}
+use Rattle.command_inputs.specs.Words.{Check, Gen, Inline, IsCheck, IsCommand, IsRunCommand, NamedCheck, NamedCommand, NamedRun, Policy, Race, Replay, Run, Show}
+use Rattle.command_inputs.proofs.NamedOnce.{command_once}
 use Rattle.mon_store.specs.Sink.{Appends, AppendsFront}
 use Rattle.inliner_tool.specs.declared.answer.Answer.{Answer}
 use Rattle.inliner_tool.specs.declared.refusal.Ended.{Ended}

@@ -3,12 +3,12 @@ use Rattle.std.proofs.Common.{◌≡◌, inl, inr, length, Ok, Err, refl, sym, a
 use Rattle.bytecode_model.specs.declared.program.Program.{Program}
 use Rattle.cert_checker.specs.Judging.{judged}
 use Rattle.conspec_automaton.specs.Building.{built}
-use Rattle.command_words.specs.Words.{NamedRun, Run}
+use Rattle.command_inputs.specs.Words.{NamedRun, Run}
 use Rattle.event_record.specs.declared.writing.EndLine.{EndLine}
 use Rattle.event_record.specs.declared.writing.EndLine.TheVariants as lines
-use Rattle.input_files.specs.declared.check_inputs.CheckInputs.{CheckInputs}
-use Rattle.input_files.specs.Forms.{Then, Yields}
-use Rattle.input_files.specs.Kinds.{certificate_form, listing_form, policy_form}
+use Rattle.command_inputs.specs.declared.check_inputs.CheckInputs.{CheckInputs}
+use Rattle.command_inputs.specs.Forms.{Then, Yields}
+use Rattle.command_inputs.specs.Kinds.{certificate_form, listing_form, policy_form}
 use Rattle.inliner_tool.specs.declared.answer.Answer.{Answer}
 use Rattle.inliner_tool.specs.declared.answer.Made.{Made}
 use Rattle.inliner_tool.specs.declared.refusal.Ended.{Ended}

@@ -6,21 +6,21 @@ use Rattle.api_listing.specs.declared.types.Listing.{Listing}
 use Rattle.bytecode_model.specs.declared.program.Program.{Program}
 use Rattle.bytecode_model.specs.declared.program.Side.TheVariants.{Inlined}
 use Rattle.bytecode_model.specs.Typed.{frames_in, frames_told}
-use Rattle.command_words.specs.ReplayWords.{NamedReplay}
-use Rattle.command_words.specs.Words.{Replay}
+use Rattle.command_inputs.specs.ReplayWords.{NamedReplay}
+use Rattle.command_inputs.specs.Words.{Replay}
 use Rattle.guest_replay.specs.declared.replaying.Replayed.{Replayed}
 use Rattle.guest_replay.specs.declared.replaying.ReplayFault.{ReplayFault}
 use Rattle.guest_replay.specs.declared.replaying.ReplayFault.TheVariants as faults
 use Rattle.guest_replay.specs.Replaying.{replayed}
 use Rattle.mon_store.specs.Store.{Files, Rose}
-use Rattle.input_files.specs.declared.files.Stop.{Stop}
-use Rattle.input_files.specs.declared.files.Stop.TheVariants as stops
-use Rattle.input_files.specs.declared.named.ReadClasses.{ReadClasses as Classes}
-use Rattle.input_files.specs.declared.replay_inputs.ReplayInputs.{ReplayInputs}
-use Rattle.input_files.specs.Forms.{Count, ReadsForm, Then, Yields}
-use Rattle.input_files.specs.Kinds.{listing_form, record_form}
-use Rattle.input_files.specs.Named.{ReadsClasses}
-use Rattle.input_files.specs.ReplayInputs.{ReadsReplay}
+use Rattle.command_inputs.specs.declared.files.Stop.{Stop}
+use Rattle.command_inputs.specs.declared.files.Stop.TheVariants as stops
+use Rattle.command_inputs.specs.declared.named.ReadClasses.{ReadClasses as Classes}
+use Rattle.command_inputs.specs.declared.replay_inputs.ReplayInputs.{ReplayInputs}
+use Rattle.command_inputs.specs.Forms.{Count, ReadsForm, Then, Yields}
+use Rattle.command_inputs.specs.Kinds.{listing_form, record_form}
+use Rattle.command_inputs.specs.Named.{ReadsClasses}
+use Rattle.command_inputs.specs.ReplayInputs.{ReadsReplay}
 use Rattle.inliner_tool.specs.declared.answer.Made.{Made}
 use Rattle.inliner_tool.specs.declared.refusal.Ended.{Ended}
 use Rattle.inliner_tool.specs.declared.refusal.Ended.TheVariants as ends

@@ -6,7 +6,7 @@ use Rattle.event_record.specs.declared.reading.Record.{Record}
 use Rattle.guest_model.specs.declared.machine.Step.{Step as GuestStep}
 use Rattle.inliner_tool.specs.declared.answer.Answer.TheVariants as answers
 use Rattle.inliner_tool.specs.Programs.{Types}
-use Rattle.input_files.specs.Forms.{Then}
+use Rattle.command_inputs.specs.Forms.{Then}
 use Rattle.inliner_tool.specs.Replay.{link_run}
 use Rattle.inliner_tool.proofs.RunDecision.{types_are_found}
 use Rattle.type_infer.specs.Untyped.{IsTypable}
@@ -14,7 +14,7 @@ use Rattle.std.specs.Prelude.{IfSome, IsOk, IsSomeAnd}
 use Rattle.std.specs.List.{filter_map}
 use Rattle.api_shelf.specs.Shelf.{View}
 use Rattle.bytecode_model.specs.declared.program.Program.{Program}
-use Rattle.command_words.specs.Words.{NamedRun}
+use Rattle.command_inputs.specs.Words.{NamedRun}
 use Rattle.api_listing.specs.declared.events.Event.{Event}
 use Rattle.event_record.specs.declared.writing.Line.{Line}
 use Rattle.event_record.specs.RunLines.{AreLinesFrom, RecordsOfRunsAreReadAgain}
@@ -33,7 +33,7 @@ use Rattle.guest_runner.specs.declared.running.RunStop.{RunStop}
 use Rattle.guest_runner.specs.declared.running.RunStop.TheVariants as stops
 use Rattle.guest_runner.specs.Running.{Gives}
 use Rattle.guest_runner.specs.Runs.{IsTraced, RunsAreTraces}
-use Rattle.input_files.specs.declared.check_inputs.CheckInputs.{CheckInputs}
+use Rattle.command_inputs.specs.declared.check_inputs.CheckInputs.{CheckInputs}
 use Rattle.inliner_tool.specs.declared.answer.Made.{Made}
 use Rattle.inliner_tool.specs.declared.check.Checked.{Checked}
 use Rattle.inliner_tool.specs.declared.refusal.Ended.{Ended}

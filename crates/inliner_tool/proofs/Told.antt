@@ -2,11 +2,11 @@
 use Rattle.std.proofs.Common.{◌≡◌, ◌⊎◌, inl, inr, ℕ, List, length, ◌≤◌, Option, Some, None, Result, Ok, Err, refl, sym, ap, subst, ◌∙◌, arith, ⊎_elim}
 use Rattle.std.specs.Prelude.{IsSome, IsSomeAnd}
 use Rattle.mon_store.specs.Store.{Files, HasFile, Lacks, Rose}
-use Rattle.input_files.specs.declared.fault.InputFault.{InputFault}
-use Rattle.input_files.specs.declared.files.Stop.{Stop}
-use Rattle.input_files.specs.declared.files.Stop.TheVariants as stops
-use Rattle.input_files.specs.declared.fault.InputFault.TheVariants as faults
-use Rattle.input_files.specs.Forms.{Count, Form, HasText, IsNoMemory, IsRead, IsRefused, IsTooLong, IsUnread, ReadsForm}
+use Rattle.command_inputs.specs.declared.fault.InputFault.{InputFault}
+use Rattle.command_inputs.specs.declared.files.Stop.{Stop}
+use Rattle.command_inputs.specs.declared.files.Stop.TheVariants as stops
+use Rattle.command_inputs.specs.declared.fault.InputFault.TheVariants as faults
+use Rattle.command_inputs.specs.Forms.{Count, Form, HasText, IsNoMemory, IsRead, IsRefused, IsTooLong, IsUnread, ReadsForm}
 
 -- ---- a file that is told and read
 

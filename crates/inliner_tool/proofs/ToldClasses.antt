@@ -3,13 +3,13 @@ use Rattle.std.proofs.Common.{◌≡◌, ℕ, List, [], ◌∷◌, ◌++◌, Ok,
 use Rattle.std.specs.Prelude.{IsSome}
 use Rattle.class_codec.specs.declared.tree.ClassFile.{ClassFile}
 use Rattle.mon_store.specs.Store.{Files, Rose}
-use Rattle.input_files.specs.declared.files.Stop.{Stop}
-use Rattle.input_files.specs.declared.files.Stop.TheVariants as stops
-use Rattle.input_files.specs.declared.forms.ReadClass.{ReadClass}
-use Rattle.input_files.specs.declared.named.ReadClasses.{ReadClasses as Classes}
-use Rattle.input_files.specs.Forms.{Count}
-use Rattle.input_files.specs.Kinds.{class_form}
-use Rattle.input_files.specs.Named.{AreClasses, ReadsClasses, StopsAmong, told_sum}
+use Rattle.command_inputs.specs.declared.files.Stop.{Stop}
+use Rattle.command_inputs.specs.declared.files.Stop.TheVariants as stops
+use Rattle.command_inputs.specs.declared.forms.ReadClass.{ReadClass}
+use Rattle.command_inputs.specs.declared.named.ReadClasses.{ReadClasses as Classes}
+use Rattle.command_inputs.specs.Forms.{Count}
+use Rattle.command_inputs.specs.Kinds.{class_form}
+use Rattle.command_inputs.specs.Named.{AreClasses, ReadsClasses, StopsAmong, told_sum}
 use Rattle.inliner_tool.proofs.Told.{MayRead, may_read, stops_once, tree_once}
 
 -- The files of these names are these class files, with so many bytes in all, or for want of memory none.

@@ -9,8 +9,8 @@ use Rattle.class_codec.specs.Encoding.{encoding}
 use Rattle.mon_store.specs.declared.outputs.Output.{Output}
 use Rattle.mon_store.specs.Outputs.{all_written}
 use Rattle.mon_store.specs.Store.{Files, written}
-use Rattle.input_files.specs.Forms.{HasText}
-use Rattle.output_files.specs.Outputs.{certificate_name, class_name, class_output}
+use Rattle.command_inputs.specs.Forms.{HasText}
+use Rattle.command_outputs.specs.Outputs.{certificate_name, class_name, class_output}
 
 -- ---- names
 

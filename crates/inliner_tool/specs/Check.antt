@@ -22,9 +22,9 @@ use Rattle.inliner_tool.specs.declared.answer.Answer.TheVariants as answers
 use Rattle.inliner_tool.specs.declared.answer.Made.{Made}
 use Rattle.inliner_tool.specs.declared.refusal.Ended.{Ended}
 use Rattle.inliner_tool.specs.declared.refusal.Ended.TheVariants as ends
-use Rattle.input_files.specs.Forms.{Then}
-use Rattle.input_files.specs.declared.check_inputs.CheckInputs.{CheckInputs}
-use Rattle.input_files.specs.Named.{IsPolicyOf}
+use Rattle.command_inputs.specs.Forms.{Then}
+use Rattle.command_inputs.specs.declared.check_inputs.CheckInputs.{CheckInputs}
+use Rattle.command_inputs.specs.Named.{IsPolicyOf}
 use Rattle.inliner_tool.specs.declared.check.Checked.{Checked}
 use Rattle.inliner_tool.specs.declared.refusal.Refusal.TheVariants as refusals
 use Rattle.inliner_tool.specs.Classes.{label_of}

@@ -4,13 +4,13 @@ use Rattle.api_listing.specs.declared.types.Listing.{Listing}
 use Rattle.bytecode_model.specs.declared.program.Program.{Program}
 use Rattle.bytecode_model.specs.declared.program.Side.TheVariants.{Inlined}
 use Rattle.cert_format.specs.declared.certificate.Certificate.{Certificate}
-use Rattle.command_words.specs.Words.{Check, NamedCheck}
+use Rattle.command_inputs.specs.Words.{Check, NamedCheck}
 use Rattle.conspec_tree.specs.declared.types.PolicyTree.{PolicyTree}
 use Rattle.mon_store.specs.Store.{Files, Rose}
-use Rattle.input_files.specs.declared.named.ReadClasses.{ReadClasses as Classes}
-use Rattle.input_files.specs.Forms.{IsRead}
-use Rattle.input_files.specs.Kinds.{certificate_form, listing_form, policy_form}
-use Rattle.input_files.specs.Named.{AreClasses}
+use Rattle.command_inputs.specs.declared.named.ReadClasses.{ReadClasses as Classes}
+use Rattle.command_inputs.specs.Forms.{IsRead}
+use Rattle.command_inputs.specs.Kinds.{certificate_form, listing_form, policy_form}
+use Rattle.command_inputs.specs.Named.{AreClasses}
 use Rattle.inliner_tool.specs.Decision.{IsDecision}
 use Rattle.inliner_tool.specs.Programs.{program_of}
 use Rattle.inliner_tool.specs.Seen.{Seen}

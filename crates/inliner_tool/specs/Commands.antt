@@ -1,24 +1,24 @@
 -- What each command makes of its words and the files that they name: one chain of steps for each, of which the first that fails ends it.
 -- (docs/COMMANDS.md)
 use Rattle.std.specs.Prelude.{◌≡◌, Result}
-use Rattle.command_words.specs.InlineWords.{NamedInline}
-use Rattle.command_words.specs.ReplayWords.{NamedReplay}
-use Rattle.command_words.specs.Words.{Check, Gen, Inline, NamedCheck, NamedCommand, NamedPolicy, NamedRace, NamedShow, Policy, Race, Replay, Run, Show}
-use Rattle.input_files.specs.declared.check_inputs.CheckInputs.{CheckInputs}
-use Rattle.input_files.specs.declared.files.Stop.{Stop}
-use Rattle.input_files.specs.declared.inline_inputs.InlineInputs.{InlineInputs}
-use Rattle.input_files.specs.declared.policy_inputs.PolicyInputs.{PolicyInputs}
-use Rattle.input_files.specs.declared.race_inputs.RaceInputs.{RaceInputs}
-use Rattle.input_files.specs.declared.replay_inputs.ReplayInputs.{ReplayInputs}
-use Rattle.input_files.specs.declared.show_inputs.ShowInputs.{ShowInputs}
-use Rattle.input_files.specs.CheckInputs.{ReadsCheck}
-use Rattle.input_files.specs.Contents.{Contents, check_read, inline_read, policy_read, race_read, replay_read, show_read}
-use Rattle.input_files.specs.Forms.{Then}
-use Rattle.input_files.specs.InlineInputs.{ReadsInline}
-use Rattle.input_files.specs.PolicyInputs.{ReadsPolicy}
-use Rattle.input_files.specs.RaceInputs.{ReadsRace}
-use Rattle.input_files.specs.ReplayInputs.{ReadsReplay}
-use Rattle.input_files.specs.ShowInputs.{ReadsShow}
+use Rattle.command_inputs.specs.InlineWords.{NamedInline}
+use Rattle.command_inputs.specs.ReplayWords.{NamedReplay}
+use Rattle.command_inputs.specs.Words.{Check, Gen, Inline, NamedCheck, NamedCommand, NamedPolicy, NamedRace, NamedShow, Policy, Race, Replay, Run, Show}
+use Rattle.command_inputs.specs.declared.check_inputs.CheckInputs.{CheckInputs}
+use Rattle.command_inputs.specs.declared.files.Stop.{Stop}
+use Rattle.command_inputs.specs.declared.inline_inputs.InlineInputs.{InlineInputs}
+use Rattle.command_inputs.specs.declared.policy_inputs.PolicyInputs.{PolicyInputs}
+use Rattle.command_inputs.specs.declared.race_inputs.RaceInputs.{RaceInputs}
+use Rattle.command_inputs.specs.declared.replay_inputs.ReplayInputs.{ReplayInputs}
+use Rattle.command_inputs.specs.declared.show_inputs.ShowInputs.{ShowInputs}
+use Rattle.command_inputs.specs.CheckInputs.{ReadsCheck}
+use Rattle.command_inputs.specs.Contents.{Contents, check_read, inline_read, policy_read, race_read, replay_read, show_read}
+use Rattle.command_inputs.specs.Forms.{Then}
+use Rattle.command_inputs.specs.InlineInputs.{ReadsInline}
+use Rattle.command_inputs.specs.PolicyInputs.{ReadsPolicy}
+use Rattle.command_inputs.specs.RaceInputs.{ReadsRace}
+use Rattle.command_inputs.specs.ReplayInputs.{ReadsReplay}
+use Rattle.command_inputs.specs.ShowInputs.{ReadsShow}
 use Rattle.inliner_tool.specs.declared.answer.Made.{Made}
 use Rattle.inliner_tool.specs.Check.{Checks}
 use Rattle.inliner_tool.specs.Generate.{Generates}

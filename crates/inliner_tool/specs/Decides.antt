@@ -1,8 +1,8 @@
 -- What a command comes to where the store tells its files, and neither it nor the sink has a fault. (docs/COMMANDS.md)
 use Rattle.std.specs.Prelude.{◌≡◌, ℕ, List, Option}
-use Rattle.command_words.specs.Words.{Check, Gen, Inline, IsCommand, NamedCommand, Policy, Race, Replay, Run, Show}
-use Rattle.input_files.specs.Contents.{Contents}
-use Rattle.input_files.specs.Forms.{Then, Yields}
+use Rattle.command_inputs.specs.Words.{Check, Gen, Inline, IsCommand, NamedCommand, Policy, Race, Replay, Run, Show}
+use Rattle.command_inputs.specs.Contents.{Contents}
+use Rattle.command_inputs.specs.Forms.{Then, Yields}
 use Rattle.mon_store.specs.Sink.{Appends}
 use Rattle.inliner_tool.specs.declared.tool.Status.{Status}
 use Rattle.inliner_tool.specs.declared.tool.Status.TheVariants as statuses

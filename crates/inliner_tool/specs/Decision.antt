@@ -4,9 +4,9 @@ use Rattle.std.specs.Prelude.{◌≡◌, ◌⊎◌, Ok, IsSome}
 use Rattle.api_listing.specs.declared.types.Listing.{Listing}
 use Rattle.conspec_tree.specs.declared.types.PolicyTree.{PolicyTree}
 use Rattle.mon_store.specs.Store.{Files, Rose}
-use Rattle.command_words.specs.Words.{NamedRace, Race}
-use Rattle.input_files.specs.Forms.{IsRead}
-use Rattle.input_files.specs.Kinds.{listing_form, policy_form}
+use Rattle.command_inputs.specs.Words.{NamedRace, Race}
+use Rattle.command_inputs.specs.Forms.{IsRead}
+use Rattle.command_inputs.specs.Kinds.{listing_form, policy_form}
 use Rattle.inliner_tool.specs.declared.tool.Status.{Status}
 use Rattle.inliner_tool.specs.declared.tool.Status.TheVariants as statuses
 use Rattle.inliner_tool.specs.Seen.{Seen}

@@ -17,9 +17,9 @@ use Rattle.class_weaving.specs.declared.woven.Woven.{Woven}
 use Rattle.class_weaving.specs.Outcome.{IsWoven}
 use Rattle.class_weaving.specs.Woven.{woven}
 use Rattle.conspec_automaton.specs.Building.{built}
-use Rattle.input_files.specs.declared.inline_inputs.InlineInputs.{InlineInputs}
-use Rattle.input_files.specs.InlineInputs.{InlineSound}
-use Rattle.output_files.specs.Outputs.{is_written}
+use Rattle.command_inputs.specs.declared.inline_inputs.InlineInputs.{InlineInputs}
+use Rattle.command_inputs.specs.InlineInputs.{InlineSound}
+use Rattle.command_outputs.specs.Outputs.{is_written}
 use Rattle.cert_maker.specs.Canonical.{FitsTyping}
 use Rattle.typed_runs.specs.Programs.{IsLinkedProgram}
 use Rattle.woven_linking.specs.Program.{HaveRoom, program_with}

@@ -1,7 +1,7 @@
 -- That `gen` writes: without a fault of the store everything is written, unless memory runs out. (docs/GENERATED.md)
 use Rattle.std.specs.Prelude.{◌≡◌, Ok}
-use Rattle.command_words.specs.GenWords.{NamedGen}
-use Rattle.command_words.specs.Words.{Gen}
+use Rattle.command_inputs.specs.GenWords.{NamedGen}
+use Rattle.command_inputs.specs.Words.{Gen}
 use Rattle.mon_store.specs.Store.{Rose}
 use Rattle.inliner_tool.specs.Generate.{IsGenerated, generated_made}
 use Rattle.inliner_tool.specs.Seen.{Seen}

@@ -3,10 +3,10 @@ use Rattle.std.specs.Prelude.{◌≡◌, ◌*◌, length}
 use Rattle.bundle_gen.specs.declared.bundle.Bundle.{Bundle}
 use Rattle.bundle_gen.specs.Generated.{generated}
 use Rattle.bundle_gen.specs.Sizes.{bytes_of}
-use Rattle.command_words.specs.GenWords.{NamedGen}
-use Rattle.input_files.specs.Forms.{Yields}
+use Rattle.command_inputs.specs.GenWords.{NamedGen}
+use Rattle.command_inputs.specs.Forms.{Yields}
 use Rattle.mon_store.specs.Outputs.{all_written}
-use Rattle.output_files.specs.Generated.{generated_outputs}
+use Rattle.command_outputs.specs.Generated.{generated_outputs}
 use Rattle.inliner_tool.specs.declared.answer.Answer.TheVariants as answers
 use Rattle.inliner_tool.specs.declared.answer.Made.{Made}
 use Rattle.inliner_tool.specs.Seen.{Seen}

@@ -9,11 +9,11 @@ use Rattle.cert_format.specs.declared.certificate.Mode.{Mode}
 use Rattle.cert_format.specs.declared.certificate.Mode.TheVariants.{Hold, Release}
 use Rattle.class_codec.specs.declared.tree.ClassFile.{ClassFile}
 use Rattle.class_linking.specs.Linking.{linked}
-use Rattle.command_words.specs.Words.{NamedCheck}
+use Rattle.command_inputs.specs.Words.{NamedCheck}
 use Rattle.conspec_automaton.specs.Building.{built}
 use Rattle.conspec_parse.specs.Meaning.{EncodesPolicy}
 use Rattle.conspec_tree.specs.declared.types.PolicyTree.{PolicyTree}
-use Rattle.input_files.specs.Encoded.{AreEncoded}
+use Rattle.command_inputs.specs.Encoded.{AreEncoded}
 use Rattle.mon_store.specs.Store.{Files, HasFile}
 
 -- the seventh byte of a certificate of this mode

@@ -1,9 +1,9 @@
 -- What the command `inline` makes of its inputs, and what stands in the store once it is done. (docs/COMMANDS.md)
 use Rattle.std.specs.Prelude.{◌≡◌, Ok}
-use Rattle.command_words.specs.InlineWords.{NamedInline}
-use Rattle.input_files.specs.declared.inline_inputs.InlineInputs.{InlineInputs}
-use Rattle.input_files.specs.Forms.{Then, Yields}
-use Rattle.input_files.specs.InlineInputs.{ReadsInline}
+use Rattle.command_inputs.specs.InlineWords.{NamedInline}
+use Rattle.command_inputs.specs.declared.inline_inputs.InlineInputs.{InlineInputs}
+use Rattle.command_inputs.specs.Forms.{Then, Yields}
+use Rattle.command_inputs.specs.InlineInputs.{ReadsInline}
 use Rattle.mon_store.specs.Outputs.{all_written}
 use Rattle.inliner_tool.specs.declared.answer.Answer.TheVariants as answers
 use Rattle.inliner_tool.specs.declared.answer.Made.{Made}

@@ -8,15 +8,15 @@ use Rattle.cert_checker.specs.declared.checking.Accepted.{Accepted}
 use Rattle.cert_format.specs.declared.certificate.Mode.{Mode}
 use Rattle.class_weaving.specs.declared.woven.Woven.{Woven}
 use Rattle.class_weaving.specs.Woven.{woven}
-use Rattle.command_words.specs.InlineWords.{NamedInline}
-use Rattle.command_words.specs.Words.{Inline}
+use Rattle.command_inputs.specs.InlineWords.{NamedInline}
+use Rattle.command_inputs.specs.Words.{Inline}
 use Rattle.conspec_automaton.specs.Building.{built}
 use Rattle.conspec_tree.specs.declared.types.PolicyTree.{PolicyTree}
 use Rattle.mon_store.specs.Store.{Files, Rose}
-use Rattle.input_files.specs.declared.named.ReadClasses.{ReadClasses as Classes}
-use Rattle.input_files.specs.Forms.{IsRead}
-use Rattle.input_files.specs.Kinds.{listing_form, policy_form}
-use Rattle.input_files.specs.Named.{AreClasses}
+use Rattle.command_inputs.specs.declared.named.ReadClasses.{ReadClasses as Classes}
+use Rattle.command_inputs.specs.Forms.{IsRead}
+use Rattle.command_inputs.specs.Kinds.{listing_form, policy_form}
+use Rattle.command_inputs.specs.Named.{AreClasses}
 use Rattle.type_infer.specs.Untyped.{IsTypable}
 use Rattle.inliner_tool.specs.declared.answer.Answer.TheVariants as answers
 use Rattle.inliner_tool.specs.declared.refusal.Refusal.TheVariants as refusals

@@ -1,8 +1,8 @@
 -- The numbers under which faults are printed, and the fields after them: a row for each fault. (docs/REFUSALS.md)
 use Rattle.std.specs.Prelude.{ℕ, ℤ, List, [], ◌∷◌, ◌++◌, codes, decimal}
-use Rattle.answer_text.specs.declared.field.Field.TheVariants.{Count, Number, Name}
-use Rattle.answer_text.specs.declared.field.Report.{Report}
-use Rattle.answer_text.specs.Fields.{report, within}
+use Rattle.command_outputs.specs.declared.field.Field.TheVariants.{Count, Number, Name}
+use Rattle.command_outputs.specs.declared.field.Report.{Report}
+use Rattle.command_outputs.specs.Fields.{report, within}
 use Rattle.listing_text.specs.declared.fault.ListFault.{ListFault}
 use Rattle.listing_text.specs.declared.fault.ListFault.TheVariants as listings
 use Rattle.class_linking.specs.declared.fault.LinkFault.{LinkFault}
@@ -21,8 +21,8 @@ use Rattle.insn_codec.specs.declared.fault.CodeFault.{CodeFault}
 use Rattle.insn_codec.specs.declared.fault.CodeFault.TheVariants as instructions
 use Rattle.offset_patch.specs.declared.fault.Size.{Size}
 use Rattle.offset_patch.specs.declared.fault.Size.TheVariants as sizes
-use Rattle.input_files.specs.declared.fault.InputFault.{InputFault}
-use Rattle.input_files.specs.declared.fault.InputFault.TheVariants as inputs
+use Rattle.command_inputs.specs.declared.fault.InputFault.{InputFault}
+use Rattle.command_inputs.specs.declared.fault.InputFault.TheVariants as inputs
 
 -- want of memory, which is never printed
 abbrev pub no_report : Report

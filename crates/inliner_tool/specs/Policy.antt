@@ -9,7 +9,7 @@ use Rattle.conspec_automaton.specs.Verdict.{verdict as judged}
 use Rattle.inliner_tool.specs.declared.answer.Answer.TheVariants as answers
 use Rattle.inliner_tool.specs.declared.answer.Made.{Made}
 use Rattle.inliner_tool.specs.Steps.{Just, Step}
-use Rattle.input_files.specs.declared.policy_inputs.PolicyInputs.{PolicyInputs}
+use Rattle.command_inputs.specs.declared.policy_inputs.PolicyInputs.{PolicyInputs}
 use Rattle.typed_runs.specs.Formed.{TellsTypes}
 
 -- The events of the run are judged.

@@ -11,7 +11,7 @@ use Rattle.class_linking.specs.declared.fault.LinkFault.TheVariants as links
 use Rattle.class_linking.specs.Fault.{Linked}
 use Rattle.class_linking.specs.Linking.{assembled, linked}
 use Rattle.class_codec.specs.declared.tree.ClassFile.{ClassFile}
-use Rattle.input_files.specs.declared.named.ReadClasses.{ReadClasses as Classes}
+use Rattle.command_inputs.specs.declared.named.ReadClasses.{ReadClasses as Classes}
 use Rattle.inliner_tool.specs.declared.refusal.Ended.{Ended}
 use Rattle.inliner_tool.specs.declared.refusal.Ended.TheVariants as ends
 use Rattle.inliner_tool.specs.declared.refusal.Refusal.TheVariants as refusals

@@ -5,8 +5,8 @@ use Rattle.api_listing.specs.declared.types.Listing.{Listing}
 use Rattle.conspec_automaton.specs.declared.state.State.{State}
 use Rattle.conspec_automaton.specs.Building.{built}
 use Rattle.conspec_tree.specs.declared.types.PolicyTree.{PolicyTree}
-use Rattle.input_files.specs.Forms.{Then}
-use Rattle.input_files.specs.declared.race_inputs.RaceInputs.{RaceInputs}
+use Rattle.command_inputs.specs.Forms.{Then}
+use Rattle.command_inputs.specs.declared.race_inputs.RaceInputs.{RaceInputs}
 use Rattle.inliner_tool.specs.declared.answer.Answer.TheVariants as answers
 use Rattle.inliner_tool.specs.declared.answer.Made.{Made}
 use Rattle.inliner_tool.specs.declared.refusal.Ended.{Ended}
@@ -14,7 +14,7 @@ use Rattle.inliner_tool.specs.declared.refusal.Ended.TheVariants as ends
 use Rattle.inliner_tool.specs.declared.refusal.Refusal.{Refusal}
 use Rattle.inliner_tool.specs.declared.refusal.Refusal.TheVariants as refusals
 use Rattle.inliner_tool.specs.Steps.{Equals, Just, Step}
-use Rattle.race_example.specs.Example.{example_text}
+use Rattle.command_outputs.specs.Example.{example_text}
 use Rattle.race_free_check.specs.declared.fault.RaceFault.{RaceFault}
 use Rattle.race_free_check.specs.declared.fault.RaceFault.TheVariants as faults
 use Rattle.race_free_check.specs.declared.verdict.RaceVerdict.{RaceVerdict}

@@ -4,12 +4,12 @@ use Rattle.std.specs.List.{AllByRecursion}
 use Rattle.bytecode_model.specs.declared.program.LinkedClass.{LinkedClass}
 use Rattle.bytecode_model.specs.Files.{max_files}
 use Rattle.class_codec.specs.Encoding.{encoding}
-use Rattle.command_words.specs.InlineWords.{NamedInline}
-use Rattle.command_words.specs.Words.{Check, NamedCheck}
+use Rattle.command_inputs.specs.InlineWords.{NamedInline}
+use Rattle.command_inputs.specs.Words.{Check, NamedCheck}
 use Rattle.mon_store.specs.Store.{Rose}
-use Rattle.input_files.specs.Forms.{IsRead}
-use Rattle.input_files.specs.Kinds.{listing_form, policy_form}
-use Rattle.output_files.specs.Outputs.{certificate_name, class_name}
+use Rattle.command_inputs.specs.Forms.{IsRead}
+use Rattle.command_inputs.specs.Kinds.{listing_form, policy_form}
+use Rattle.command_outputs.specs.Outputs.{certificate_name, class_name}
 use Rattle.inliner_tool.specs.declared.tool.Status.TheVariants as statuses
 use Rattle.inliner_tool.specs.Inline.{IsInlined}
 use Rattle.inliner_tool.specs.Seen.{Seen}

@@ -3,7 +3,7 @@ use Rattle.std.specs.Prelude.{◌≡◌, ℕ, List, length, Option, Some, None, 
 use Rattle.bytecode_model.specs.declared.program.Program.{Program}
 use Rattle.bytecode_model.specs.declared.program.Side.TheVariants.{Inlined}
 use Rattle.cert_format.specs.declared.typing.Typing.{Typing}
-use Rattle.command_words.specs.ReplayWords.{NamedReplay}
+use Rattle.command_inputs.specs.ReplayWords.{NamedReplay}
 use Rattle.event_record.specs.declared.writing.EndLine.{EndLine}
 use Rattle.event_record.specs.declared.writing.EndLine.TheVariants as lines
 use Rattle.event_record.specs.Writing.{events_text}
@@ -15,9 +15,9 @@ use Rattle.guest_replay.specs.declared.replaying.Replayed.{Replayed}
 use Rattle.guest_replay.specs.declared.replaying.ReplayFault.{ReplayFault}
 use Rattle.guest_replay.specs.declared.replaying.ReplayFault.TheVariants as faults
 use Rattle.guest_replay.specs.Replaying.{replayed}
-use Rattle.input_files.specs.declared.replay_inputs.ReplayInputs.{ReplayInputs}
-use Rattle.input_files.specs.Forms.{Then}
-use Rattle.input_files.specs.ReplayInputs.{ReadsReplay}
+use Rattle.command_inputs.specs.declared.replay_inputs.ReplayInputs.{ReplayInputs}
+use Rattle.command_inputs.specs.Forms.{Then}
+use Rattle.command_inputs.specs.ReplayInputs.{ReadsReplay}
 use Rattle.inliner_tool.specs.declared.answer.Answer.TheVariants as answers
 use Rattle.inliner_tool.specs.declared.answer.Made.{Made}
 use Rattle.inliner_tool.specs.declared.refusal.Ended.{Ended}

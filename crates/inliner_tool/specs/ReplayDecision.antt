@@ -4,14 +4,14 @@ use Rattle.std.specs.Prelude.{◌≡◌, Ok, IsSome}
 use Rattle.api_listing.specs.declared.types.Listing.{Listing}
 use Rattle.bytecode_model.specs.declared.program.Program.{Program}
 use Rattle.bytecode_model.specs.declared.program.Side.TheVariants.{Inlined}
-use Rattle.command_words.specs.ReplayWords.{NamedReplay}
-use Rattle.command_words.specs.Words.{Replay}
+use Rattle.command_inputs.specs.ReplayWords.{NamedReplay}
+use Rattle.command_inputs.specs.Words.{Replay}
 use Rattle.event_record.specs.declared.reading.Record.{Record}
 use Rattle.mon_store.specs.Store.{Files, Rose}
-use Rattle.input_files.specs.declared.named.ReadClasses.{ReadClasses as Classes}
-use Rattle.input_files.specs.Forms.{IsRead}
-use Rattle.input_files.specs.Kinds.{listing_form, record_form}
-use Rattle.input_files.specs.Named.{AreClasses}
+use Rattle.command_inputs.specs.declared.named.ReadClasses.{ReadClasses as Classes}
+use Rattle.command_inputs.specs.Forms.{IsRead}
+use Rattle.command_inputs.specs.Kinds.{listing_form, record_form}
+use Rattle.command_inputs.specs.Named.{AreClasses}
 use Rattle.inliner_tool.specs.Decision.{IsDecision}
 use Rattle.inliner_tool.specs.Programs.{program_of}
 use Rattle.inliner_tool.specs.Seen.{Seen}

@@ -1,10 +1,10 @@
 -- What is printed for an outcome. (docs/COMMANDS.md)
 use Rattle.std.specs.Prelude.{ℕ, List, Option, Some, None, Ok, Err, codes}
-use Rattle.answer_text.specs.declared.field.Report.{Report}
-use Rattle.answer_text.specs.declared.line.Line.TheVariants as lines
-use Rattle.answer_text.specs.declared.reply.Reply.{Reply}
-use Rattle.answer_text.specs.declared.reply.Reply.TheVariants as replies
-use Rattle.answer_text.specs.Lines.{text_of}
+use Rattle.command_outputs.specs.declared.field.Report.{Report}
+use Rattle.command_outputs.specs.declared.line.Line.TheVariants as lines
+use Rattle.command_outputs.specs.declared.reply.Reply.{Reply}
+use Rattle.command_outputs.specs.declared.reply.Reply.TheVariants as replies
+use Rattle.command_outputs.specs.Lines.{text_of}
 use Rattle.cert_format.specs.declared.certificate.Mode.{Mode}
 use Rattle.cert_format.specs.declared.certificate.Mode.TheVariants as modes
 use Rattle.conspec_automaton.specs.declared.running.Verdict.{Verdict}

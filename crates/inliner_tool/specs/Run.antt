@@ -4,8 +4,8 @@ use Rattle.std.specs.List.{filter_map}
 use Rattle.api_shelf.specs.Shelf.{View}
 use Rattle.api_shelf.specs.Telling.{Log}
 use Rattle.bytecode_model.specs.declared.program.Program.{Program}
-use Rattle.command_words.specs.GenWords.{IsInBounds}
-use Rattle.command_words.specs.Words.{Check, Gen, Inline, NamedCommand, NamedRun, Policy, Race, Replay, Run, Show}
+use Rattle.command_inputs.specs.GenWords.{IsInBounds}
+use Rattle.command_inputs.specs.Words.{Check, Gen, Inline, NamedCommand, NamedRun, Policy, Race, Replay, Run, Show}
 use Rattle.conspec_automaton.specs.Building.{built}
 use Rattle.conspec_automaton.specs.Obeys.{Obeys}
 use Rattle.event_record.specs.declared.writing.EndLine.{EndLine}
@@ -24,10 +24,10 @@ use Rattle.guest_runner.specs.Running.{IsEnd, IsRunOf}
 use Rattle.guest_runner.specs.Runs.{IsTraced}
 use Rattle.guest_step.specs.Rooms.{Run as Interpreted}
 use Rattle.mon_store.specs.Sink.{Appends}
-use Rattle.input_files.specs.declared.check_inputs.CheckInputs.{CheckInputs}
-use Rattle.input_files.specs.declared.replay_inputs.ReplayInputs.{ReplayInputs}
-use Rattle.input_files.specs.CheckInputs.{ReadsCheck}
-use Rattle.input_files.specs.Forms.{Then}
+use Rattle.command_inputs.specs.declared.check_inputs.CheckInputs.{CheckInputs}
+use Rattle.command_inputs.specs.declared.replay_inputs.ReplayInputs.{ReplayInputs}
+use Rattle.command_inputs.specs.CheckInputs.{ReadsCheck}
+use Rattle.command_inputs.specs.Forms.{Then}
 use Rattle.inliner_tool.specs.declared.answer.Answer.{Answer}
 use Rattle.inliner_tool.specs.declared.answer.Answer.TheVariants as answers
 use Rattle.inliner_tool.specs.declared.answer.Made.{Made}

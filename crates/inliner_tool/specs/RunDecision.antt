@@ -1,7 +1,7 @@
 -- That `run` decides: of files in their grammars and limits that link it answers no, or tells a run, unless memory runs out.
 -- (docs/COMMANDS.md)
 use Rattle.std.specs.Prelude.{◌≡◌, ◌⊎◌}
-use Rattle.command_words.specs.Words.{NamedRun, Run}
+use Rattle.command_inputs.specs.Words.{NamedRun, Run}
 use Rattle.mon_store.specs.Store.{Rose}
 use Rattle.inliner_tool.specs.declared.tool.Status.{Status}
 use Rattle.inliner_tool.specs.declared.tool.Status.TheVariants as statuses

@@ -12,7 +12,7 @@ use Rattle.guest_model.specs.Enabled.{IsEnabled}
 use Rattle.guest_model.specs.Numbers.{KeepsWords}
 use Rattle.guest_model.specs.Runs.{exec, trace}
 use Rattle.guest_model.specs.Stepping.{stepped}
-use Rattle.input_files.specs.Named.{IsPolicyOf}
+use Rattle.command_inputs.specs.Named.{IsPolicyOf}
 use Rattle.typed_runs.specs.Machines.{MachineFits}
 use Rattle.typed_runs.specs.Programs.{IsLinkedProgram}
 

@@ -1,6 +1,6 @@
 -- What is seen of a store in a call. (docs/COMMANDS.md)
 use Rattle.std.specs.Prelude.{ℕ, List}
-use Rattle.input_files.specs.Forms.{Count, since}
+use Rattle.command_inputs.specs.Forms.{Count, since}
 use Rattle.mon_store.specs.Store.{Files}
 
 -- its files before the call and after it, and what it counted

@@ -8,8 +8,8 @@ use Rattle.inliner_tool.specs.declared.answer.Answer.TheVariants as answers
 use Rattle.inliner_tool.specs.declared.answer.Made.{Made}
 use Rattle.inliner_tool.specs.declared.refusal.Ended.{Ended}
 use Rattle.inliner_tool.specs.declared.refusal.Ended.TheVariants as ends
-use Rattle.input_files.specs.Forms.{Then}
-use Rattle.input_files.specs.declared.show_inputs.ShowInputs.{ShowInputs}
+use Rattle.command_inputs.specs.Forms.{Then}
+use Rattle.command_inputs.specs.declared.show_inputs.ShowInputs.{ShowInputs}
 use Rattle.inliner_tool.specs.declared.refusal.Refusal.TheVariants as refusals
 use Rattle.inliner_tool.specs.Programs.{within_total}
 use Rattle.inliner_tool.specs.Steps.{Equals, Just, Step}

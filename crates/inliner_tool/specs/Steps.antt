@@ -1,8 +1,8 @@
 -- The steps of a command: each gives a value, or ends the command. (docs/COMMANDS.md)
 use Rattle.std.specs.Prelude.{◌≡◌, ◌⊎◌, [], Result, Ok, Err}
-use Rattle.input_files.specs.declared.files.Stop.{Stop}
-use Rattle.input_files.specs.declared.files.Stop.TheVariants as stops
-use Rattle.input_files.specs.Forms.{Yields}
+use Rattle.command_inputs.specs.declared.files.Stop.{Stop}
+use Rattle.command_inputs.specs.declared.files.Stop.TheVariants as stops
+use Rattle.command_inputs.specs.Forms.{Yields}
 use Rattle.inliner_tool.specs.declared.answer.Answer.{Answer}
 use Rattle.inliner_tool.specs.declared.answer.Made.{Made}
 use Rattle.inliner_tool.specs.declared.refusal.Ended.{Ended}

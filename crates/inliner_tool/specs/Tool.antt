@@ -1,13 +1,13 @@
 -- What the top call answers, and what it prints. (docs/COMMANDS.md)
 use Rattle.std.specs.Prelude.{◌≡◌, ◌⊎◌, ℕ, List, Option, Ok, Err}
 use Rattle.bytecode_model.specs.declared.program.Program.{Program}
-use Rattle.command_words.specs.Words.{IsCommand, NamedCheck, NamedCommand}
+use Rattle.command_inputs.specs.Words.{IsCommand, NamedCheck, NamedCommand}
 use Rattle.conspec_automaton.specs.declared.running.Verdict.{Verdict}
 use Rattle.conspec_automaton.specs.declared.running.Verdict.TheVariants as verdicts
-use Rattle.input_files.specs.declared.check_inputs.CheckInputs.{CheckInputs}
-use Rattle.input_files.specs.CheckInputs.{ReadsCheck}
-use Rattle.input_files.specs.Named.{IsPolicyOf}
-use Rattle.input_files.specs.Encoded.{CheckEncoded}
+use Rattle.command_inputs.specs.declared.check_inputs.CheckInputs.{CheckInputs}
+use Rattle.command_inputs.specs.CheckInputs.{ReadsCheck}
+use Rattle.command_inputs.specs.Named.{IsPolicyOf}
+use Rattle.command_inputs.specs.Encoded.{CheckEncoded}
 use Rattle.mon_store.specs.Sink.{Appends, AppendsFront}
 use Rattle.inliner_tool.specs.declared.answer.Answer.{Answer}
 use Rattle.inliner_tool.specs.declared.answer.Answer.TheVariants as answers

@@ -6,7 +6,7 @@ use Rattle.bytecode_model.specs.Typed.{IsTyped}
 use Rattle.block_template.specs.Blocks.{plan_of}
 use Rattle.class_weaving.specs.declared.woven.Woven.{Woven}
 use Rattle.class_weaving.specs.Outcome.{IsWoven}
-use Rattle.input_files.specs.declared.inline_inputs.InlineInputs.{InlineInputs}
+use Rattle.command_inputs.specs.declared.inline_inputs.InlineInputs.{InlineInputs}
 use Rattle.inliner_tool.specs.declared.inline.Given.{Given}
 use Rattle.inliner_tool.specs.Expected.{IsMadeOf}
 use Rattle.inliner_tool.specs.Programs.{woven_links}

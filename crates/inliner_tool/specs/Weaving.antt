@@ -26,20 +26,20 @@ use Rattle.class_codec.specs.declared.tree.ClassFile.{ClassFile}
 use Rattle.class_weaving.specs.declared.woven.Woven.{Woven}
 use Rattle.class_weaving.specs.Outcome.{IsWoven}
 use Rattle.class_weaving.specs.Woven.{woven}
-use Rattle.command_words.specs.declared.inline_words.Weaving.{Weaving}
-use Rattle.command_words.specs.declared.inline_words.Weaving.TheVariants as weavings
+use Rattle.command_inputs.specs.declared.inline_words.Weaving.{Weaving}
+use Rattle.command_inputs.specs.declared.inline_words.Weaving.TheVariants as weavings
 use Rattle.conspec_automaton.specs.declared.policy.Policy.{Policy}
 use Rattle.conspec_automaton.specs.Building.{built}
 use Rattle.conspec_automaton.specs.Next.{Values}
 use Rattle.conspec_automaton.specs.Racing.{IsRaceFree, all_pairs}
 use Rattle.conspec_tree.specs.declared.types.PolicyTree.{PolicyTree}
 use Rattle.guest_model.specs.declared.machine.Step.{Step as GuestStep}
-use Rattle.input_files.specs.declared.inline_inputs.InlineInputs.{InlineInputs}
-use Rattle.input_files.specs.declared.named.ReadClasses.{ReadClasses as Classes}
-use Rattle.input_files.specs.Forms.{Yields, Then}
+use Rattle.command_inputs.specs.declared.inline_inputs.InlineInputs.{InlineInputs}
+use Rattle.command_inputs.specs.declared.named.ReadClasses.{ReadClasses as Classes}
+use Rattle.command_inputs.specs.Forms.{Yields, Then}
 use Rattle.offset_patch.specs.declared.fault.SpliceFault.{SpliceFault}
 use Rattle.offset_patch.specs.declared.fault.SpliceFault.TheVariants as splices
-use Rattle.output_files.specs.Outputs.{is_written, outputs_of}
+use Rattle.command_outputs.specs.Outputs.{is_written, outputs_of}
 use Rattle.race_free_check.specs.declared.fault.RaceFault.{RaceFault}
 use Rattle.race_free_check.specs.declared.verdict.RaceVerdict.{RaceVerdict}
 use Rattle.race_free_check.specs.declared.verdict.RaceVerdict.TheVariants as races

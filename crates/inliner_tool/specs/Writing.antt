@@ -1,7 +1,7 @@
 -- What a command writes, and what stands in the store then. (docs/COMMANDS.md)
 use Rattle.std.specs.Prelude.{◌≡◌, ◌⊎◌, ℕ, List, Ok, Err}
-use Rattle.command_words.specs.Words.{IsCommand, NamedCommand}
-use Rattle.input_files.specs.Forms.{Then}
+use Rattle.command_inputs.specs.Words.{IsCommand, NamedCommand}
+use Rattle.command_inputs.specs.Forms.{Then}
 use Rattle.mon_store.specs.declared.outputs.Output.{Output}
 use Rattle.mon_store.specs.Outputs.{StopsAt, all_written}
 use Rattle.mon_store.specs.Store.{Caused}

@@ -2,9 +2,9 @@
 
 ghost use Rattle.std.specs.Prelude.{◌≡◌, ◌≤◌, ◌⊎◌, Err, IfErr, IfOk, Ok};
 ghost use Rattle.bytecode_model.specs.declared.program.Program.{Program};
-ghost use Rattle.command_words.specs.Words.{Check, check_named};
-ghost use Rattle.input_files.specs.CheckInputs.{AreSound};
-ghost use Rattle.input_files.specs.Named.{IsPolicyOf};
+ghost use Rattle.command_inputs.specs.Words.{Check, check_named};
+ghost use Rattle.command_inputs.specs.CheckInputs.{AreSound};
+ghost use Rattle.command_inputs.specs.Named.{IsPolicyOf};
 ghost use Rattle.inliner_tool.specs.Check.{
   Checks,
   ChecksLinked,
@@ -34,11 +34,10 @@ use crate::running::linked_programs_run_typed;
 use bytecode_model::{Program, Side};
 use cert_checker::{Accepted, CheckFault, Denial, check};
 use cert_format::Certificate;
-use command_words::CheckWords;
+use command_inputs::{CheckInputs, CheckWords, read_check};
 use conspec_automaton::{Policy, build};
 use conspec_parse::kinds_are_told;
 use conspec_tree::PolicyTree;
-use input_files::{CheckInputs, read_check};
 use mon_base::{Bytes, NoMemory};
 use mon_store::Store;
 use std::alloc::Global;

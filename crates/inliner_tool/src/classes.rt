@@ -6,7 +6,7 @@ ghost use Rattle.inliner_tool.specs.Programs.{within_total};
 
 use crate::refusal::{Ended, Refusal};
 use bytecode_model::Program;
-use input_files::ReadClasses;
+use command_inputs::ReadClasses;
 use mon_base::{Bytes, NoMemory};
 use std::alloc::Global;
 

@@ -1,7 +1,7 @@
 //! The command `gen`: a program that is made from a number, and its files.
 
 ghost use Rattle.std.specs.Prelude.{◌≡◌};
-ghost use Rattle.command_words.specs.GenWords.{IsInBounds, gen_named};
+ghost use Rattle.command_inputs.specs.GenWords.{IsInBounds, gen_named};
 ghost use Rattle.inliner_tool.specs.GenDecision.{GenDecides};
 ghost use Rattle.inliner_tool.specs.Generate.{Generates, bundle_of};
 ghost use Rattle.inliner_tool.specs.Steps.{UnlessMemory};
@@ -9,9 +9,9 @@ ghost use Rattle.inliner_tool.specs.Steps.{UnlessMemory};
 use crate::answer::{Answer, Made};
 use crate::refusal::Ended;
 use bundle_gen::{Bundle, generate, generated_is_small};
-use command_words::GenWords;
+use command_inputs::GenWords;
+use command_outputs::generated_outputs;
 use mon_base::NoMemory;
-use output_files::generated_outputs;
 use std::alloc::Global;
 
 /// What `gen` makes. It reads no file.

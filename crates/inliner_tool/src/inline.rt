@@ -11,13 +11,13 @@ ghost use Rattle.cert_checker.specs.Judging.{IsAllowed, judged};
 ghost use Rattle.cert_format.specs.declared.certificate.Mode.TheVariants as modes;
 ghost use Rattle.cert_maker.specs.Noting.{certificate_of};
 ghost use Rattle.class_weaving.specs.Woven.{woven};
-ghost use Rattle.command_words.specs.InlineWords.{inline_named};
+ghost use Rattle.command_inputs.specs.InlineWords.{inline_named};
 ghost use Rattle.conspec_automaton.specs.Building.{built};
 ghost use Rattle.conspec_automaton.specs.Sound.{IsPolicy, NamesMethods};
 ghost use Rattle.conspec_tree.specs.Tree.{IsPolicyTree};
-ghost use Rattle.input_files.specs.InlineInputs.{InlineSound};
-ghost use Rattle.input_files.specs.Named.{IsListed};
-ghost use Rattle.output_files.specs.Outputs.{is_written, outputs_of};
+ghost use Rattle.command_inputs.specs.InlineInputs.{InlineSound};
+ghost use Rattle.command_inputs.specs.Named.{IsListed};
+ghost use Rattle.command_outputs.specs.Outputs.{is_written, outputs_of};
 ghost use Rattle.cert_maker.specs.Canonical.{FitsTyping, canonical};
 ghost use Rattle.typed_runs.specs.Programs.{IsLinkedProgram};
 ghost use Rattle.woven_linking.specs.Inlined.{IsOfFiles};
@@ -44,12 +44,12 @@ ghost use Rattle.inliner_tool.specs.Weaving.{
   splice_end,
   weave_step,
 };
-ghost use Rattle.input_files.specs.Forms.{Then};
+ghost use Rattle.command_inputs.specs.Forms.{Then};
 ghost use Rattle.inliner_tool.specs.Commands.{Makes, readings_of};
 ghost use Rattle.inliner_tool.specs.Inline.{IsReadyToWrite, ready_made};
 ghost use Rattle.inliner_tool.specs.InlineDecision.{InlineDecides};
 ghost use Rattle.inliner_tool.specs.Rechecking.{WrittenIsAccepted};
-ghost use Rattle.command_words.specs.Words.{Inline};
+ghost use Rattle.command_inputs.specs.Words.{Inline};
 
 use crate::answer::{Answer, Made};
 use crate::programs::{program_of, types_of};
@@ -63,11 +63,10 @@ use cert_checker::{Accepted, Denial, check};
 use cert_format::{CertLong, Certificate, Mode, Typing};
 use cert_maker::{canonical, canonical_is_typed, make, woven_is_accepted};
 use class_linking::{linked_is_in_order, linked_operands_are_right, linked_programs_are_named};
-use command_words::{InlineWords, Weaving};
+use command_inputs::{InlineInputs, InlineWords, Weaving, read_inline};
 use conspec_automaton::{Policy, build};
 use conspec_parse::kinds_are_told;
 use conspec_tree::PolicyTree;
-use input_files::{InlineInputs, read_inline};
 use mon_base::{Bytes, List, NoMemory};
 use mon_store::{Output, Store};
 use offset_patch::SpliceFault;
@@ -527,7 +526,7 @@ fn outputs_of(
     ensures written { IfOk result (λ outputs. is_written certificate.now ≡ true) }
     ensures outputs { IfOk result (λ outputs. outputs ≡ outputs_of folder.now program.now certificate.now) }
 {
-    let fault = match output_files::outputs_of(alloc, folder, program, certificate) {
+    let fault = match command_outputs::outputs_of(alloc, folder, program, certificate) {
         Ok(outputs) => return Ok(outputs),
         Err(fault) => fault,
     };

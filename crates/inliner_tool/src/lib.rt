@@ -1,9 +1,9 @@
 //! The top call of conspecj: the words of a command, over a store and a sink.
 //!
-//! The words become names (`command_words`), and the files of these names inputs (`input_files`). Each command is a module of
-//! its own, from its inputs to an answer and the files that are written before it is given (`writing`), or to why it ends before.
-//! This outcome becomes a status (`tool`) and a reply (`replies`), in which each fault has its number (`numbers`), and the reply
-//! a text (`answer_text`). (docs/COMMANDS.md)
+//! The words become names, and the files of these names inputs (`command_inputs`). Each command is a module of its own, from its
+//! inputs to an answer and the files that are written before it is given (`writing`), or to why it ends before. This outcome
+//! becomes a status (`tool`) and a reply (`replies`), in which each fault has its number (`numbers`), and the reply a text
+//! (`command_outputs`). (docs/COMMANDS.md)
 #![tactic(auto)]
 
 mod answer;

@@ -1,8 +1,8 @@
 //! The numbers under which faults are printed, and the fields after them: a row for each fault.
 
 ghost use Rattle.std.specs.Prelude.{◌≡◌, ◌∷◌, [], IfOk};
-ghost use Rattle.answer_text.specs.declared.field.Field.TheVariants.{Count, Name};
-ghost use Rattle.answer_text.specs.Fields.{report};
+ghost use Rattle.command_outputs.specs.declared.field.Field.TheVariants.{Count, Name};
+ghost use Rattle.command_outputs.specs.Fields.{report};
 ghost use Rattle.inliner_tool.specs.Numbers.{
   cells_report,
   certificate_report,
@@ -25,14 +25,14 @@ ghost use Rattle.inliner_tool.specs.Numbers.{
   untyped_report,
 };
 
-use answer_text::{Field, Report};
 use cert_checker::CheckFault;
 use cert_format::CertForm;
 use class_codec::ClassFault;
 use class_linking::LinkFault;
+use command_inputs::InputFault;
+use command_outputs::{Field, Report};
 use conspec_parse::PolicyFault;
 use event_record::RecordFault;
-use input_files::InputFault;
 use insn_codec::CodeFault;
 use listing_text::ListFault;
 use mon_base::{Bytes, NoMemory, push_count};

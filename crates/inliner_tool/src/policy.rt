@@ -1,8 +1,8 @@
 //! The command `policy`: its inputs, and what the policy says of the run.
 
 ghost use Rattle.std.specs.Prelude.{◌≡◌, ◌≤◌};
-ghost use Rattle.command_words.specs.Words.{Policy, policy_named};
-ghost use Rattle.input_files.specs.PolicyInputs.{IsOfListing};
+ghost use Rattle.command_inputs.specs.Words.{Policy, policy_named};
+ghost use Rattle.command_inputs.specs.PolicyInputs.{IsOfListing};
 ghost use Rattle.inliner_tool.specs.Policy.{Judges};
 ghost use Rattle.inliner_tool.specs.Commands.{Makes, readings_of};
 ghost use Rattle.inliner_tool.specs.Seen.{seen};
@@ -10,9 +10,8 @@ ghost use Rattle.inliner_tool.specs.Steps.{UnlessMemory};
 
 use crate::answer::{Answer, Made};
 use crate::refusal::{Ended, stopped};
-use command_words::PolicyWords;
+use command_inputs::{PolicyInputs, PolicyWords, read_policy};
 use conspec_automaton::{accept, build};
-use input_files::{PolicyInputs, read_policy};
 use mon_base::NoMemory;
 use mon_store::Store;
 use std::alloc::Global;

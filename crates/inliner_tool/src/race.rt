@@ -2,7 +2,7 @@
 
 ghost use Rattle.std.specs.Prelude.{◌≡◌, ◌≤◌, ◌⊎◌, IfOk, IsOk, Ok};
 ghost use Rattle.cert_format.specs.declared.certificate.Mode.TheVariants as modes;
-ghost use Rattle.command_words.specs.Words.{Race, race_named};
+ghost use Rattle.command_inputs.specs.Words.{Race, race_named};
 ghost use Rattle.conspec_automaton.specs.Sound.{IsPolicy};
 ghost use Rattle.conspec_tree.specs.Tree.{IsPolicyTree};
 ghost use Rattle.inliner_tool.specs.Decision.{RaceDecides};
@@ -18,13 +18,12 @@ use crate::answer::{Answer, Made};
 use crate::refusal::{Ended, Refusal, stopped};
 use api_listing::{Event, Listing};
 use cert_format::Mode;
-use command_words::RaceWords;
+use command_inputs::{RaceInputs, RaceWords, read_race};
+use command_outputs::example_text;
 use conspec_automaton::{Policy, State, build};
 use conspec_tree::PolicyTree;
-use input_files::{RaceInputs, read_race};
 use mon_base::NoMemory;
 use mon_store::Store;
-use race_example::example_text;
 use race_free_check::{RaceFault, RaceVerdict, decide};
 use std::alloc::Global;
 

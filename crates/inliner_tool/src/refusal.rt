@@ -7,8 +7,8 @@ ghost use Rattle.inliner_tool.specs.declared.refusal.Ended.TheVariants as ends;
 
 use cert_checker::CheckFault;
 use class_linking::LinkFault;
+use command_inputs::{InputFault, Stop};
 use guest_replay::ReplayFault;
-use input_files::{InputFault, Stop};
 use mon_base::{Bytes, NoMemory};
 use offset_patch::Size;
 

@@ -2,8 +2,8 @@
 
 ghost use Rattle.std.specs.Prelude.{◌≡◌, ◌≤◌, IfOk};
 ghost use Rattle.cert_format.specs.declared.typing.Typing.{Typing};
-ghost use Rattle.command_words.specs.ReplayWords.{replay_named};
-ghost use Rattle.command_words.specs.Words.{Replay};
+ghost use Rattle.command_inputs.specs.ReplayWords.{replay_named};
+ghost use Rattle.command_inputs.specs.Words.{Replay};
 ghost use Rattle.guest_model.specs.Ready.{IsReady};
 ghost use Rattle.inliner_tool.specs.Commands.{Makes, readings_of};
 ghost use Rattle.inliner_tool.specs.Seen.{seen};
@@ -12,8 +12,8 @@ ghost use Rattle.inliner_tool.specs.Replay.{InputsRun, ReplayedRuns, Replays, Te
 ghost use Rattle.inliner_tool.specs.ReplayDecision.{ReplayDecides};
 ghost use Rattle.inliner_tool.specs.Running.{RunsTyped};
 ghost use Rattle.inliner_tool.specs.Steps.{Equals, UnlessMemory};
-ghost use Rattle.input_files.specs.Forms.{Then};
-ghost use Rattle.input_files.specs.ReplayInputs.{ReplaySound};
+ghost use Rattle.command_inputs.specs.Forms.{Then};
+ghost use Rattle.command_inputs.specs.ReplayInputs.{ReplaySound};
 ghost use Rattle.typed_runs.specs.Programs.{IsLinkedProgram};
 
 use crate::answer::{Answer, Made};
@@ -21,12 +21,11 @@ use crate::programs::{program_of, types_of};
 use crate::refusal::{Ended, stopped};
 use crate::running::linked_programs_run_typed;
 use bytecode_model::Side;
-use command_words::ReplayWords;
+use command_inputs::{ReplayInputs, ReplayWords, read_replay};
 use event_record::{EndLine, events_text};
 use guest_model::{End, Step, Steps};
 use guest_replay::{Replayed, replay};
 use guest_step::Stepper;
-use input_files::{ReplayInputs, read_replay};
 use mon_base::{Bytes, NoMemory};
 use mon_store::Store;
 use std::alloc::Global;

@@ -20,9 +20,9 @@ use crate::numbers::{
     race_report, size_report, step_report, total_report, untyped_report,
 };
 use crate::refusal::Refusal;
-use answer_text::{Line, Reply, Report, text_of};
 use cert_checker::Accepted;
 use cert_format::Mode;
+use command_outputs::{Line, Reply, Report, text_of};
 use conspec_automaton::Verdict;
 use mon_base::{Bytes, NoMemory};
 use std::alloc::Global;

@@ -3,14 +3,14 @@
 ghost use Rattle.std.specs.Prelude.{◌≡◌, ◌≤◌, ℕ, Err, FitsSigned, IfSome, None, Ok};
 ghost use Rattle.std.specs.Int.{w32};
 ghost use Rattle.api_shelf.specs.Shelf.{AllAreSilent, views};
-ghost use Rattle.command_words.specs.Words.{Run, run_named};
+ghost use Rattle.command_inputs.specs.Words.{Run, run_named};
 ghost use Rattle.event_record.specs.Encoding.{IsStopValue};
 ghost use Rattle.event_record.specs.Writing.{ending_of};
 ghost use Rattle.guest_model.specs.Ready.{IsReady};
 ghost use Rattle.guest_model.specs.Turns.{MakesWhatIsEnabled};
 ghost use Rattle.guest_runner.specs.Book.{identity, new_book};
 ghost use Rattle.guest_runner.specs.PlainAnswers.{PlainAnswersFit};
-ghost use Rattle.input_files.specs.CheckInputs.{AreSound};
+ghost use Rattle.command_inputs.specs.CheckInputs.{AreSound};
 ghost use Rattle.inliner_tool.specs.Commands.{Makes, readings_of};
 ghost use Rattle.inliner_tool.specs.Run.{
   Executes,
@@ -38,12 +38,11 @@ use crate::answer::{Answer, Made};
 use crate::check::{Checked, inputs_checked};
 use crate::refusal::{Ended, stopped};
 use api_shelf::{ApiDevice, SlotOf, plain_answers_are_by_type};
-use command_words::RunWords;
+use command_inputs::{CheckInputs, RunWords, read_check};
 use event_record::{EndLine, lines_of_runs_are_told, record_text};
 use guest_replay::replays_are_runs;
 use guest_runner::{Gate, RunBook, RunStop, run, runs_are_traces};
 use guest_step::Interpreter;
-use input_files::{CheckInputs, read_check};
 use mon_base::{Bytes, NoMemory};
 use mon_store::Store;
 use std::alloc::Global;

@@ -3,7 +3,7 @@
 ghost use Rattle.std.specs.Prelude.{◌≡◌, ◌≤◌};
 ghost use Rattle.std.specs.List.{AllByRecursion};
 ghost use Rattle.class_codec.specs.Fits.{IsEncodable};
-ghost use Rattle.command_words.specs.Words.{Show, show_named};
+ghost use Rattle.command_inputs.specs.Words.{Show, show_named};
 ghost use Rattle.inliner_tool.specs.Commands.{Makes, readings_of};
 ghost use Rattle.inliner_tool.specs.Seen.{seen};
 ghost use Rattle.inliner_tool.specs.Show.{Shows, show_end, text_shown};
@@ -14,8 +14,7 @@ use crate::classes::within_total;
 use crate::refusal::{Ended, Refusal, stopped};
 use class_linking::LinkFault;
 use class_text::{ShowFault, show};
-use command_words::ShowWords;
-use input_files::{ShowInputs, read_show};
+use command_inputs::{ShowInputs, ShowWords, read_show};
 use mon_base::Bytes;
 use mon_store::Store;
 use std::alloc::Global;

@@ -2,10 +2,10 @@
 
 ghost use Rattle.std.specs.Prelude.{◌≡◌, ◌≢◌, ◌≤◌, ℕ, List, None, Some, IfOk, IfSome};
 ghost use Rattle.api_shelf.specs.Shelf.{AllAreSilent, views};
-ghost use Rattle.command_words.specs.GenWords.{IsGen, NamedGen};
-ghost use Rattle.command_words.specs.InlineWords.{IsInline, NamedInline};
-ghost use Rattle.command_words.specs.ReplayWords.{IsReplay, NamedReplay};
-ghost use Rattle.command_words.specs.Words.{
+ghost use Rattle.command_inputs.specs.GenWords.{IsGen, NamedGen};
+ghost use Rattle.command_inputs.specs.InlineWords.{IsInline, NamedInline};
+ghost use Rattle.command_inputs.specs.ReplayWords.{IsReplay, NamedReplay};
+ghost use Rattle.command_inputs.specs.Words.{
   Check,
   Inline,
   IsCheck,
@@ -19,7 +19,7 @@ ghost use Rattle.command_words.specs.Words.{
   named_by,
   run_named,
 };
-ghost use Rattle.input_files.specs.Contents.{Contents};
+ghost use Rattle.command_inputs.specs.Contents.{Contents};
 ghost use Rattle.inliner_tool.specs.Commands.{Makes, readings_of};
 ghost use Rattle.inliner_tool.specs.Decides.{Decides, GivesOnce};
 ghost use Rattle.inliner_tool.specs.Generate.{IsGenerated};
@@ -56,11 +56,10 @@ use crate::run::{RunAnswer, make_run};
 use crate::show::make_show;
 use crate::writing::write_made;
 use api_shelf::{ApiDevice, SlotOf};
-use command_words::{Command, FileCommand, RunWords, command_of};
+use command_inputs::{Command, FileCommand, RunWords, command_of, told_files_are_read};
 use conspec_automaton::Verdict;
 use event_record::EndLine;
 use guest_runner::Gate;
-use input_files::told_files_are_read;
 use mon_base::{Bytes, NoMemory};
 use mon_store::{Sink, SinkFault, Store};
 use std::alloc::Global;

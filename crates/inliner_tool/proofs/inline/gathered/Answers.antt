@@ -1,7 +1,7 @@
 use Rattle.std.proofs.Common.{Ok}
 use Rattle.std.proofs.lemmas.Result.{err_from_is_err_and}
 use Rattle.conspec_automaton.specs.Building.{built}
-use Rattle.input_files.specs.Forms.{Then}
+use Rattle.command_inputs.specs.Forms.{Then}
 use Rattle.inliner_tool.specs.Programs.{Types}
 use Rattle.inliner_tool.specs.Steps.{Equals}
 use Rattle.inliner_tool.specs.Weaving.{mode_for}

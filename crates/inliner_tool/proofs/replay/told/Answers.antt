@@ -1,6 +1,6 @@
 use Rattle.std.proofs.Common.{List, subst}
 use Rattle.guest_model.specs.declared.machine.Step.{Step as GuestStep}
-use Rattle.input_files.specs.Forms.{Then}
+use Rattle.command_inputs.specs.Forms.{Then}
 use Rattle.inliner_tool.specs.Programs.{Types}
 use Rattle.inliner_tool.specs.Replay.{link_run, steps_told}
 use Rattle.inliner_tool.specs.Steps.{Equals, UnlessMemory}

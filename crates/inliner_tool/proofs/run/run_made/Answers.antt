@@ -1,4 +1,4 @@
-use Rattle.command_words.specs.Words.{run_named}
+use Rattle.command_inputs.specs.Words.{run_named}
 use Rattle.inliner_tool.proofs.PlainAnswers.{plain_answers_fit}
 use Rattle.inliner_tool.proofs.Runs.{keeps_too, kept_so, makes_enabled, runs_so}
 use Rattle.inliner_tool.proofs.run.run_made.Goals as goal

@@ -1,5 +1,5 @@
 use Rattle.std.proofs.Common.{ap, subst, sym, ◌∙◌}
-use Rattle.command_words.specs.Words.{NamedCommand, named_by}
+use Rattle.command_inputs.specs.Words.{NamedCommand, named_by}
 use Rattle.inliner_tool.specs.Seen.{seen}
 use Rattle.inliner_tool.specs.Steps.{UnlessMemory}
 use Rattle.inliner_tool.specs.Writing.{CarriesOut}

@@ -1,6 +1,6 @@
 use Rattle.std.proofs.Common.{subst}
-use Rattle.command_words.specs.Words.{Run, run_named}
-use Rattle.input_files.specs.Forms.{since}
+use Rattle.command_inputs.specs.Words.{Run, run_named}
+use Rattle.command_inputs.specs.Forms.{since}
 use Rattle.mon_store.specs.Store.{Files}
 use Rattle.inliner_tool.specs.Seen.{seen}
 use Rattle.inliner_tool.specs.Steps.{UnlessMemory}

@@ -1,8 +1,8 @@
 use Rattle.std.proofs.Common.{◌∙◌, Ok, Err, inl, refl, subst}
-use Rattle.input_files.specs.Forms.{Count, since}
+use Rattle.command_inputs.specs.Forms.{Count, since}
 use Rattle.mon_store.specs.Store.{Files}
 use Rattle.inliner_tool.specs.declared.tool.Status.TheVariants as statuses
-use Rattle.command_words.specs.Words.{named_by}
+use Rattle.command_inputs.specs.Words.{named_by}
 use Rattle.inliner_tool.specs.Replies.{usage_encoded}
 use Rattle.inliner_tool.specs.Run.{IsRunStatus}
 use Rattle.inliner_tool.specs.Seen.{Seen}

@@ -1,0 +1,23 @@
+use Rattle.std.proofs.Common.{List, ℕ, Err, subst}
+use Rattle.std.proofs.lemmas.Result.{err_from_is_err_and}
+use Rattle.mon_store.specs.Store.{Files}
+use Rattle.command_inputs.specs.ReplayWords.{NamedReplay, replay_named}
+use Rattle.command_inputs.specs.Named.{ReadsBefore}
+use Rattle.command_inputs.specs.Kinds.{record_form}
+use Rattle.command_inputs.proofs.ReadFiles.{counted}
+use Rattle.command_inputs.proofs.Reading.{replay_stops}
+use Rattle.command_inputs.proofs.replay_inputs.read_replay.Goals as goal
+
+pub returns-in_err-recorded-clause-read : goal.returns-in_err-recorded-clause-read
+returns-in_err-recorded-clause-read g c =
+    let p = err_from_is_err_and c.from_residual-in_err-recorded.result c.from_residual-in_err-recorded.ensures.1 in
+    let files : Files = g.S.Store.files c.args.store.now in
+    let named : NamedReplay = replay_named c.args.words.now in
+    let first : ℕ = g.S.Store.faults c.args.store.now in
+    let begun : ℕ = g.S.Store.faults c.listing_of.new.store in
+    let now : ℕ = g.S.Store.faults c.read_over.new.store in
+    let last : List ℕ = g.S.Store.last c.read_over.new.store in
+    let listing = c.in_ok-listing.listing in
+    let stop = c.in_err-recorded.field-0.0 in
+    let over = subst (λ (fs : Files). ReadsBefore fs (counted begun now last) named.recorded (record_form listing) named.classes (Err stop)) c.in_ok-listing.ensures.files c.in_err-recorded.ensures.read in
+    rw (p.1, p.2) (replay_stops files named first begun now last c.in_ok-listing.ensures.faults listing c.in_ok-listing.ensures.form stop over)

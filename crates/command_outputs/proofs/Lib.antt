@@ -1,0 +1,3 @@
+mod Joining
+pub mod Mapping
+mod Growing

@@ -1,0 +1,5 @@
+pub mod Fields
+pub mod Lines
+pub mod Example
+pub mod Outputs
+pub mod Generated

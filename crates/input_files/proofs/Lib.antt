@@ -1,5 +1,0 @@
-pub mod ReadFiles
-pub mod ClassFiles
-pub mod Reading
-pub mod Contents
-mod ToldTexts

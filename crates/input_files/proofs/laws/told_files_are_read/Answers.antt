@@ -1,5 +1,0 @@
-use Rattle.input_files.proofs.Contents.{told_are_read}
-use Rattle.input_files.proofs.laws.told_files_are_read.Goals as goal
-
-pub returns : goal.returns
-returns c = told_are_read
