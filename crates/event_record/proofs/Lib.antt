@@ -12,6 +12,7 @@ pub mod Joining
 pub mod WrittenAgain
 pub mod FirstFault
 pub mod Indices
+mod Cutting
 mod ListingWords
 mod WrittenLines
 mod ClassNames

@@ -1,5 +1,5 @@
 -- The names of a listing in a set and a map.
-use Rattle.std.proofs.Common.{◌≡◌, ℕ, ◌+◌, ◌-◌, ◌<◌, ◌≤◌, Bool, true, false, cond, ◌&&◌, ◌||◌, List, [], ◌∷◌, length, get_or, take, drop, Option, Some, None, refl, sym, ap, subst, ◌∙◌, ap₂, arith}
+use Rattle.std.proofs.Common.{◌≡◌, ℕ, ◌+◌, ◌-◌, ◌<◌, ◌≤◌, Bool, true, false, cond, ◌&&◌, ◌||◌, List, [], ◌∷◌, length, get_or, take, drop, Option, Some, None, refl, sym, ap, subst, ◌∙◌, ap₂, Bor, arith}
 use Rattle.std.specs.Prelude.{bytes_eq}
 use Rattle.std.specs.List.{position_from}
 use Rattle.std.specs.Option.{option_or, is_some}
@@ -22,8 +22,9 @@ use Rattle.api_listing.specs.Listing.{is_known}
 use Rattle.api_listing.specs.Seen.{id_cmp}
 use Rattle.std.proofs.Math.Path.{fun_ext}
 use Rattle.api_listing.specs.declared.types.Listing.{Listing}
+use Rattle.event_record.specs.declared.names.MethodName.{MethodName}
 use Rattle.event_record.specs.declared.names.Names.{Names}
-use Rattle.event_record.specs.Library.{AddsFirst, AreNames, Library, library_in, library_of, place_listed}
+use Rattle.event_record.specs.Library.{AddsFirst, AreNames, Library, id_in, library_in, library_of, place_listed}
 
 -- ---- lists
 
@@ -91,24 +92,31 @@ or_none : (o : Option ℕ) → option_or o None ≡ o
 or_none None = refl
 or_none (Some x) = refl
 
+-- a name whose words are these
+abbrev pub word_at : List ℕ → Bor (List ℕ)
+word_at word = record { ref_ptr = (0, 0); now = word }
+
+abbrev name_at : MethodId → MethodName
+name_at id = record { class = word_at id.class; name = word_at id.name; desc = word_at id.desc }
+
 -- a new name
-pub adds : (old new : BTreeMap MethodId ℕ) (id : MethodId) (index : ℕ) → is_some (place_listed old id) ≡ false
-    → ((q : MethodId) → place_listed new q ≡ cond (is_eq (id_cmp id q)) (Some index) (place_listed old q)) → AddsFirst old new id index
+adds : (old new : BTreeMap MethodName ℕ) (id : MethodId) (index : ℕ) → is_some (place_listed old id) ≡ false
+    → ((q : MethodName) → place_listed new (id_in q) ≡ cond (is_eq (id_cmp id (id_in q))) (Some index) (place_listed old (id_in q))) → AddsFirst old new id index
 adds old new id index absent puts = λ q.
-    puts q ∙ ap (λ b. cond b (Some index) (place_listed old q)) (id_cmp-is id q)
+    puts (name_at q) ∙ ap (λ b. cond b (Some index) (place_listed old q)) (id_cmp-is id q)
     ∙ test_cases (is_method q.class q.name q.desc id) (λ b. cond b (Some index) (place_listed old q) ≡ option_or (place_listed old q) (cond b (Some index) None))
     (λ e. none_or (place_listed old q) (Some index) (subst (λ (i : MethodId). is_some (place_listed old i) ≡ false) (same_id id q e) absent))
     (λ e. sym (or_none (place_listed old q)))
 
-pub adds_copy : (old new : BTreeMap MethodId ℕ) (id copy : MethodId) (index : ℕ) → copy ≡ id → is_some (place_listed old id) ≡ false
-    → ((q : MethodId) → place_listed new q ≡ cond (is_eq (id_cmp copy q)) (Some index) (place_listed old q)) → AddsFirst old new id index
-adds_copy old new id copy index same absent puts = subst (λ (i : MethodId). AddsFirst old new i index) same (adds old new copy index (subst (λ (i : MethodId). is_some (place_listed old i) ≡ false) (sym same) absent) puts)
+pub adds_name : (old new : BTreeMap MethodName ℕ) (name : MethodName) (id : MethodId) (index : ℕ) → id_in name ≡ id → is_some (place_listed old (id_in name)) ≡ false
+    → ((q : MethodName) → place_listed new (id_in q) ≡ cond (is_eq (id_cmp (id_in name) (id_in q))) (Some index) (place_listed old (id_in q))) → AddsFirst old new id index
+adds_name old new name id index same absent puts = subst (λ (i : MethodId). AddsFirst old new i index) same (adds old new (id_in name) index absent puts)
 
 abbrev pub index_from : ℕ → List ListedMethod → MethodId → Option ℕ
 index_from index methods q = position_from (λ (m : ListedMethod). is_method q.class q.name q.desc m.id) index methods
 
 -- one method more
-pub goes_on : (old new : BTreeMap MethodId ℕ) (m : ListedMethod) (rest left : List ListedMethod) (index : ℕ) (q : MethodId) (total : Option ℕ) → left ≡ m ∷ rest → AddsFirst old new m.id index
+pub goes_on : (old new : BTreeMap MethodName ℕ) (m : ListedMethod) (rest left : List ListedMethod) (index : ℕ) (q : MethodId) (total : Option ℕ) → left ≡ m ∷ rest → AddsFirst old new m.id index
     → option_or (place_listed old q) (index_from index left q) ≡ total → option_or (place_listed new q) (index_from (index + 1) rest q) ≡ total
 goes_on old new m rest left index q total split added before =
     ap (λ o. option_or o (index_from (index + 1) rest q)) (added q)
@@ -120,7 +128,7 @@ goes_on old new m rest left index q total split added before =
       by false None = refl
       by false (Some x) = refl
 
-pub is_done : (places : BTreeMap MethodId ℕ) (left : List ListedMethod) (index : ℕ) (q : MethodId) (total : Option ℕ) → left ≡ [] → option_or (place_listed places q) (index_from index left q) ≡ total → place_listed places q ≡ total
+pub is_done : (places : BTreeMap MethodName ℕ) (left : List ListedMethod) (index : ℕ) (q : MethodId) (total : Option ℕ) → left ≡ [] → option_or (place_listed places q) (index_from index left q) ≡ total → place_listed places q ≡ total
 is_done places left index q total none e =
     sym (or_none (place_listed places q)) ∙ ap (λ (ms : List ListedMethod). option_or (place_listed places q) (index_from index ms q)) (sym none) ∙ e
 

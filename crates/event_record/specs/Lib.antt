@@ -10,3 +10,4 @@ pub mod Writing
 pub mod RunLines
 pub mod Joined
 pub mod FirstFault
+pub mod Pieces

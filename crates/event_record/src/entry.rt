@@ -1,8 +1,8 @@
 //! The lines of a record, each by itself.
 
-ghost use Rattle.std.specs.Prelude.{◌≡◌, [], IfOk, length};
+ghost use Rattle.std.specs.Prelude.{◌≡◌, [], ◌∷◌, MatchResult};
 ghost use Rattle.mon_base.specs.Answer.{Answers};
-ghost use Rattle.event_record.specs.Library.{library_in};
+ghost use Rattle.event_record.specs.Library.{id_in, library_in};
 ghost use Rattle.event_record.specs.Entry.{
   answer_line,
   answer_of,
@@ -19,7 +19,6 @@ ghost use Rattle.event_record.specs.Entry.{
   fresh_answer,
   gives_nothing,
   go_line,
-  id_of,
   listed_index,
   int_answer,
   is_count,
@@ -34,12 +33,12 @@ ghost use Rattle.event_record.specs.Entry.{
   values_from,
 };
 
-use crate::names::Names;
+use crate::names::{MethodName, Names};
 use crate::number::{index_of, int_of, number_of};
 use crate::value::{hex_at, value_at};
-use crate::words::is_text;
+use crate::words::{Pieces, is_text};
 use api_listing::{ApiAnswer, ApiValue, Event, FormFault};
-use mon_base::{Bytes, List, MethodId, NoMemory};
+use mon_base::{Bytes, List};
 use std::alloc::Global;
 
 /// What a line of a record tells.
@@ -56,32 +55,39 @@ pub enum Entry {
 
 /// What the words of a line tell, over the names of a listing.
 #[tactic(auto, unfolding(crate::specs::Entry::entry_of))]
-pub fn entry_of(alloc: Global, names: &Names, words: &[Bytes]) -> Result<Entry, FormFault>
-    ensures { Answers FormFault.Memory result (entry_of (library_in names.now) words.now) }
+pub fn entry_of<'a>(
+    alloc: Global,
+    names: &Names<'a>,
+    words: &mut Pieces<'a>,
+) -> Result<Entry, FormFault>
+    ensures { Answers FormFault.Memory result (entry_of (library_in names.now) words.old) }
 {
-    match words {
-        [verb, second, third, rest @ ..] => line_of(
-            alloc,
-            names,
-            verb.as_slice(),
-            second.as_slice(),
-            third.as_slice(),
-            rest,
-        ),
-        _ => Err(FormFault::NoForm),
-    }
+    let verb = next_word(words)?;
+    let second = next_word(words)?;
+    let third = next_word(words)?;
+    line_of(alloc, names, verb, second, third, words)
+}
+
+/// The first word, which is taken off.
+fn next_word<'a>(words: &mut Pieces<'a>) -> Result<&'a [u8], FormFault>
+    ensures { MatchResult result (λ word. words.old ≡ word.now ∷ words.new) (λ e. (e ≡ FormFault.NoForm) × (words.old ≡ [])) }
+{
+    let Some(word) = words.next() else {
+        return Err(FormFault::NoForm);
+    };
+    Ok(word)
 }
 
 #[tactic(auto, unfolding(crate::specs::Entry::line_of))]
-fn line_of(
+fn line_of<'a>(
     alloc: Global,
-    names: &Names,
+    names: &Names<'a>,
     verb: &[u8],
     second: &[u8],
-    third: &[u8],
-    rest: &[Bytes],
+    third: &'a [u8],
+    rest: &mut Pieces<'a>,
 ) -> Result<Entry, FormFault>
-    ensures { Answers FormFault.Memory result (line_of (library_in names.now) verb.now second.now third.now rest.now) }
+    ensures { Answers FormFault.Memory result (line_of (library_in names.now) verb.now second.now third.now rest.old) }
 {
     if is_text(verb, "go") {
         go_line(second, third, rest)
@@ -106,8 +112,8 @@ fn listed_index(word: &[u8]) -> Result<u32, FormFault>
 // ---- steps
 
 #[tactic(auto, unfolding(crate::specs::Entry::go_line))]
-fn go_line(thread: &[u8], count: &[u8], rest: &[Bytes]) -> Result<Entry, FormFault>
-    ensures { Answers FormFault.Memory result (go_line thread.now count.now rest.now) }
+fn go_line(thread: &[u8], count: &[u8], rest: &mut Pieces) -> Result<Entry, FormFault>
+    ensures { Answers FormFault.Memory result (go_line thread.now count.now rest.old) }
 {
     let thread = listed_index(thread)?;
     let count = listed_index(count)?;
@@ -118,14 +124,14 @@ fn go_line(thread: &[u8], count: &[u8], rest: &[Bytes]) -> Result<Entry, FormFau
 }
 
 #[tactic(auto, unfolding(crate::specs::Entry::answer_line))]
-fn answer_line(
+fn answer_line<'a>(
     alloc: Global,
-    names: &Names,
+    names: &Names<'a>,
     thread: &[u8],
     kind: &[u8],
-    rest: &[Bytes],
+    rest: &mut Pieces<'a>,
 ) -> Result<Entry, FormFault>
-    ensures { Answers FormFault.Memory result (answer_line (library_in names.now) thread.now kind.now rest.now) }
+    ensures { Answers FormFault.Memory result (answer_line (library_in names.now) thread.now kind.now rest.old) }
 {
     let thread = listed_index(thread)?;
     let answer = answer_of(alloc, names, kind, rest)?;
@@ -133,19 +139,21 @@ fn answer_line(
 }
 
 #[tactic(auto, unfolding(crate::specs::Entry::answer_of))]
-fn answer_of(
+fn answer_of<'a>(
     alloc: Global,
-    names: &Names,
+    names: &Names<'a>,
     kind: &[u8],
-    rest: &[Bytes],
+    rest: &mut Pieces<'a>,
 ) -> Result<ApiAnswer, FormFault>
-    ensures { Answers FormFault.Memory result (answer_of (library_in names.now) kind.now rest.now) }
+    ensures { Answers FormFault.Memory result (answer_of (library_in names.now) kind.now rest.old) }
 {
-    match rest {
-        [] => bare_answer(kind),
-        [word] => answer_with(alloc, names, kind, word),
-        _ => Err(FormFault::NoForm),
+    let Some(word) = rest.next() else {
+        return bare_answer(kind);
+    };
+    if !rest.is_empty() {
+        return Err(FormFault::NoForm);
     }
+    answer_with(alloc, names, kind, word)
 }
 
 /// An answer of one word.
@@ -166,22 +174,22 @@ fn bare_answer(kind: &[u8]) -> Result<ApiAnswer, FormFault>
 
 /// An answer with a word after it.
 #[tactic(auto, unfolding(crate::specs::Entry::answer_with))]
-fn answer_with(
+fn answer_with<'a>(
     alloc: Global,
-    names: &Names,
+    names: &Names<'a>,
     kind: &[u8],
-    word: &Bytes,
+    word: &'a [u8],
 ) -> Result<ApiAnswer, FormFault>
     ensures { Answers FormFault.Memory result (answer_with (library_in names.now) kind.now word.now) }
 {
     if is_text(kind, "int") {
-        int_answer(word.as_slice())
+        int_answer(word)
     } else if is_text(kind, "text") {
-        text_answer(alloc, word.as_slice())
+        text_answer(alloc, word)
     } else if is_text(kind, "fresh") {
         fresh_answer(alloc, names, word)
     } else if is_text(kind, "arg") {
-        arg_answer(word.as_slice())
+        arg_answer(word)
     } else if is_text(kind, "throws") {
         throws_answer(alloc, names, word)
     } else {
@@ -208,24 +216,32 @@ fn text_answer(alloc: Global, word: &[u8]) -> Result<ApiAnswer, FormFault>
 }
 
 #[tactic(auto, unfolding(crate::specs::Entry::fresh_answer))]
-fn fresh_answer(alloc: Global, names: &Names, word: &Bytes) -> Result<ApiAnswer, FormFault>
+fn fresh_answer<'a>(
+    alloc: Global,
+    names: &Names<'a>,
+    word: &'a [u8],
+) -> Result<ApiAnswer, FormFault>
     ensures { Answers FormFault.Memory result (fresh_answer (library_in names.now) word.now) }
 {
     if !names.classes.contains(word) {
         return Err(FormFault::NoForm);
     }
-    let class = word.copy(alloc)?;
+    let class = Bytes::from_slice(alloc, word)?;
     Ok(ApiAnswer::Fresh(class))
 }
 
 #[tactic(auto, unfolding(crate::specs::Entry::throws_answer))]
-fn throws_answer(alloc: Global, names: &Names, word: &Bytes) -> Result<ApiAnswer, FormFault>
+fn throws_answer<'a>(
+    alloc: Global,
+    names: &Names<'a>,
+    word: &'a [u8],
+) -> Result<ApiAnswer, FormFault>
     ensures { Answers FormFault.Memory result (throws_answer (library_in names.now) word.now) }
 {
     if !names.classes.contains(word) {
         return Err(FormFault::NoForm);
     }
-    let class = word.copy(alloc)?;
+    let class = Bytes::from_slice(alloc, word)?;
     Ok(ApiAnswer::Throws(class))
 }
 
@@ -240,50 +256,38 @@ fn arg_answer(word: &[u8]) -> Result<ApiAnswer, FormFault>
 // ---- events
 
 #[tactic(auto, unfolding(crate::specs::Entry::event_line))]
-fn event_line(
+fn event_line<'a>(
     alloc: Global,
-    names: &Names,
+    names: &Names<'a>,
     verb: &[u8],
     thread: &[u8],
-    class: &[u8],
-    rest: &[Bytes],
+    class: &'a [u8],
+    rest: &mut Pieces<'a>,
 ) -> Result<Entry, FormFault>
-    ensures { Answers FormFault.Memory result (event_line (library_in names.now) verb.now thread.now class.now rest.now) }
+    ensures { Answers FormFault.Memory result (event_line (library_in names.now) verb.now thread.now class.now rest.old) }
 {
-    match rest {
-        [name, desc, values @ ..] => {
-            let id = id_of(alloc, class, name, desc)?;
-            method_event(alloc, names, verb, thread, &id, values)
-        }
-        _ => Err(FormFault::NoForm),
-    }
-}
-
-fn id_of(alloc: Global, class: &[u8], name: &Bytes, desc: &Bytes) -> Result<MethodId, NoMemory>
-    ensures { IfOk result (λ id. id ≡ id_of class.now name.now desc.now) }
-{
-    let class = Bytes::from_slice(alloc, class)?;
-    let name = name.copy(alloc)?;
-    let desc = desc.copy(alloc)?;
-    Ok(MethodId { class, name, desc })
+    let name = next_word(rest)?;
+    let desc = next_word(rest)?;
+    let id = MethodName { class, name, desc };
+    method_event(alloc, names, verb, thread, &id, rest)
 }
 
 #[tactic(auto, unfolding(crate::specs::Entry::method_event))]
-fn method_event(
+fn method_event<'a>(
     alloc: Global,
-    names: &Names,
+    names: &Names<'a>,
     verb: &[u8],
     thread: &[u8],
-    id: &MethodId,
-    values: &[Bytes],
+    id: &MethodName<'a>,
+    values: &mut Pieces<'a>,
 ) -> Result<Entry, FormFault>
-    ensures { Answers FormFault.Memory result (method_event (library_in names.now) verb.now thread.now id.now values.now) }
+    ensures { Answers FormFault.Memory result (method_event (library_in names.now) verb.now thread.now (id_in id.now) values.old) }
 {
     let thread = listed_index(thread)?;
     let Some(method) = names.methods.get(id) else {
         return Err(FormFault::NoForm);
     };
-    let void = gives_nothing(id.desc.as_slice());
+    let void = gives_nothing(id.desc);
     event_of(alloc, verb, thread, *method, void, values)
 }
 
@@ -301,9 +305,9 @@ fn event_of(
     thread: u32,
     method: u32,
     void: bool,
-    values: &[Bytes],
+    values: &mut Pieces,
 ) -> Result<Entry, FormFault>
-    ensures { Answers FormFault.Memory result (event_of verb.now thread method void values.now) }
+    ensures { Answers FormFault.Memory result (event_of verb.now thread method void values.old) }
 {
     if is_text(verb, "call") {
         call_event(alloc, thread, method, values)
@@ -317,8 +321,13 @@ fn event_of(
 }
 
 #[tactic(auto, unfolding(crate::specs::Entry::call_event))]
-fn call_event(alloc: Global, thread: u32, method: u32, values: &[Bytes]) -> Result<Entry, FormFault>
-    ensures { Answers FormFault.Memory result (call_event thread method values.now) }
+fn call_event(
+    alloc: Global,
+    thread: u32,
+    method: u32,
+    values: &mut Pieces,
+) -> Result<Entry, FormFault>
+    ensures { Answers FormFault.Memory result (call_event thread method values.old) }
 {
     let args = values_of(alloc, values)?;
     Ok(Entry::Seen(Event::Call {
@@ -328,15 +337,13 @@ fn call_event(alloc: Global, thread: u32, method: u32, values: &[Bytes]) -> Resu
     }))
 }
 
-fn values_of(alloc: Global, words: &[Bytes]) -> Result<List<ApiValue>, FormFault>
-    ensures { Answers FormFault.Memory result (values_from [] words.now) }
+fn values_of(alloc: Global, words: &mut Pieces) -> Result<List<ApiValue>, FormFault>
+    ensures { Answers FormFault.Memory result (values_from [] words.old) }
 {
     let mut values = List::new(alloc);
-    let mut left = words;
-    while let [word, rest @ ..] = left {
-        let value = value_at(alloc, word.as_slice())?;
+    while let Some(word) = words.next() {
+        let value = value_at(alloc, word)?;
         values.push(value)?;
-        left = rest;
     }
     Ok(values)
 }
@@ -347,9 +354,9 @@ fn return_event(
     thread: u32,
     method: u32,
     void: bool,
-    values: &[Bytes],
+    values: &mut Pieces,
 ) -> Result<Entry, FormFault>
-    ensures { Answers FormFault.Memory result (return_event thread method void values.now) }
+    ensures { Answers FormFault.Memory result (return_event thread method void values.old) }
 {
     let value = result_of(alloc, void, values)?;
     Ok(Entry::Seen(Event::Return {
@@ -360,32 +367,26 @@ fn return_event(
 }
 
 #[tactic(auto, unfolding(crate::specs::Entry::result_of))]
-fn result_of(alloc: Global, void: bool, values: &[Bytes]) -> Result<Option<ApiValue>, FormFault>
-    ensures { Answers FormFault.Memory result (result_of void values.now) }
+fn result_of(alloc: Global, void: bool, values: &mut Pieces) -> Result<Option<ApiValue>, FormFault>
+    ensures { Answers FormFault.Memory result (result_of void values.old) }
 {
-    match values {
-        [] => {
-            if void {
-                Ok(None)
-            } else {
-                Err(FormFault::NoForm)
-            }
-        }
-        [word] => {
-            if void {
-                Err(FormFault::NoForm)
-            } else {
-                let value = value_at(alloc, word.as_slice())?;
-                Ok(Some(value))
-            }
-        }
-        _ => Err(FormFault::NoForm),
+    let Some(word) = values.next() else {
+        return if void {
+            Ok(None)
+        } else {
+            Err(FormFault::NoForm)
+        };
+    };
+    if void || !values.is_empty() {
+        return Err(FormFault::NoForm);
     }
+    let value = value_at(alloc, word)?;
+    Ok(Some(value))
 }
 
 #[tactic(auto, unfolding(crate::specs::Entry::except_event))]
-fn except_event(thread: u32, method: u32, values: &[Bytes]) -> Result<Entry, FormFault>
-    ensures { Answers FormFault.Memory result (except_event thread method values.now) }
+fn except_event(thread: u32, method: u32, values: &mut Pieces) -> Result<Entry, FormFault>
+    ensures { Answers FormFault.Memory result (except_event thread method values.old) }
 {
     if !values.is_empty() {
         return Err(FormFault::NoForm);
@@ -396,8 +397,8 @@ fn except_event(thread: u32, method: u32, values: &[Bytes]) -> Result<Entry, For
 // ---- the end
 
 #[tactic(auto, unfolding(crate::specs::Entry::end_line))]
-fn end_line(kind: &[u8], second: &[u8], rest: &[Bytes]) -> Result<Entry, FormFault>
-    ensures { Answers FormFault.Memory result (end_line kind.now second.now rest.now) }
+fn end_line(kind: &[u8], second: &[u8], rest: &mut Pieces) -> Result<Entry, FormFault>
+    ensures { Answers FormFault.Memory result (end_line kind.now second.now rest.old) }
 {
     if ends(kind, second, rest) {
         Ok(Entry::End)
@@ -406,14 +407,16 @@ fn end_line(kind: &[u8], second: &[u8], rest: &[Bytes]) -> Result<Entry, FormFau
     }
 }
 
-fn ends(kind: &[u8], second: &[u8], rest: &[Bytes]) -> bool
-    ensures { result ≡ ends kind.now second.now rest.now }
+fn ends(kind: &[u8], second: &[u8], rest: &mut Pieces) -> bool
+    ensures { result ≡ ends kind.now second.now rest.old }
 {
-    match rest {
-        [] => is_end(kind) && is_count(second),
-        [third] => is_text(kind, "stopped") && is_int(second) && is_count(third.as_slice()),
-        _ => false,
+    let Some(third) = rest.next() else {
+        return is_end(kind) && is_count(second);
+    };
+    if !rest.is_empty() {
+        return false;
     }
+    is_text(kind, "stopped") && is_int(second) && is_count(third)
 }
 
 fn is_end(kind: &[u8]) -> bool

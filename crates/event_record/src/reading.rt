@@ -1,6 +1,6 @@
 //! A record out of its text.
 
-ghost use Rattle.std.specs.Prelude.{◌≡◌, ◌<◌, ◌+◌, ◌++◌, ◌^◌, false, nat_lt, length, map, replicate, IfOk, MatchResult, OnOk};
+ghost use Rattle.std.specs.Prelude.{◌≡◌, ◌<◌, ◌≤◌, ◌+◌, ◌++◌, ◌^◌, false, nat_lt, length, replicate, IfOk, MatchResult, OnOk};
 ghost use Rattle.api_listing.specs.Words.{pieces};
 ghost use Rattle.event_record.specs.declared.fault.RecordFault.TheVariants.{Memory};
 ghost use Rattle.event_record.specs.declared.reading.Record.{Record};
@@ -22,7 +22,7 @@ ghost use Rattle.event_record.specs.Encoding.{EncodesRecord};
 use crate::entry::{Entry, entry_of};
 use crate::fault::RecordFault;
 use crate::names::{Names, names_of};
-use crate::words::{parts_of, words_of};
+use crate::words::Pieces;
 use api_listing::{Event, FormFault, Listing};
 use guest_model::{Choice, Step};
 use mon_base::{List, NoMemory};
@@ -56,33 +56,35 @@ pub fn read_record(alloc: Global, text: &[u8], listing: &Listing) -> Result<Reco
     read_text(alloc, text, listing)
 }
 
-fn read_text(alloc: Global, text: &[u8], listing: &Listing) -> Result<Record, RecordFault>
+fn read_text<'a>(alloc: Global, text: &'a [u8], listing: &'a Listing) -> Result<Record, RecordFault>
     requires { length listing.now.methods < 2 ^ 32 }
     ensures { Answers RecordFault.Memory result (reading text.now listing.now) }
 {
     let names = names_of(alloc, listing)?;
-    let lines = parts_of(alloc, text, b'\n')?;
-    read_lines(alloc, &names, lines.as_slice())
+    let mut lines = Pieces::lines(text);
+    read_lines(alloc, &names, &mut lines)
 }
 
-fn read_lines(alloc: Global, names: &Names, lines: &[&[u8]]) -> Result<Record, RecordFault>
-    requires { length lines.now < 2 ^ 63 }
-    ensures { Answers RecordFault.Memory result (after_lines (library_in names.now) 1 empty_record (map (λ p. p.now) lines.now)) }
+fn read_lines<'a>(
+    alloc: Global,
+    names: &Names<'a>,
+    lines: &mut Pieces<'a>,
+) -> Result<Record, RecordFault>
+    requires { length lines.old ≤ 2 ^ 63 }
+    ensures { Answers RecordFault.Memory result (after_lines (library_in names.now) 1 empty_record lines.old) }
 {
     let mut so_far = empty_record(alloc);
     let mut number: u64 = 1;
-    let mut left = lines;
-    while let [line, rest @ ..] = left {
-        if rest.is_empty() {
+    while let Some(line) = lines.next() {
+        if lines.is_empty() {
             return Err(RecordFault::Line { line: number });
         }
         let told = after_line(alloc, names, number, so_far, line)?;
         if told.is_last {
-            return over(number, told.after, rest);
+            return over(number, told.after, lines);
         }
         so_far = told.after;
         number += 1;
-        left = rest;
     }
     Err(RecordFault::Line { line: number })
 }
@@ -97,9 +99,9 @@ fn empty_record(alloc: Global) -> Record
 }
 
 /// What the end line gives, with what stands after its newline.
-fn over(number: u64, so_far: Record, rest: &[&[u8]]) -> Result<Record, RecordFault>
+fn over(number: u64, so_far: Record, rest: &mut Pieces) -> Result<Record, RecordFault>
     requires { number + 1 < 2 ^ 64 }
-    ensures { Answers RecordFault.Memory result (over number so_far (map (λ p. p.now) rest.now)) }
+    ensures { Answers RecordFault.Memory result (over number so_far rest.old) }
 {
     if is_over(rest) {
         Ok(so_far)
@@ -108,28 +110,28 @@ fn over(number: u64, so_far: Record, rest: &[&[u8]]) -> Result<Record, RecordFau
     }
 }
 
-fn is_over(rest: &[&[u8]]) -> bool
-    ensures { result ≡ is_over (map (λ p. p.now) rest.now) }
+fn is_over(rest: &mut Pieces) -> bool
+    ensures { result ≡ is_over rest.old }
 {
-    match rest {
-        [] => true,
-        [last, others @ ..] => last.is_empty() && others.is_empty(),
+    match rest.next() {
+        None => true,
+        Some(last) => last.is_empty() && rest.is_empty(),
     }
 }
 
 /// The record after the line with this number.
 #[tactic(auto, unfolding(crate::specs::Record::after_line))]
-fn after_line(
+fn after_line<'a>(
     alloc: Global,
-    names: &Names,
+    names: &Names<'a>,
     number: u64,
     so_far: Record,
-    line: &[u8],
+    line: &'a [u8],
 ) -> Result<Told, RecordFault>
     ensures { Answers RecordFault.Memory result (after_line (library_in names.now) number so_far line.now) }
 {
-    let words = words_of(alloc, line)?;
-    match entry_of(alloc, names, words.as_slice()) {
+    let mut words = Pieces::words(line);
+    match entry_of(alloc, names, &mut words) {
         Ok(entry) => with_entry(number, so_far, entry),
         Err(FormFault::NoForm) => Err(RecordFault::Line { line: number }),
         Err(FormFault::Memory) => Err(RecordFault::Memory),

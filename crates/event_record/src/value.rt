@@ -139,7 +139,7 @@ pub fn hex_at(alloc: Global, text: &[u8]) -> Result<Bytes, FormFault>
 fn bytes_of(alloc: Global, text: &[u8]) -> Result<Bytes, FormFault>
     ensures { Answers FormFault.Memory result (bytes_from [] text.now) }
 {
-    let mut bytes = Bytes::new(alloc);
+    let mut bytes = Bytes::from_vec(Vec::with_capacity(alloc, text.len() / 2)?);
     let mut left = text;
     while let [high, low, rest @ ..] = left {
         let byte = byte_at(*high, *low)?;
