@@ -9,37 +9,25 @@ use Rattle.api_listing.specs.declared.events.Event.{Event}
 use Rattle.conspec_automaton.specs.declared.policy.Clause.{Clause}
 use Rattle.conspec_automaton.specs.declared.policy.Policy.{Policy}
 use Rattle.conspec_automaton.specs.Next.{Values}
-use Rattle.conspec_automaton.specs.Points.{choices_of, each_choice, events_of, made, size_of, state_of, states_of}
-use Rattle.conspec_automaton.specs.Trying.{Placed, Point, Trial, breaks, clauses_of, points_in, seconds_of}
-use Rattle.race_free_check.specs.Choosing.{chosen, event_choices}
-use Rattle.race_free_check.specs.Deciding.{broken_in}
-use Rattle.race_free_check.specs.Searching.{IsSecond, Searched, broken_among, broken_with, first_some}
+use Rattle.conspec_automaton.specs.Points.{choices_of, each_choice, made, size_of, state_of, states_of}
+use Rattle.conspec_automaton.specs.Trying.{Placed, Point, breaks, points_in}
+use Rattle.race_free_check.specs.Choosing.{chosen}
+use Rattle.race_free_check.specs.Distinct.{distinct_choices, distinct_events, distinct_seconds}
+use Rattle.race_free_check.specs.Searching.{IsSecond, broken_among, broken_with, first_some}
+use Rattle.race_free_check.proofs.Fewer.{first_agreed}
 use Rattle.race_free_check.proofs.Numbered.{chosen_there, got_mapped, left_from, length_choices}
 
 -- ---- the first of which something is found
-
-first_agreed : {X Y : Type 0} (test other : X → Option Y) → ((x : X) → test x ≡ other x) → (xs : List X) → first_some test xs ≡ first_some other xs
-first_agreed test other agree [] = refl
-first_agreed test other agree (x ∷ xs) = ap (λ (o : Option _). option_or o (first_some test xs)) (agree x) ∙ ap (option_or (other x)) (first_agreed test other agree xs)
 
 find_flat : {X Y : Type 0} (test : Y → Bool) (f : X → List Y) (xs : List X) → find test (flat_map f xs) ≡ first_some (λ x. find test (f x)) xs
 find_flat test f [] = refl
 find_flat test f (x ∷ xs) = find-append test (f x) (flat_map f xs) ∙ ap (option_or (find test (f x))) (find_flat test f xs)
 
 -- To try all points is to try them state by state, and first event by first event.
-found_among : (policy : Policy) (states : List Values) (firsts : List Event) (seconds : List (Option Event)) → find (breaks policy) (points_in states firsts seconds) ≡ broken_among policy states firsts seconds
+pub found_among : (policy : Policy) (states : List Values) (firsts : List Event) (seconds : List (Option Event)) → find (breaks policy) (points_in states firsts seconds) ≡ broken_among policy states firsts seconds
 found_among policy states firsts seconds =
     find_flat (breaks policy) (λ state. flat_map (λ first. map (λ second. record { state = state; first = first; second = second }) seconds) firsts) states
     ∙ first_agreed _ _ (λ (state : Values). find_flat (breaks policy) (λ first. map (λ second. record { state = state; first = first; second = second }) seconds) firsts) states
-
-abbrev broken_of : Searched → Option Point
-broken_of s = broken_among s.policy (states_of s.policy (clauses_of s.trial)) (events_of s.trial.first.1) (seconds_of s.trial.second)
-
--- What is found of what is searched is found of the trial.
-pub searched_is : (s : Searched) (policy : Policy) (trial : Trial) (o : Option Point) → s ≡ record { policy = policy; trial = trial } → broken_of s ≡ o → o ≡ broken_in policy trial
-unfolding broken_in
-searched_is s policy trial o same found =
-    sym found ∙ ap broken_of same ∙ sym (found_among policy (states_of policy (clauses_of trial)) (events_of trial.first.1) (seconds_of trial.second))
 
 -- ---- a search from a place on
 
@@ -64,32 +52,32 @@ state_there policy clauses n below = got_mapped state_of (each_choice (choices_o
 pub states_length : (policy : Policy) (clauses : List Clause) → length (states_of policy clauses) ≡ size_of (choices_of policy clauses)
 states_length policy clauses = length-map (each_choice (choices_of policy clauses)) state_of ∙ length_choices (choices_of policy clauses)
 
-pub event_there : (c : Clause) (n : ℕ) → n < size_of (event_choices c) → slice_get (events_of c) n ≡ Some (made c (chosen (event_choices c) n))
+pub event_there : (c : Clause) (n : ℕ) → n < size_of (distinct_choices c) → slice_get (distinct_events c) n ≡ Some (made c (chosen (distinct_choices c) n))
 event_there c n below =
-    got_mapped (made c) (each_choice (event_choices c)) n
-    ∙ ap (option_map (made c)) (chosen_there (event_choices c) n below)
+    got_mapped (made c) (each_choice (distinct_choices c)) n
+    ∙ ap (option_map (made c)) (chosen_there (distinct_choices c) n below)
 
-pub events_length : (c : Clause) → length (events_of c) ≡ size_of (event_choices c)
-events_length c = length-map (each_choice (event_choices c)) (made c) ∙ length_choices (event_choices c)
+pub events_length : (c : Clause) → length (distinct_events c) ≡ size_of (distinct_choices c)
+events_length c = length-map (each_choice (distinct_choices c)) (made c) ∙ length_choices (distinct_choices c)
 
-second_there : (second : Placed) (n : ℕ) → n < size_of (event_choices second.1) → slice_get (seconds_of (Some second)) n ≡ Some (Some (made second.1 (chosen (event_choices second.1) n)))
-second_there second n below = got_mapped Some (events_of second.1) n ∙ ap (option_map Some) (event_there second.1 n below)
+second_there : (second : Placed) (n : ℕ) → n < size_of (distinct_choices second.1) → slice_get (distinct_seconds (Some second)) n ≡ Some (Some (made second.1 (chosen (distinct_choices second.1) n)))
+second_there second n below = got_mapped Some (distinct_events second.1) n ∙ ap (option_map Some) (event_there second.1 n below)
 
-seconds_length : (second : Placed) → length (seconds_of (Some second)) ≡ size_of (event_choices second.1)
-seconds_length second = length-map (events_of second.1) Some ∙ events_length second.1
+seconds_length : (second : Placed) → length (distinct_seconds (Some second)) ≡ size_of (distinct_choices second.1)
+seconds_length second = length-map (distinct_events second.1) Some ∙ events_length second.1
 
 -- the same where the second clause is told alone
-pub second_of : (second : Option Placed) (c : Clause) → option_map (λ (p : Placed). p.1) second ≡ Some c → (n : ℕ) → n < size_of (event_choices c) → slice_get (seconds_of second) n ≡ Some (Some (made c (chosen (event_choices c) n)))
+pub second_of : (second : Option Placed) (c : Clause) → option_map (λ (p : Placed). p.1) second ≡ Some c → (n : ℕ) → n < size_of (distinct_choices c) → slice_get (distinct_seconds second) n ≡ Some (Some (made c (chosen (distinct_choices c) n)))
 second_of None c e n below = absurd cc
 second_of (Some second) c e n below =
     let same : second.1 ≡ c = cc in
-    subst (λ (d : Clause). n < size_of (event_choices d) → slice_get (seconds_of (Some second)) n ≡ Some (Some (made d (chosen (event_choices d) n)))) same (second_there second n) below
+    subst (λ (d : Clause). n < size_of (distinct_choices d) → slice_get (distinct_seconds (Some second)) n ≡ Some (Some (made d (chosen (distinct_choices d) n)))) same (second_there second n) below
 
-pub seconds_of_length : (second : Option Placed) (c : Clause) → option_map (λ (p : Placed). p.1) second ≡ Some c → length (seconds_of second) ≡ size_of (event_choices c)
+pub seconds_of_length : (second : Option Placed) (c : Clause) → option_map (λ (p : Placed). p.1) second ≡ Some c → length (distinct_seconds second) ≡ size_of (distinct_choices c)
 seconds_of_length None c e = absurd cc
 seconds_of_length (Some second) c e =
     let same : second.1 ≡ c = cc in
-    seconds_length second ∙ ap (λ (d : Clause). size_of (event_choices d)) same
+    seconds_length second ∙ ap (λ (d : Clause). size_of (distinct_choices d)) same
 
 -- The second event that is made is one of the second clause.
 pub second_is : (second : Option Placed) (c : Clause) → option_map (λ (p : Placed). p.1) second ≡ Some c → (o : Option Event) (ns : List ApiValue) → o ≡ Some (made c ns) → IsSecond second o
@@ -106,11 +94,11 @@ abbrev pub point_of : Values → Event → Option Event → Point
 point_of state first second = record { state = state; first = first; second = second }
 
 -- the point, where it breaks the condition
-abbrev if_breaks : Policy → Point → Option Point
+abbrev pub if_breaks : Policy → Point → Option Point
 if_breaks policy point = cond (breaks policy point) (Some point) None
 
 module _ (policy : Policy) (state : Values) (first : Event) where
-  with_second : (seconds : List (Option Event)) → broken_with policy state first seconds ≡ first_some (λ second. if_breaks policy (point_of state first second)) seconds
+  pub with_second : (seconds : List (Option Event)) → broken_with policy state first seconds ≡ first_some (λ second. if_breaks policy (point_of state first second)) seconds
   with_second [] = refl
   with_second (second ∷ seconds) = by (breaks policy (point_of state first second)) (with_second seconds) where
     by : (b : Bool) → broken_with policy state first seconds ≡ first_some (λ second. if_breaks policy (point_of state first second)) seconds

@@ -5,6 +5,9 @@ pub mod Sizes
 pub mod Numbered
 pub mod Making
 pub mod Found
+pub mod Fewer
+pub mod Alike
+pub mod Skipping
 pub mod Ranges
 pub mod Judging
 pub mod Named

@@ -5,11 +5,12 @@ use Rattle.api_listing.specs.declared.events.ApiValue.{ApiValue}
 use Rattle.api_listing.specs.declared.events.Event.{Event}
 use Rattle.conspec_automaton.specs.declared.policy.Clause.{Clause}
 use Rattle.conspec_automaton.specs.Next.{Values}
-use Rattle.conspec_automaton.specs.Points.{choices_of, events_of, made, size_of, state_of, states_of}
+use Rattle.conspec_automaton.specs.Points.{choices_of, made, size_of, state_of, states_of}
 use Rattle.conspec_automaton.specs.Range.{in_range}
 use Rattle.conspec_automaton.specs.Sound.{IsPolicy}
-use Rattle.conspec_automaton.specs.Trying.{Placed, breaks, clauses_of, seconds_of}
-use Rattle.race_free_check.specs.Choosing.{IsMade, chosen, event_choices}
+use Rattle.conspec_automaton.specs.Trying.{Placed, breaks, clauses_of}
+use Rattle.race_free_check.specs.Choosing.{IsMade, chosen}
+use Rattle.race_free_check.specs.Distinct.{distinct_choices, distinct_events, distinct_seconds}
 use Rattle.race_free_check.specs.Searching.{IsSecond, Searched}
 use Rattle.race_free_check.proofs.Found.{event_there, events_length, point_of, second_is, second_of, seconds_of_length, state_there, states_length}
 use Rattle.race_free_check.proofs.Fitting.{state_in_range}
@@ -21,11 +22,11 @@ pub record ReachedState (s : Searched) (number : ℕ) (state : Values) : Type 0 
   pub ranged : IsPolicy s.policy → in_range s.policy state ≡ true
 
 pub record ReachedFirst (s : Searched) (number : ℕ) (event : Event) : Type 0 where
-  pub there : slice_get (events_of s.trial.first.1) number ≡ Some event
+  pub there : slice_get (distinct_events s.trial.first.1) number ≡ Some event
   pub made : IsMade s.trial.first.1 event
 
 pub record ReachedSecond (s : Searched) (number : ℕ) (event : Option Event) : Type 0 where
-  pub there : slice_get (seconds_of s.trial.second) number ≡ Some event
+  pub there : slice_get (distinct_seconds s.trial.second) number ≡ Some event
   pub made : IsSecond s.trial.second event
 
 -- What is searched is s, and seen as another that is equal.
@@ -58,17 +59,17 @@ module _ (view s : Searched) (seen : view ≡ s) where
     clause_is : clause ≡ s.trial.first.1
     clause_is = is ∙ ap (λ (t : Searched). t.trial.first.1) seen
 
-    pub first_reached : (count number : ℕ) (event : Event) → count ≡ size_of (event_choices clause) → number < count → event ≡ made clause (chosen (event_choices clause) number) → ReachedFirst s number event
+    pub first_reached : (count number : ℕ) (event : Event) → count ≡ size_of (distinct_choices clause) → number < count → event ≡ made clause (chosen (distinct_choices clause) number) → ReachedFirst s number event
     first_reached count number event counted below e =
-        let inside = subst (λ (n : ℕ). number < n) (counted ∙ ap (λ (d : Clause). size_of (event_choices d)) clause_is) below in
-        let event_is = e ∙ ap (λ (d : Clause). made d (chosen (event_choices d) number)) clause_is in
+        let inside = subst (λ (n : ℕ). number < n) (counted ∙ ap (λ (d : Clause). size_of (distinct_choices d)) clause_is) below in
+        let event_is = e ∙ ap (λ (d : Clause). made d (chosen (distinct_choices d) number)) clause_is in
         record {
           there = event_there s.trial.first.1 number inside ∙ ap (λ (f : Event). Some f) (sym event_is);
-          made = (chosen (event_choices s.trial.first.1) number, event_is);
+          made = (chosen (distinct_choices s.trial.first.1) number, event_is);
         }
 
-    pub firsts_done : (count number : ℕ) → count ≡ size_of (event_choices clause) → count ≤ number → length (events_of s.trial.first.1) ≤ number
-    firsts_done count number counted all = subst (λ (n : ℕ). n ≤ number) (counted ∙ ap (λ (d : Clause). size_of (event_choices d)) clause_is ∙ sym (events_length s.trial.first.1)) all
+    pub firsts_done : (count number : ℕ) → count ≡ size_of (distinct_choices clause) → count ≤ number → length (distinct_events s.trial.first.1) ≤ number
+    firsts_done count number counted all = subst (λ (n : ℕ). n ≤ number) (counted ∙ ap (λ (d : Clause). size_of (distinct_choices d)) clause_is ∙ sym (events_length s.trial.first.1)) all
 
   -- ---- second events
 
@@ -76,14 +77,14 @@ module _ (view s : Searched) (seen : view ≡ s) where
     second_clause : option_map (λ (p : Placed). p.1) s.trial.second ≡ Some clause
     second_clause = sym (are ∙ ap (λ (t : Searched). option_map (λ (p : Placed). p.1) t.trial.second) seen) ∙ is
 
-    pub second_reached : (count number : ℕ) (event : Option Event) → count ≡ size_of (event_choices clause) → number < count → event ≡ Some (made clause (chosen (event_choices clause) number)) → ReachedSecond s number event
+    pub second_reached : (count number : ℕ) (event : Option Event) → count ≡ size_of (distinct_choices clause) → number < count → event ≡ Some (made clause (chosen (distinct_choices clause) number)) → ReachedSecond s number event
     second_reached count number event counted below e =
         record {
           there = second_of s.trial.second clause second_clause number (subst (λ (n : ℕ). number < n) counted below) ∙ ap (λ (o : Option Event). Some o) (sym e);
-          made = second_is s.trial.second clause second_clause event (chosen (event_choices clause) number) e;
+          made = second_is s.trial.second clause second_clause event (chosen (distinct_choices clause) number) e;
         }
 
-    pub seconds_done : (count number : ℕ) → count ≡ size_of (event_choices clause) → count ≤ number → length (seconds_of s.trial.second) ≤ number
+    pub seconds_done : (count number : ℕ) → count ≡ size_of (distinct_choices clause) → count ≤ number → length (distinct_seconds s.trial.second) ≤ number
     seconds_done count number counted all = subst (λ (n : ℕ). n ≤ number) (counted ∙ sym (seconds_of_length s.trial.second clause second_clause)) all
 
   -- what breaks the condition of the one breaks that of the other

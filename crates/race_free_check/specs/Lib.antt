@@ -2,6 +2,7 @@ pub mod Apart
 pub mod Borrowed
 pub mod Choosing
 pub mod Deciding
+pub mod Distinct
 pub mod Laws
 pub mod Limit
 pub mod Searching

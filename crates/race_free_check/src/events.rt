@@ -1,4 +1,4 @@
-//! The events at which a clause is tried.
+//! The events that a clause's points make.
 
 ghost use Rattle.std.specs.Prelude.{◌≡◌, ◌≤◌, [], length, slice_get, IfOk, OnOk};
 ghost use Rattle.conspec_automaton.specs.Points.{arguments_of, events_count, made, results_of};
@@ -56,7 +56,7 @@ fn results_of(alloc: Global, clause: &Clause) -> Result<List<List<ApiValue>>, No
     Ok(lists)
 }
 
-/// How many events of the clause are tried. It takes memory for the points of one argument at a time.
+/// How many events the clause's points make, alike ones too. It takes memory for the points of one argument at a time.
 pub fn events_count(alloc: Global, clause: &Clause) -> Result<u64, NoMemory>
     requires { length clause.now.args ≤ 255 }
     ensures { IfOk result (λ count. count ≡ capped (events_count clause.now clause.now.phase)) }
@@ -152,7 +152,7 @@ fn set_result(alloc: Global, value: &mut Option<ApiValue>, choice: Choosing) -> 
 }
 
 /// An equal value. It takes memory for texts and names alone.
-fn copied(alloc: Global, value: &ApiValue) -> Result<ApiValue, NoMemory>
+pub fn copied(alloc: Global, value: &ApiValue) -> Result<ApiValue, NoMemory>
     ensures { IfOk result (λ copy. copy ≡ value.now) }
 {
     match value {

@@ -9,6 +9,7 @@ mod apart;
 mod choices;
 mod clauses;
 mod deciding;
+mod distinct;
 mod events;
 mod fault;
 mod laws;

@@ -77,7 +77,8 @@ fn any_changes(updates: &[Update], var: u32) -> bool
     updates.iter().any(|update| target(*update) == var)
 }
 
-fn is_same(base: Base, other: Base) -> bool
+/// Whether the bases are the same.
+pub fn is_same(base: Base, other: Base) -> bool
     ensures { result ≡ is_same base other }
 {
     match (base, other) {

@@ -1,16 +1,18 @@
 //! The search for the first point that breaks a condition. A point of numbers takes no memory.
 
 ghost use Rattle.std.specs.Prelude.{◌≡◌, ◌≢◌, ◌≤◌, ◌<◌, Some, None, true, length, IfOk, IfSome, IsTrue, MatchBool, OnOk};
-ghost use Rattle.conspec_automaton.specs.Points.{events_of, made, size_of, states_of};
+ghost use Rattle.conspec_automaton.specs.Points.{made, size_of, states_of};
 ghost use Rattle.conspec_automaton.specs.Range.{in_range};
 ghost use Rattle.conspec_automaton.specs.Sound.{IsPolicy};
-ghost use Rattle.conspec_automaton.specs.Trying.{clauses_of, is_small, seconds_of};
-ghost use Rattle.race_free_check.specs.Choosing.{IsMade, chosen, event_choices};
+ghost use Rattle.conspec_automaton.specs.Trying.{clauses_of, is_small};
+ghost use Rattle.race_free_check.specs.Choosing.{IsMade, chosen};
 ghost use Rattle.race_free_check.specs.Deciding.{AreClausesOf, broken_in};
+ghost use Rattle.race_free_check.specs.Distinct.{distinct_choices, distinct_events, distinct_seconds};
 ghost use Rattle.race_free_check.specs.Searching.{IsSecond, broken_among, broken_in_state, broken_with};
 
 use crate::choices::{Choosing, count_of};
-use crate::events::{event_choices, event_of, set_values};
+use crate::distinct::distinct_choices;
+use crate::events::{event_of, set_values};
 use crate::states::{choices_of, state_at};
 use crate::trial::TrialRef;
 use crate::trying::breaks;
@@ -36,7 +38,7 @@ impl Model for Point {
     ghost view = { λ p. record { state = p.state; first = p.first; second = p.second } };
 }
 
-/// The events of a clause that are tried, by the points of which each has one of each list. A contract sees the clause.
+/// The distinct events of a clause, by the points of which each has one of each list. A contract sees the clause.
 #[derive(Drop)]
 struct Events<'a> {
     clause: &'a Clause,
@@ -48,19 +50,19 @@ impl<'a> Model for Events<'a> {
     ghost use Rattle.std.specs.Prelude.{◌≡◌};
     ghost use Rattle.conspec_automaton.specs.declared.policy.Clause.{Clause};
     ghost use Rattle.conspec_automaton.specs.Points.{size_of};
-    ghost use Rattle.race_free_check.specs.Choosing.{event_choices};
+    ghost use Rattle.race_free_check.specs.Distinct.{distinct_choices};
 
     ghost Value = { Clause };
 
     ghost view = { λ e. e.clause.now };
 
-    ghost invariant = { λ e. (e.lists ≡ event_choices e.clause.now) × (e.count ≡ size_of e.lists) };
+    ghost invariant = { λ e. (e.lists ≡ distinct_choices e.clause.now) × (e.count ≡ size_of e.lists) };
 }
 
 impl<'a> Events<'a> {
     /// How many there are.
     fn count(&self) -> u64
-        ensures { result ≡ size_of (event_choices self.now) }
+        ensures { result ≡ size_of (distinct_choices self.now) }
     {
         self.count
     }
@@ -112,7 +114,7 @@ fn found_by(alloc: Global, search: &Search) -> Result<Option<Point>, NoMemory>
     requires { IsPolicy search.now.policy }
     ensures { IfOk result (λ found. found ≡ broken_among search.now.policy
         (states_of search.now.policy (clauses_of search.now.trial))
-        (events_of search.now.trial.first.1) (seconds_of search.now.trial.second)) }
+        (distinct_events search.now.trial.first.1) (distinct_seconds search.now.trial.second)) }
 {
     let mut point = point_of(alloc, &search.trial);
     if breaks_somewhere(alloc, search, &mut point)? {
@@ -150,10 +152,10 @@ fn search_of<'a>(
 
 fn events_of<'a>(alloc: Global, clause: &'a Clause) -> Result<Events<'a>, NoMemory>
     requires args { length clause.now.args ≤ 255 }
-    requires few { size_of (event_choices clause.now) ≤ 1000000 }
+    requires few { size_of (distinct_choices clause.now) ≤ 1000000 }
     ensures { IfOk result (λ events. events ≡ clause.now) }
 {
-    let lists = event_choices(alloc, clause)?;
+    let lists = distinct_choices(alloc, clause)?;
     let count = count_of(lists.as_slice());
     Ok(Events {
         clause,
@@ -185,9 +187,9 @@ fn breaks_somewhere(alloc: Global, search: &Search, point: &mut Point) -> Result
     requires second { IsSecond search.now.trial.second point.old.second }
     ensures { IfOk result (λ broken. MatchBool broken
         (broken_among search.now.policy (states_of search.now.policy (clauses_of search.now.trial))
-        (events_of search.now.trial.first.1) (seconds_of search.now.trial.second) ≡ Some point.new)
+        (distinct_events search.now.trial.first.1) (distinct_seconds search.now.trial.second) ≡ Some point.new)
         (broken_among search.now.policy (states_of search.now.policy (clauses_of search.now.trial))
-        (events_of search.now.trial.first.1) (seconds_of search.now.trial.second) ≡ None)) }
+        (distinct_events search.now.trial.first.1) (distinct_seconds search.now.trial.second) ≡ None)) }
 {
     for number in 0..search.count {
         point.state = state_at(search.states.as_slice(), number, search.count);
@@ -205,10 +207,10 @@ fn breaks_in_state(alloc: Global, search: &Search, point: &mut Point) -> Result<
     requires first { IsMade search.now.trial.first.1 point.old.first }
     requires second { IsSecond search.now.trial.second point.old.second }
     ensures broken { IfOk result (λ broken. MatchBool broken
-        (broken_in_state search.now.policy point.old.state (events_of search.now.trial.first.1)
-        (seconds_of search.now.trial.second) ≡ Some point.new)
-        (broken_in_state search.now.policy point.old.state (events_of search.now.trial.first.1)
-        (seconds_of search.now.trial.second) ≡ None)) }
+        (broken_in_state search.now.policy point.old.state (distinct_events search.now.trial.first.1)
+        (distinct_seconds search.now.trial.second) ≡ Some point.new)
+        (broken_in_state search.now.policy point.old.state (distinct_events search.now.trial.first.1)
+        (distinct_seconds search.now.trial.second) ≡ None)) }
     ensures first { OnOk result (IsMade search.now.trial.first.1 point.new.first) }
     ensures second { OnOk result (IsSecond search.now.trial.second point.new.second) }
 {
@@ -227,8 +229,8 @@ fn breaks_with_first(alloc: Global, search: &Search, point: &mut Point) -> Resul
     requires ranged { IsTrue (in_range search.now.policy point.old.state) }
     requires second { IsSecond search.now.trial.second point.old.second }
     ensures broken { IfOk result (λ broken. MatchBool broken
-        (broken_with search.now.policy point.old.state point.old.first (seconds_of search.now.trial.second) ≡ Some point.new)
-        (broken_with search.now.policy point.old.state point.old.first (seconds_of search.now.trial.second) ≡ None)) }
+        (broken_with search.now.policy point.old.state point.old.first (distinct_seconds search.now.trial.second) ≡ Some point.new)
+        (broken_with search.now.policy point.old.state point.old.first (distinct_seconds search.now.trial.second) ≡ None)) }
     ensures state { OnOk result (point.new.state ≡ point.old.state) }
     ensures first { OnOk result (point.new.first ≡ point.old.first) }
     ensures second { OnOk result (IsSecond search.now.trial.second point.new.second) }
@@ -248,8 +250,8 @@ fn breaks_with_first(alloc: Global, search: &Search, point: &mut Point) -> Resul
 /// Makes the event the one of this number.
 fn set_event(alloc: Global, events: &Events, number: u64, event: &mut Event) -> Result<(), NoMemory>
     requires made { IsMade events.now event.old }
-    requires there { number < size_of (event_choices events.now) }
-    ensures { OnOk result (event.new ≡ made events.now (chosen (event_choices events.now) number)) }
+    requires there { number < size_of (distinct_choices events.now) }
+    ensures { OnOk result (event.new ≡ made events.now (chosen (distinct_choices events.now) number)) }
 {
     let choice = Choosing::new(events.lists.as_slice(), number, events.count);
     set_values(alloc, event, choice)
@@ -263,8 +265,8 @@ fn set_second(
 ) -> Result<(), NoMemory>
     requires made { IfSome second.old (IsMade events.now) }
     requires some { second.old ≢ None }
-    requires there { number < size_of (event_choices events.now) }
-    ensures { OnOk result (second.new ≡ Some (made events.now (chosen (event_choices events.now) number))) }
+    requires there { number < size_of (distinct_choices events.now) }
+    ensures { OnOk result (second.new ≡ Some (made events.now (chosen (distinct_choices events.now) number))) }
 {
     match second {
         Some(event) => set_event(alloc, events, number, event),
