@@ -11,3 +11,6 @@ pub mod Solutions
 pub mod Meeting
 pub mod Firsts
 pub mod Placing
+pub mod Merging
+pub mod Unmade
+pub mod Grouping

@@ -196,12 +196,12 @@ module _ (place : InsnPlace) (reflexive : (t : VType) → assignable place.progr
       pub operands_are : (j : ℕ) → type_at stack j ≡ merged place.program (type_at old.stack j) (type_at operands j)
 
     pub merge_from : (program : Program) (old : FrameType) (locals operands joined stack : List VType) → program ≡ place.program → length old.stack ≡ length operands
-        → ((j : ℕ) → type_at joined j ≡ merged program (type_at old.locals j) (type_at locals j)) → length joined ≡ min (length old.locals) (length locals)
+        → ((j : ℕ) → type_at joined j ≡ merged program (type_at old.locals j) (type_at locals j)) → length joined ≤ length locals
         → ((j : ℕ) → type_at stack j ≡ merged program (type_at old.stack j) (type_at operands j)) → length stack ≡ min (length old.stack) (length operands)
         → IsMerge old locals operands joined stack
     merge_from program old locals operands joined stack p h l n o m = record {
       same = h;
-      few = omega arith;
+      few = n;
       height = omega arith;
       locals_are = λ j. subst (λ (q : Program). type_at joined j ≡ merged q (type_at old.locals j) (type_at locals j)) p (l j);
       operands_are = λ j. subst (λ (q : Program). type_at stack j ≡ merged q (type_at old.stack j) (type_at operands j)) p (o j);

@@ -1,5 +1,5 @@
 -- What may not find an object that is not made yet finds Top in its place.
-use Rattle.std.proofs.Common.{◌≡◌, ℕ, zero, suc, Bool, true, false, List, [], ◌∷◌, refl, sym, ap, subst, ◌∙◌, inl, inr, arith, None}
+use Rattle.std.proofs.Common.{◌≡◌, ℕ, zero, suc, Bool, true, false, List, [], ◌∷◌, map, refl, sym, ap, subst, ◌∙◌, inl, inr, arith, None}
 use Rattle.std.specs.Prelude.{not, ◌||◌, if◌then◌else◌}
 use Rattle.std.proofs.lemmas.Bool.{cases_Bool}
 use Rattle.std.proofs.lemmas.Bool.Decides.{nat_tests}
@@ -16,6 +16,7 @@ use Rattle.code_typing.specs.Order.{is_settled_at}
 use Rattle.bytecode_model.specs.InsnPlace.{InsnPlace, is_maker}
 use Rattle.bytecode_model.specs.Rules.{has_object}
 use Rattle.type_infer.specs.Solving.{unless, local_settled, operand_settled}
+use Rattle.type_infer.proofs.Lists.{type_at-map}
 
 -- ---- an object in a list
 
@@ -27,7 +28,7 @@ top_is_none (types.Ref name) = refl
 top_is_none types.UninitThis = refl
 top_is_none (types.Uninit i) = refl
 
-either_false : (a b : Bool) → (a || b) ≡ false → (a ≡ false) × (b ≡ false)
+pub either_false : (a b : Bool) → (a || b) ≡ false → (a ≡ false) × (b ≡ false)
 either_false true b e = absurd cc
 either_false false b e = (refl, e)
 
@@ -52,6 +53,15 @@ unless_free object t =
       | inl same ↦ rw same (top_is_none object)
       | inr other ↦ rw other other
     ]
+
+unless_top : (object : VType) → unless object types.Top ≡ types.Top
+unless_top object = rw (top_is_none object) refl
+
+pub free_stays : (object : VType) (xs : List VType) → has_object object xs ≡ false → (j : ℕ) → type_at xs j ≡ unless object (type_at xs j)
+free_stays object xs h j = rw (free_at object xs h j) refl
+
+pub unless_each : (object : VType) (xs left : List VType) → left ≡ map (unless object) xs → (j : ℕ) → type_at left j ≡ unless object (type_at xs j)
+unless_each object xs left e j = ap (λ (l : List VType). type_at l j) e ∙ type_at-map (unless object) (unless_top object) xs j
 
 module _ (program : Program) (reflexive : (t : VType) → assignable program t t ≡ true) where
   pub unless_above : (object t : VType) → assignable program t (unless object t) ≡ true

@@ -4,3 +4,5 @@ pub mod Untyped
 pub mod Laws
 pub mod Solving
 pub mod Sending
+pub mod Grouping
+pub mod Unmade

@@ -1,6 +1,7 @@
 //! Frames that come to one instruction.
 
-ghost use Rattle.std.specs.Prelude.{◌≡◌, ◌≤◌, ℕ, true, Some, length, min, option_copied, IfOk, IfSome, IsSome, IsTrue};
+ghost use Rattle.std.specs.Prelude.{◌≡◌, ◌≤◌, ℕ, true, Some, length, map, min, option_copied, IfOk, IfSome, IsSome, IsTrue};
+ghost use Rattle.cert_format.specs.declared.typing.VType.TheVariants.{UninitThis};
 ghost use Rattle.insn_codec.specs.Shapes.{shape_of};
 ghost use Rattle.bytecode_model.specs.Assigning.{assignable};
 ghost use Rattle.bytecode_model.specs.Order.{IsInOrder};
@@ -9,14 +10,15 @@ ghost use Rattle.bytecode_model.specs.Makes.{type_at};
 ghost use Rattle.code_typing.specs.Order.{IsFrameBelow, LocalsBelow};
 ghost use Rattle.type_infer.specs.Solving.{IsKept, IsOfHeight, IsRaisedBy, IsUnlessBelow, local_settled, operand_settled, unless};
 
-use crate::told::Told;
+use crate::told::{Locals, Told};
+use crate::types::{is_same_type, type_joined};
 use cert_format::{FrameType, VType};
 use code_typing::{PlaceRef, rows_follow_the_order};
-use frame_types::{is_maker, is_same_object};
+use frame_types::{has_this, is_maker, is_same_object};
 use insn_codec::{Heap, Shape, shape_of};
 use mon_base::{List, NoMemory};
 use std::alloc::Global;
-use type_lattice::{Indexed, assignable, assignable_is_an_order, merge, merge_is_the_least};
+use type_lattice::{Indexed, assignable, assignable_is_an_order, merge_is_the_least};
 
 /// The least types above both, in each place that both lists have.
 fn types_joined(
@@ -30,31 +32,78 @@ fn types_joined(
 {
     let mut joined = List::new(alloc);
     for i in 0..a.len().min(b.len()) {
-        let one = merge(alloc, program, &a[i], &b[i])?;
+        let one = type_joined(alloc, program, &a[i], &b[i])?;
         joined.push(one)?;
     }
     Ok(joined)
 }
 
-/// Makes the type Top, where it is of an object that is not made yet.
-fn pass(object: &VType, t: &mut VType)
-    ensures { t.new ≡ unless object.now t.old }
+/// Whether these are the least types above both, in each place.
+fn are_joined(
+    alloc: Global,
+    program: &Indexed,
+    a: &[VType],
+    b: &[VType],
+    joined: &[VType],
+) -> Result<bool, NoMemory>
+    ensures { IfOk result (λ are. IsTrue are → (j : ℕ) → type_at joined.now j ≡ merged program.now (type_at a.now j) (type_at b.now j)) }
+{
+    if joined.len() != a.len().min(b.len()) {
+        return Ok(false);
+    }
+    for i in 0..joined.len() {
+        let one = type_joined(alloc, program, &a[i], &b[i])?;
+        if !is_same_type(&one, &joined[i]) {
+            return Ok(false);
+        }
+    }
+    Ok(true)
+}
+
+/// The least locals above both. Where those that come are such, or those that stand there, they are shared.
+fn locals_joined(
+    alloc: Global,
+    program: &Indexed,
+    old: &Told,
+    locals: Locals,
+) -> Result<Locals, NoMemory>
+    ensures merged { IfOk result (λ joined. (j : ℕ) → type_at joined j ≡ merged program.now (type_at old.now.locals j) (type_at locals j)) }
+    ensures few { IfOk result (λ joined. length joined ≤ length locals) }
+{
+    let standing = old.locals()?;
+    let a = standing.as_slice();
+    let b = locals.as_slice();
+    if are_joined(alloc, program, a, b, b)? {
+        return Ok(locals);
+    }
+    if are_joined(alloc, program, a, b, a)? {
+        return Ok(standing);
+    }
+    let joined = types_joined(alloc, program, a, b)?;
+    Locals::new(alloc, joined)
+}
+
+/// The type, which is Top if it is of an object that is not made yet.
+fn unless(object: &VType, t: &VType) -> Result<VType, NoMemory>
+    ensures { IfOk result (λ left. left ≡ unless object.now t.now) }
 {
     if is_same_object(object, t) {
-        *t = VType::Top;
+        Ok(VType::Top)
+    } else {
+        t.share()
     }
 }
 
 /// The types, where those of an object that is not made yet are Top.
-fn without(object: &VType, types: List<VType>) -> List<VType>
-    ensures count { length result ≡ length types }
-    ensures types { (j : ℕ) → type_at result j ≡ unless object.now (type_at types j) }
+fn without(alloc: Global, object: &VType, types: &[VType]) -> Result<List<VType>, NoMemory>
+    ensures { IfOk result (λ left. left ≡ map (unless object.now) types.now) }
 {
-    let mut left = types.into_vec();
-    for i in 0..left.len() {
-        pass(object, &mut left[i]);
+    let mut left = List::new(alloc);
+    for t in types {
+        let one = unless(object, t)?;
+        left.push(one)?;
     }
-    List::from_vec(left)
+    Ok(left)
 }
 
 /// The frame with these locals and operands before the instruction: where a rule lets an object that is not made yet
@@ -62,7 +111,7 @@ fn without(object: &VType, types: List<VType>) -> List<VType>
 fn settled(
     alloc: Global,
     place: &PlaceRef,
-    locals: List<VType>,
+    locals: Locals,
     stack: List<VType>,
 ) -> Result<Option<Told>, NoMemory>
     ensures some { length locals ≤ place.now.method.max_locals → length stack ≤ place.now.method.max_stack → IfOk result IsSome }
@@ -74,43 +123,65 @@ fn settled(
         → type_at told.stack j ≡ operand_settled place.now (shape_of place.now.insn) (type_at stack j))) }
 {
     let shape = shape_of(place.insn);
-    let locals = locals_settled(place, shape, locals);
-    let stack = operands_settled(place, shape, stack);
-    Told::new(alloc, place.method, locals, stack)
+    let locals = locals_settled(alloc, place, shape, locals)?;
+    let stack = operands_settled(alloc, place, shape, stack)?;
+    Ok(Told::new(place.method, locals, stack))
 }
 
 /// The locals of such a frame, before an instruction of this shape.
-fn locals_settled(place: &PlaceRef, shape: Shape, locals: List<VType>) -> List<VType>
-    ensures count { length result ≡ length locals }
-    ensures types { (j : ℕ) → type_at result j ≡ local_settled place.now shape (type_at locals j) }
+fn locals_settled(
+    alloc: Global,
+    place: &PlaceRef,
+    shape: Shape,
+    locals: Locals,
+) -> Result<Locals, NoMemory>
+    ensures few { IfOk result (λ settled. length settled ≤ length locals) }
+    ensures types { IfOk result (λ settled. (j : ℕ) → type_at settled j ≡ local_settled place.now shape (type_at locals j)) }
 {
     match shape {
         Shape::Heap(Heap::Return(None)) => {
             if is_maker(place.method) {
-                without(&VType::UninitThis, locals)
+                locals_made(alloc, locals)
             } else {
-                locals
+                Ok(locals)
             }
         }
-        _ => locals,
+        _ => Ok(locals),
     }
 }
 
+/// The locals, where those of the object that a constructor makes are Top.
+fn locals_made(alloc: Global, locals: Locals) -> Result<Locals, NoMemory>
+    ensures few { IfOk result (λ made. length made ≤ length locals) }
+    ensures types { IfOk result (λ made. (j : ℕ) → type_at made j ≡ unless UninitThis (type_at locals j)) }
+{
+    if !has_this(locals.as_slice()) {
+        return Ok(locals);
+    }
+    let types = without(alloc, &VType::UninitThis, locals.as_slice())?;
+    Locals::new(alloc, types)
+}
+
 /// The operands of such a frame.
-fn operands_settled(place: &PlaceRef, shape: Shape, stack: List<VType>) -> List<VType>
-    ensures count { length result ≡ length stack }
-    ensures types { (j : ℕ) → type_at result j ≡ operand_settled place.now shape (type_at stack j) }
+fn operands_settled(
+    alloc: Global,
+    place: &PlaceRef,
+    shape: Shape,
+    stack: List<VType>,
+) -> Result<List<VType>, NoMemory>
+    ensures count { IfOk result (λ settled. length settled ≡ length stack) }
+    ensures types { IfOk result (λ settled. (j : ℕ) → type_at settled j ≡ operand_settled place.now shape (type_at stack j)) }
 {
     match shape {
-        Shape::Heap(Heap::New) => without(&VType::Uninit(place.at), stack),
+        Shape::Heap(Heap::New) => without(alloc, &VType::Uninit(place.at), stack.as_slice()),
         Shape::Heap(Heap::Return(None)) => {
             if is_maker(place.method) {
-                without(&VType::UninitThis, stack)
+                without(alloc, &VType::UninitThis, stack.as_slice())
             } else {
-                stack
+                Ok(stack)
             }
         }
-        _ => stack,
+        _ => Ok(stack),
     }
 }
 
@@ -168,27 +239,28 @@ fn unless_below(program: &Indexed, old: &FrameType, told: Option<Told>) -> Optio
 fn merged(
     alloc: Global,
     place: &PlaceRef,
-    old: &FrameType,
-    locals: &[VType],
+    old: &Told,
+    locals: Locals,
     stack: &[VType],
 ) -> Result<Option<Told>, NoMemory>
     ensures kept { IfOk result (λ told. IsInOrder place.now.program → IsKept place.now.program (Some old.now) told) }
     ensures raised { IfOk result (λ told. IsInOrder place.now.program
-        → length locals.now ≤ place.now.method.max_locals → length stack.now ≤ place.now.method.max_stack
+        → length locals ≤ place.now.method.max_locals → length stack.now ≤ place.now.method.max_stack
         → IsOfHeight (Some old.now) (length stack.now)
-        → IsRaisedBy place.now (Some old.now) (record { locals = type_at locals.now; operands = stack.now }) told) }
+        → IsRaisedBy place.now (Some old.now) (record { locals = type_at locals; operands = stack.now }) told) }
 {
     assignable_is_an_order();
     merge_is_the_least();
     rows_follow_the_order();
-    if old.stack.len() != stack.len() {
+    let standing = old.frame();
+    if standing.stack.len() != stack.len() {
         return Ok(None);
     }
     let program = place.program;
-    let locals = types_joined(alloc, program, old.locals.as_slice(), locals)?;
-    let stack = types_joined(alloc, program, old.stack.as_slice(), stack)?;
+    let locals = locals_joined(alloc, program, old, locals)?;
+    let stack = types_joined(alloc, program, standing.stack.as_slice(), stack)?;
     let told = settled(alloc, place, locals, stack)?;
-    Ok(unless_below(program, old, told))
+    Ok(unless_below(program, standing, told))
 }
 
 /// The frame that is to stand before the instruction, where these locals and operands come to it. There is none where
@@ -196,8 +268,8 @@ fn merged(
 pub fn joined(
     alloc: Global,
     place: &PlaceRef,
-    old: Option<&FrameType>,
-    locals: List<VType>,
+    old: Option<&Told>,
+    locals: Locals,
     stack: List<VType>,
 ) -> Result<Option<Told>, NoMemory>
     ensures kept { IfOk result (λ told. IsInOrder place.now.program → IsKept place.now.program (option_copied old.entry) told) }
@@ -213,6 +285,6 @@ pub fn joined(
             let told = settled(alloc, place, locals, stack)?;
             Ok(told)
         }
-        Some(old) => merged(alloc, place, old, locals.as_slice(), stack.as_slice()),
+        Some(old) => merged(alloc, place, old, locals, stack.as_slice()),
     }
 }

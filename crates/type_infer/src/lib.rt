@@ -11,9 +11,12 @@ mod fault;
 mod inferring;
 mod joining;
 mod laws;
+mod leaving;
+mod marks;
 mod sending;
 mod solving;
 mod told;
+mod types;
 mod worklist;
 
 pub use fault::InferFault;

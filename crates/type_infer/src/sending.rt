@@ -18,15 +18,14 @@ ghost use Rattle.type_infer.specs.Solving.{AreFound, Grows, IsDone, IsReady, Row
 use crate::body::Body;
 use crate::joining::joined;
 use crate::laws::laws_hold;
+use crate::leaving::{locals_caught, locals_left};
 use crate::told::Told;
 use crate::worklist::Worklist;
 use bytecode_model::Handler;
-use cert_format::FrameType;
 use code_typing::{
-    PlaceRef, catches_well, goes_well, is_alone_met, locals_after, rows_follow_the_order,
-    stack_after,
+    PlaceRef, catches_well, goes_well, is_alone_met, rows_follow_the_order, stack_after,
 };
-use frame_types::{locals_thrown, stack_thrown};
+use frame_types::stack_thrown;
 use insn_codec::{Insn, goes_on};
 use mon_base::NoMemory;
 use std::alloc::Global;
@@ -36,17 +35,17 @@ use type_lattice::assignable_is_an_order;
 fn left(
     alloc: Global,
     place: &PlaceRef,
-    frame: &FrameType,
+    told: &Told,
     to: &PlaceRef,
-    old: Option<&FrameType>,
+    old: Option<&Told>,
 ) -> Result<Option<Told>, NoMemory>
     requires program { to.now.program ≡ place.now.program }
     requires method { to.now.method ≡ place.now.method }
     ensures kept { IfOk result (KeepsOld place.now (option_copied old.entry)) }
-    ensures raised { IfOk result (RaisesLeft place.now frame.now to.now (option_copied old.entry)) }
+    ensures raised { IfOk result (RaisesLeft place.now told.now to.now (option_copied old.entry)) }
 {
-    let locals = locals_after(alloc, place, frame)?;
-    let stack = stack_after(alloc, place, frame)?;
+    let locals = locals_left(alloc, place, told)?;
+    let stack = stack_after(alloc, place, told.frame())?;
     joined(alloc, to, old, locals, stack)
 }
 
@@ -54,24 +53,24 @@ fn left(
 fn sent(
     alloc: Global,
     place: &PlaceRef,
-    frame: &FrameType,
+    told: &Told,
     to: &PlaceRef,
-    old: Option<&FrameType>,
+    old: Option<&Told>,
 ) -> Result<Option<Told>, NoMemory>
     requires program { to.now.program ≡ place.now.program }
     requires method { to.now.method ≡ place.now.method }
     ensures kept { IfOk result (KeepsOld place.now (option_copied old.entry)) }
-    ensures raised { IfOk result (RaisesLeft place.now frame.now to.now (option_copied old.entry)) }
+    ensures raised { IfOk result (RaisesLeft place.now told.now to.now (option_copied old.entry)) }
 {
     assignable_is_an_order();
     rows_follow_the_order();
     match old {
-        None => left(alloc, place, frame, to, None),
-        Some(told) => {
-            if goes_well(place, frame, told) {
+        None => left(alloc, place, told, to, None),
+        Some(standing) => {
+            if goes_well(place, told.frame(), standing.frame()) {
                 Ok(None)
             } else {
-                left(alloc, place, frame, to, old)
+                left(alloc, place, told, to, old)
             }
         }
     }
@@ -81,17 +80,17 @@ fn sent(
 fn caught(
     alloc: Global,
     place: &PlaceRef,
-    frame: &FrameType,
+    told: &Told,
     handler: &Handler,
     to: &PlaceRef,
-    old: Option<&FrameType>,
+    old: Option<&Told>,
 ) -> Result<Option<Told>, NoMemory>
     requires program { to.now.program ≡ place.now.program }
     requires method { to.now.method ≡ place.now.method }
     ensures kept { IfOk result (KeepsOld place.now (option_copied old.entry)) }
-    ensures raised { IfOk result (RaisesThrown handler.now place.now frame.now to.now (option_copied old.entry)) }
+    ensures raised { IfOk result (RaisesThrown handler.now place.now told.now to.now (option_copied old.entry)) }
 {
-    let locals = locals_thrown(alloc, frame.locals.as_slice())?;
+    let locals = locals_caught(alloc, told)?;
     let stack = stack_thrown(alloc, handler)?;
     joined(alloc, to, old, locals, stack)
 }
@@ -100,25 +99,25 @@ fn caught(
 fn thrown(
     alloc: Global,
     place: &PlaceRef,
-    frame: &FrameType,
+    told: &Told,
     handler: &Handler,
     to: &PlaceRef,
-    old: Option<&FrameType>,
+    old: Option<&Told>,
 ) -> Result<Option<Told>, NoMemory>
     requires program { to.now.program ≡ place.now.program }
     requires method { to.now.method ≡ place.now.method }
     ensures kept { IfOk result (KeepsOld place.now (option_copied old.entry)) }
-    ensures raised { IfOk result (RaisesThrown handler.now place.now frame.now to.now (option_copied old.entry)) }
+    ensures raised { IfOk result (RaisesThrown handler.now place.now told.now to.now (option_copied old.entry)) }
 {
     assignable_is_an_order();
     rows_follow_the_order();
     match old {
-        None => caught(alloc, place, frame, handler, to, None),
-        Some(told) => {
-            if catches_well(place, frame, handler, told) {
+        None => caught(alloc, place, told, handler, to, None),
+        Some(standing) => {
+            if catches_well(place, told.frame(), handler, standing.frame()) {
                 Ok(None)
             } else {
-                caught(alloc, place, frame, handler, to, old)
+                caught(alloc, place, told, handler, to, old)
             }
         }
     }
@@ -299,10 +298,10 @@ pub fn look_at(alloc: Global, body: &Body, worklist: &mut Worklist, at: u32) -> 
     let Some(place) = body.place(at) else {
         return Ok(());
     };
-    let Some(frame) = worklist.frame(at) else {
+    let Some(told) = worklist.frame(at) else {
         return Ok(());
     };
-    if !is_alone_met(&place, frame) {
+    if !is_alone_met(&place, told.frame()) {
         return Ok(());
     }
     send_on(alloc, body, worklist, &place)?;

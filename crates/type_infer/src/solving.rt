@@ -9,7 +9,7 @@ use crate::body::Body;
 use crate::joining::joined;
 use crate::laws::laws_hold;
 use crate::sending::look_at;
-use crate::told::Told;
+use crate::told::{Locals, Told};
 use crate::worklist::Worklist;
 use cert_format::FrameType;
 use code_typing::entry_locals;
@@ -28,7 +28,8 @@ fn begun(alloc: Global, body: &Body) -> Result<Worklist, NoMemory>
     let Some(place) = body.place(0) else {
         return Ok(worklist);
     };
-    let locals = entry_locals(alloc, &place)?;
+    let types = entry_locals(alloc, &place)?;
+    let locals = Locals::new(alloc, types)?;
     let first = joined(alloc, &place, None, locals, List::new(alloc))?;
     worklist.put(0, first);
     Ok(worklist)

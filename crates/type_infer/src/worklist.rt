@@ -1,11 +1,11 @@
 //! The frames that are found so far, and the instructions whose frame has changed since they were looked at.
 
-ghost use Rattle.std.specs.Prelude.{◌≡◌, ◌≤◌, ◌<◌, ℕ, true, false, replicate, option_copied, length, None, IfOk, IfSome, IfNone};
+ghost use Rattle.std.specs.Prelude.{◌≡◌, ◌<◌, ℕ, true, false, replicate, option_copied, length, None, IfOk, IfSome, IfNone};
 ghost use Rattle.bytecode_model.specs.Rules.{frame_of};
 ghost use Rattle.type_infer.specs.Solving.{is_marked, put, unmarked};
 
+use crate::marks::Marks;
 use crate::told::Told;
-use cert_format::FrameType;
 use mon_base::NoMemory;
 use std::alloc::Global;
 use std::marker::Model;
@@ -14,7 +14,7 @@ use std::marker::Model;
 #[derive(Drop)]
 pub struct Worklist {
     frames: Vec<Option<Told>>,
-    marks: Vec<bool>,
+    marks: Marks,
     lowest: u32,
 }
 
@@ -24,31 +24,9 @@ impl Model for Worklist {
 
     ghost Value = { State };
 
-    ghost view = { λ w. record { frames = w.frames.items; marks = w.marks.items } };
+    ghost view = { λ w. record { frames = w.frames.items; marks = w.marks } };
 
-    ghost invariant = { λ w. (at : ℕ) → at < w.lowest → is_marked w.marks.items at ≡ false };
-}
-
-/// The first place from this one on, below the limit, that is marked.
-fn next_marked(marks: &[bool], from: u32, limit: u32) -> Option<u32>
-    ensures within { IfSome result (λ at. (from ≤ at) × (at < limit)) }
-    ensures marked { IfSome result (λ at. is_marked marks.now at ≡ true) }
-    ensures first { IfSome result (λ found. (at : ℕ) → from ≤ at → at < found → is_marked marks.now at ≡ false) }
-    ensures none { IfNone result ((at : ℕ) → from ≤ at → at < limit → is_marked marks.now at ≡ false) }
-{
-    let mut at = from;
-    while at < limit {
-        match marks.get(at as usize) {
-            None => return None,
-            Some(marked) => {
-                if *marked {
-                    return Some(at);
-                }
-            }
-        }
-        at += 1;
-    }
-    None
+    ghost invariant = { λ w. (at : ℕ) → at < w.lowest → is_marked w.marks at ≡ false };
 }
 
 /// No frame, n times.
@@ -62,17 +40,6 @@ fn no_frames(alloc: Global, n: usize) -> Result<Vec<Option<Told>>, NoMemory>
     Ok(frames)
 }
 
-/// No mark, n times.
-fn no_marks(alloc: Global, n: usize) -> Result<Vec<bool>, NoMemory>
-    ensures { IfOk result (λ marks. marks.items ≡ replicate n false) }
-{
-    let mut marks = Vec::with_capacity(alloc, n)?;
-    for _ in 0..n {
-        marks.push(false)?;
-    }
-    Ok(marks)
-}
-
 impl Worklist {
     /// A method of n instructions, none of which is reached.
     pub fn new(alloc: Global, n: usize) -> Result<Worklist, NoMemory>
@@ -80,7 +47,7 @@ impl Worklist {
         ensures marks { IfOk result (λ worklist. worklist.marks ≡ replicate n false) }
     {
         let frames = no_frames(alloc, n)?;
-        let marks = no_marks(alloc, n)?;
+        let marks = Marks::new(alloc, n)?;
         Ok(Worklist {
             frames,
             marks,
@@ -89,11 +56,11 @@ impl Worklist {
     }
 
     /// The frame of the instruction, if it is reached.
-    pub fn frame(&self, at: u32) -> Option<&FrameType>
+    pub fn frame(&self, at: u32) -> Option<&Told>
         ensures { option_copied result ≡ frame_of self.now.frames at }
     {
         match self.frames.as_slice().get(at as usize) {
-            Some(Some(told)) => Some(told.frame()),
+            Some(Some(told)) => Some(told),
             _ => None,
         }
     }
@@ -106,7 +73,7 @@ impl Worklist {
     {
         if told.is_some() {
             self.frames[at as usize] = told;
-            self.marks[at as usize] = true;
+            self.marks.mark(at as usize);
             if at < self.lowest {
                 self.lowest = at;
             }
@@ -120,11 +87,8 @@ impl Worklist {
         ensures none { IfNone result (self.new ≡ self.old) }
         ensures over { IfNone result ((at : ℕ) → at < limit → is_marked self.old.marks at ≡ false) }
     {
-        let at = next_marked(self.marks.as_slice(), self.lowest, limit)?;
-        let place = at as usize;
-        if place < self.marks.len() {
-            self.marks[place] = false;
-        }
+        let at = self.marks.next(self.lowest, limit)?;
+        self.marks.unmark(at as usize);
         self.lowest = at;
         Some(at)
     }

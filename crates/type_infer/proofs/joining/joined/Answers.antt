@@ -19,4 +19,4 @@ pub returns-in-Some-clause-kept : goal.returns-in-Some-clause-kept
 returns-in-Some-clause-kept c = let i = c.in-Some.is in let j = c.in-Some.old-is in rw c.in-Some.is c.merged.ensures.kept
 
 pub returns-in-Some-clause-raised : goal.returns-in-Some-clause-raised
-returns-in-Some-clause-raised c = rw c.in-Some.is (rw (c.as_slice.ensures, c.as_slice-in-Some.ensures) at c.merged.ensures.raised)
+returns-in-Some-clause-raised c = rw c.in-Some.is (rw c.as_slice.ensures at c.merged.ensures.raised)

@@ -1,12 +1,9 @@
-use Rattle.std.proofs.Common.{◌∙◌, set, length, sym, ap, arith}
-use Rattle.std.proofs.lemmas.List.{length-set}
-use Rattle.std.proofs.lemmas.List.Edits.{map_over_more}
+use Rattle.std.proofs.Common.{ap, ◌∙◌}
+use Rattle.bytecode_model.proofs.CopiedItems.{one_more_mapped}
 use Rattle.type_infer.specs.Solving.{unless}
 use Rattle.type_infer.proofs.joining.without.Goals as goal
 
-pub loop-i-preserved : goal.loop-i-preserved
-loop-i-preserved c =
-    let f = unless c.args.object.now in
-    let more = map_over_more f c.args.types c.loop-i.left.items c.loop-i.i c.index_mut.result.now (omega (arith, ap length c.into_vec-left.ensures)) (sym c.loop-i.invariant.1) c.index_mut.ensures.value in
-    let put = ap (set c.loop-i.left.items c.loop-i.i) c.pass.ensures in
-    (length-set c.loop-i.left.items c.loop-i.i c.pass.new.t ∙ c.loop-i.invariant.0, sym (put ∙ more))
+pub loop-t-preserved : goal.loop-t-preserved
+loop-t-preserved c =
+    one_more_mapped (unless c.args.object.now) c.args.types.now c.loop-t.left c.push.new.self c.loop-t.t-index c.t-item.result c.in_ok-one.one
+    c.loop-t-test.true c.loop-t.invariant (c.in_ok-one.ensures ∙ ap (unless c.args.object.now) c.t-item.is) c.in_ok-push.ensures.ok

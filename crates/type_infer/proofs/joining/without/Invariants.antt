@@ -1,7 +1,6 @@
-use Rattle.std.proofs.Common.{◌≡◌, ◌++◌, length, map, take, drop}
+use Rattle.std.proofs.Common.{◌≡◌, map, take}
 use Rattle.type_infer.specs.Solving.{unless}
 use Rattle.type_infer.proofs.joining.without.Given as goal
 
-abbrev pub invariant-loop-i : goal.invariant-loop-i
-invariant-loop-i l =
-    (length l.left.items ≡ length l.fn.types) × (map (unless l.object) (take l.i l.fn.types) ++ drop l.i l.fn.types ≡ l.left.items)
+abbrev pub invariant-loop-t : goal.invariant-loop-t
+invariant-loop-t l = l.left ≡ map (unless l.object) (take l.t-index l.types)

@@ -23,16 +23,16 @@ returns-clause-raised c =
     let place = c.args.place.now in
     let old = option_copied c.args.old in
     let came : Left = record { locals = type_at c.in_ok-locals.locals; operands = c.in_ok-stack.stack } in
-    let left : Left = left_by place c.args.frame.now in
-    let stack : c.in_ok-stack.stack ≡ left.operands = c.in_ok-stack.ensures in
+    let left : Left = left_by place c.args.told.now in
+    let stack : c.in_ok-stack.stack ≡ left.operands = rw c.frame.ensures at c.in_ok-stack.ensures in
     if_ok c.joined.result
     (λ (told : Option FrameType).
     IsInOrder c.args.to.now.program → length c.in_ok-locals.locals ≤ c.args.to.now.method.max_locals → length c.in_ok-stack.stack ≤ c.args.to.now.method.max_stack
     → IsOfHeight old (length c.in_ok-stack.stack) → IsRaisedBy c.args.to.now old came told)
-    (λ (told : Option FrameType). IsInOrder place.program → IsAloneMet place c.args.frame.now → IsOfHeight old (length left.operands) → IsRaisedBy c.args.to.now old left told)
+    (λ (told : Option FrameType). IsInOrder place.program → IsAloneMet place c.args.told.now → IsOfHeight old (length left.operands) → IsRaisedBy c.args.to.now old left told)
     (λ told h order alone height.
     let within : length c.in_ok-locals.locals ≤ place.method.max_locals = c.in_ok-locals.ensures.within alone.local in
-    let deep : length left.operands ≤ place.method.max_stack = leb-true (length left.operands) place.method.max_stack (and_parts (nat_le (length (takes place)) (length c.args.frame.now.stack)) (nat_le (length left.operands) place.method.max_stack) alone.depth).1 in
+    let deep : length left.operands ≤ place.method.max_stack = leb-true (length left.operands) place.method.max_stack (and_parts (nat_le (length (takes place)) (length c.args.told.now.stack)) (nat_le (length left.operands) place.method.max_stack) alone.depth).1 in
     let few = subst (λ (m : Method). length c.in_ok-locals.locals ≤ m.max_locals) (sym c.requires.method) within in
     let low = subst (λ (m : Method). length c.in_ok-stack.stack ≤ m.max_stack) (sym c.requires.method) (omega (arith, ap length stack)) in
     same_raised c.args.to.now old came left stack c.in_ok-locals.ensures.are told

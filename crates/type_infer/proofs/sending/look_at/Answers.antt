@@ -13,13 +13,13 @@ pub returns-then-not-is_alone_met-clause-done : goal.returns-then-not-is_alone_m
 returns-then-not-is_alone_met-clause-done c ready above row found =
     let scope = c.args.body.now in
     let place = c.in-Some.place in
-    let low = c.in-Some-frame.frame.now in
+    let low = c.in-Some-frame.told.now in
     let laws = c.laws_hold.ensures scope.program ready.order in
     let there : place_of scope c.args.at ≡ Some place = sym c.place.ensures ∙ c.in-Some.is in
     let is : frame_of c.args.worklist.now.frames c.args.at ≡ Some low = sym c.frame.ensures ∙ ap option_copied c.in-Some-frame.is in
     let alone = (is_under scope laws above c.args.at place low row there (found.found c.args.at low is)).alone in
     let met = and_from _ _ alone.depth (and_from _ _ alone.operand (and_from _ _ alone.local alone.made)) in
-    absurd (false≢true (sym c.if-not-is_alone_met.true ∙ c.is_alone_met.ensures ∙ met))
+    absurd (false≢true (sym c.if-not-is_alone_met.true ∙ rw c.frame-2.ensures at c.is_alone_met.ensures ∙ met))
 
 pub returns : goal.returns
 returns c =

@@ -12,8 +12,8 @@ pub returns-then-goes_well-clause-raised : goal.returns-then-goes_well-clause-ra
 returns-then-goes_well-clause-raised c =
     let place = c.args.place.now in
     let to = c.args.to.now in
-    let told = c.in-Some.told.now in
-    let below = goes_below place c.args.frame.now told (sym c.goes_well.ensures ∙ c.if-goes_well.true) in
+    let told = c.in-Some.standing.now in
+    let below = goes_below place c.args.told.now told (rw (c.frame.ensures, c.frame-in-Some.ensures) at (sym c.goes_well.ensures ∙ c.if-goes_well.true)) in
     rw c.in-Some.is
-    (λ order alone height. stays_by to (c.assignable_is_an_order.ensures.reflexive to.program) (left_by place c.args.frame.now) told
-    (subst (λ (p : Program). AreBelow p (left_by place c.args.frame.now) told) (sym c.requires.program) below) (c.rows_follow_the_order.ensures.reflexive to.program told))
+    (λ order alone height. stays_by to (c.assignable_is_an_order.ensures.reflexive to.program) (left_by place c.args.told.now) told
+    (subst (λ (p : Program). AreBelow p (left_by place c.args.told.now) told) (sym c.requires.program) below) (c.rows_follow_the_order.ensures.reflexive to.program told))

@@ -6,10 +6,10 @@ use Rattle.cert_format.specs.declared.typing.VType.{VType}
 use Rattle.bytecode_model.specs.Makes.{type_at}
 use Rattle.bytecode_model.specs.Rules.{entry_locals}
 use Rattle.bytecode_model.specs.Order.{IsInOrder}
-use Rattle.type_infer.specs.Solving.{Scope, State, Holds, IsRaisedBy, begun, place_of, put}
+use Rattle.type_infer.specs.Solving.{Left, Scope, State, Holds, IsRaisedBy, begun, place_of, put}
 use Rattle.type_infer.proofs.Flowing.{insn_there, place_is}
 use Rattle.type_infer.proofs.Solutions.{begun_holds, entered, nothing, nothing_holds}
-use Rattle.type_infer.proofs.Stepping.{put_count, state_is}
+use Rattle.type_infer.proofs.Stepping.{put_count, same_raised, state_is}
 use Rattle.type_infer.proofs.solving.begun.Goals as goal
 
 pub returns-in_default-clause-holds : goal.returns-in_default-clause-holds
@@ -35,15 +35,15 @@ returns-clause-holds c limit above met =
     (c.in_ok-worklist.ensures.frames ∙ ap (λ (n : ℕ). replicate n None) count) (c.in_ok-worklist.ensures.marks ∙ ap (λ (n : ℕ). replicate n false) count) in
     let there : place_of scope 0 ≡ Some place = sym c.place.ensures ∙ c.in-Some.is in
     let entry = entered scope laws limit above place met there in
-    let locals : c.in_ok-locals.locals ≡ entry_locals place = c.in_ok-locals.ensures in
-    let stack : c.new-2.result ≡ [] = c.new-2.ensures in
-    let few : length c.in_ok-locals.locals ≤ place.method.max_locals = omega (arith, ap length locals, entry.within) in
-    let low : length c.new-2.result ≤ place.method.max_stack = omega (arith, ap length stack) in
+    let types : c.in_ok-types.types ≡ entry_locals place = c.in_ok-types.ensures in
+    let stack : c.new-3.result ≡ [] = c.new-3.ensures in
+    let few : length c.in_ok-locals.locals ≤ place.method.max_locals = omega (arith, c.in_ok-locals.ensures.within, ap length types, entry.within) in
+    let low : length c.new-3.result ≤ place.method.max_stack = omega (arith, ap length stack) in
     let order = subst IsInOrder (sym (place_is scope 0 place there).0) met.ready.order in
     let raised = c.in_ok-first.ensures.raised order few low (λ frame e. absurd cc) in
-    let on_stack : IsRaisedBy place None (record { locals = type_at c.in_ok-locals.locals; operands = [] }) first =
-    subst (λ (s : List VType). IsRaisedBy place None (record { locals = type_at c.in_ok-locals.locals; operands = s }) first) stack raised in
-    let entering : IsRaisedBy place None (begun place) first = subst (λ (l : List VType). IsRaisedBy place None (record { locals = type_at l; operands = [] }) first) locals on_stack in
+    let came : Left = record { locals = type_at c.in_ok-locals.locals; operands = c.new-3.result } in
+    let entering : IsRaisedBy place None (begun place) first =
+    same_raised place None came (begun place) stack (λ j. c.in_ok-locals.ensures.same j ∙ ap (λ (l : List VType). type_at l j) types) first raised in
     subst (Holds scope limit above) (sym (c.put.ensures ∙ ap (λ (s : State). put s 0 first) is)) (begun_holds scope laws limit above place first there entry entering)
 
 pub returns-clause-frames : goal.returns-clause-frames
