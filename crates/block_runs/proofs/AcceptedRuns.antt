@@ -22,12 +22,13 @@ use Rattle.guest_model.specs.declared.machine.Step.{Step}
 use Rattle.guest_model.specs.Changes.{rests}
 use Rattle.guest_model.specs.Finding.{Given}
 use Rattle.guest_model.specs.Layout.{statics_of}
-use Rattle.guest_model.specs.Runs.{exec, initialisers, start_of, stepped_or_same, trace_from}
+use Rattle.guest_model.specs.Runs.{exec, initialisers, start_of, stepped_or_same, trace, trace_from}
 use Rattle.guest_model.specs.Stepping.{stepped}
 use Rattle.guest_model.proofs.Options.{and_then_of, some_is}
 use Rattle.guest_erasing.specs.Lifting.{lifted}
 use Rattle.guest_erasing.specs.Mirrors.{IsClientMachine, MirrorsAreErased}
 use Rattle.guest_erasing.specs.Runs.{AreMadeFrom, GoOn}
+use Rattle.guest_erasing.proofs.Accepted.{spoken_alone}
 use Rattle.guest_erasing.proofs.Runs.{comes_to, exec_from-append, sees}
 use Rattle.typed_runs.specs.Formed.{TellsTypes}
 use Rattle.block_runs.specs.ClientRuns.{AcceptedRunsAreLifted}
@@ -129,7 +130,7 @@ module _ (roomy : ClientsAreRoomy) (keep : ClientsKeepTheirMachine) (fit : Clien
       begin_apart client policy known.called mode steps (start_of client)
       (rest_apart policy client (initialisers client ++ (client.main_class, client.main_method) ∷ [])) run.apart in
       let goes = go_on keep fit policy mode client typing is tells steps [] end (start_of client) refl
-      (initial policy) run.made run.accepted apart in
+      (initial policy) run.made (sym (spoken_alone policy (trace client steps) (initial policy)) ∙ run.accepted) apart in
       let l = lift policy mode client woven known (roomy client typing is) steps (initial policy) end (start_of client) (start_of woven)
       (start_in_first alike policy mode client woven typing is made.policy_is starts) (waits client) goes in
       let mirrors : MirrorsIn policy mode client woven end (exec client steps)

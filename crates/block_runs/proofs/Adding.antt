@@ -23,7 +23,8 @@ use Rattle.class_weaving.specs.Outcome.{Each, IsWovenClass, IsWovenMethod}
 use Rattle.guest_erasing.specs.Adding.{ClassIsLaid, IsState}
 use Rattle.guest_erasing.specs.Laid.{IsLaid}
 use Rattle.guest_erasing.specs.Mirrors.{AreAlike}
-use Rattle.block_runs.specs.Weaves.{LocalsFit, WovenAddsState, plan_sites}
+use Rattle.class_weaving.specs.Woven.{LocalsFit, plan_sites}
+use Rattle.block_runs.specs.Weaves.{WovenAddsState}
 use Rattle.block_runs.proofs.Laying.{laid}
 
 module _ (plan : Plan) (kinds : List Bool) (good : IsGood kinds plan) (state : ℕ) where

@@ -44,12 +44,11 @@ use Rattle.bytecode_model.specs.Sound.{IsSound, IsSoundClass, IsSoundMethod}
 use Rattle.conspec_tree.specs.declared.types.Var.{Var}
 use Rattle.offset_patch.specs.Plan.{Plan}
 use Rattle.class_weaving.specs.Outcome.{IsWoven, IsWovenClass, IsWovenMethod}
-use Rattle.class_weaving.specs.Woven.{is_woven, locals_of}
+use Rattle.class_weaving.specs.Woven.{AllLocalsFit, LocalsFit, is_woven, locals_of}
 use Rattle.class_weaving.proofs.Lists.{each_on, slice_there}
 use Rattle.class_weaving.proofs.Sites.{refs_some}
 use Rattle.guest_model.proofs.Options.{all_get}
 use Rattle.guest_erasing.proofs.Clients.{all_by_place}
-use Rattle.block_runs.specs.Weaves.{AllLocalsFit, LocalsFit}
 
 -- ---- two bytes tell how many locals a method with code has
 

@@ -21,13 +21,12 @@ use Rattle.offset_patch.specs.Fits.{IsSite, calls_in}
 use Rattle.offset_patch.specs.Plan.{IsGood, Plan}
 use Rattle.offset_patch.specs.Splicing.{aimed, at_fronts, call_place, fronts_of, handlers_with, part_named, part_of, parts_from, parts_named, put, spliced}
 use Rattle.class_weaving.specs.Outcome.{IsWovenMethod, handlers_woven, insns_woven, refs_woven}
-use Rattle.class_weaving.specs.Woven.{is_woven, locals_of}
+use Rattle.class_weaving.specs.Woven.{LocalsFit, is_woven, locals_of, plan_sites}
 use Rattle.class_weaving.proofs.Lists.{get_left, get_right}
 use Rattle.class_weaving.proofs.Sites.{refs_fit}
 use Rattle.class_weaving.proofs.Unwoven.{all_alone, front_alone, handlers_same, insns_alone, named_alone, own_alone}
 use Rattle.guest_erasing.specs.Laid.{IsLaid, IsWithin}
 use Rattle.guest_erasing.specs.Places.{Sites, stand}
-use Rattle.block_runs.specs.Weaves.{LocalsFit, plan_sites}
 
 -- ---- where the call of a part stands
 

@@ -48,14 +48,13 @@ use Rattle.offset_patch.specs.Plan.{IsGood, Plan}
 use Rattle.offset_patch.specs.Splicing.{fronts_of, operands_needed, part_named, part_of, parts_from, parts_named, put, spliced}
 use Rattle.block_template.specs.Blocks.{block, locals_used, plan_of}
 use Rattle.class_weaving.specs.Outcome.{IsWoven, IsWovenClass, IsWovenMethod}
-use Rattle.class_weaving.specs.Woven.{is_woven, locals_of, most_locals}
+use Rattle.class_weaving.specs.Woven.{AllLocalsFit, LocalsFit, is_woven, locals_of, most_locals, plan_sites}
 use Rattle.class_weaving.proofs.Lists.{each_on, get_left, get_right, slice_there}
 use Rattle.class_weaving.proofs.Sites.{refs_fit}
 use Rattle.guest_model.specs.Places.{insn_in, method_at}
 use Rattle.guest_model.proofs.Options.{all_get, and_then_of, some_is}
 use Rattle.guest_erasing.specs.Places.{Sites, front}
 use Rattle.block_runs.specs.Joining.{BlocksArePut, IsPut, sites}
-use Rattle.block_runs.specs.Weaves.{AllLocalsFit, LocalsFit, plan_sites}
 
 -- ---- what stands in a part
 

@@ -31,9 +31,9 @@ use Rattle.guest_erasing.proofs.Given.{classes_more}
 use Rattle.guest_erasing.proofs.Listings.{unknown}
 use Rattle.guest_erasing.proofs.Names.{client_other, other_name}
 use Rattle.guest_erasing.proofs.Telling.{tell_alike}
+use Rattle.class_weaving.specs.Woven.{AllLocalsFit}
 use Rattle.block_runs.specs.Joining.{IsWovenBy, sites, state_of}
-use Rattle.block_runs.specs.Weaves.{AllLocalsFit}
-use Rattle.block_runs.specs.WovenClients.{IsLinkedClient, IsWovenClient, WovenClientsAreKnown, WovenStartsInFirst}
+use Rattle.block_runs.specs.WovenClients.{IsLinkedClient, IsWovenClient, WovenClientsAreKnown, WovenClientsHaveRoom, WovenStartsInFirst}
 use Rattle.block_runs.proofs.Adding.{adds}
 use Rattle.block_runs.proofs.Fitting.{locals_fit, state_parent}
 use Rattle.block_runs.proofs.Clients.Listed.{listed_called}
@@ -114,15 +114,18 @@ module _ (policy : Policy) (mode : Mode) (client woven : Program) (links : IsLin
   }
 
 -- what the linking of the woven files tells
+-- Where woven files link, the locals of blocks fit.
+pub woven_fits : WovenClientsHaveRoom
+woven_fits policy mode client woven links made =
+    locals_fit (plan_of policy mode) policy.vars client woven made.woven_is links.links.sound links.links.linked.standing made.sound made.linked.standing
+
 from_linked : PlansAreGood → (policy : Policy) (mode : Mode) (client woven : Program) → IsLinkedClient client
     → IsWovenClient policy mode client woven → IsWovenFrom policy mode client woven
 from_linked good policy mode client woven links made = record {
   sound = made.policy_is;
   kinds = bools_of policy;
   good = good policy mode made.policy_is made.numbers;
-  room =
-      locals_fit (plan_of policy mode) policy.vars client woven made.woven_is links.links.sound links.links.linked.standing made.sound
-      made.linked.standing;
+  room = woven_fits policy mode client woven links made;
   is = made.woven_is;
   parent =
       state_parent (plan_of policy mode) policy.vars client woven made.woven_is links.links.sound links.links.linked.standing made.sound

@@ -47,10 +47,10 @@ use Rattle.guest_erasing.specs.Mirrors.{IsClientMachine, Mirrors}
 use Rattle.guest_erasing.specs.Places.{Sites, front}
 use Rattle.guest_erasing.specs.Runs.{GoOn, Ran}
 use Rattle.guest_erasing.specs.Steps.{AreRoomy}
+use Rattle.class_weaving.specs.Woven.{plan_sites}
 use Rattle.block_runs.specs.Made.{IsCodeOf}
 use Rattle.block_runs.specs.Passed.{AreOfKinds}
 use Rattle.block_runs.specs.Steps.{StateIndex, held_by, locks_in}
-use Rattle.block_runs.specs.Weaves.{plan_sites}
 
 -- ---- the woven program
 

@@ -16,6 +16,7 @@ use Rattle.conspec_automaton.specs.Sound.{IsPolicy}
 use Rattle.block_template.specs.Blocks.{plan_of}
 use Rattle.block_template.specs.Good.{HasNumbers}
 use Rattle.class_weaving.specs.Outcome.{IsWoven}
+use Rattle.class_weaving.specs.Woven.{AllLocalsFit}
 use Rattle.guest_heap.specs.declared.value.Value.TheVariants as values
 use Rattle.guest_model.specs.Layout.{constant_bytes, statics_of, two_bytes}
 use Rattle.guest_erasing.specs.Adding.{AddsState}
@@ -46,6 +47,12 @@ abbrev pub WovenClientsAreKnown : Type 0
 WovenClientsAreKnown =
     (policy : Policy) (mode : Mode) (client woven : Program) → IsLinkedClient client → IsWovenClient policy mode client woven
     → IsWovenBy policy mode client woven
+
+-- The locals of its blocks fit after those of the client's methods.
+abbrev pub WovenClientsHaveRoom : Type 0
+WovenClientsHaveRoom =
+    (policy : Policy) (mode : Mode) (client woven : Program) → IsLinkedClient client → IsWovenClient policy mode client woven
+    → AllLocalsFit (plan_of policy mode) client
 
 -- ---- how it starts
 

@@ -9,7 +9,7 @@ ghost use Rattle.block_runs.specs.Made.{RunsAreMade};
 ghost use Rattle.block_runs.specs.Reaching.{CallsAreReached, EndsAreReached, ThrowsAreReached};
 ghost use Rattle.block_runs.specs.Steps.{MovesAreMade, ThrowsAreMade};
 ghost use Rattle.block_runs.specs.Weaves.{WovenAddsState};
-ghost use Rattle.block_runs.specs.WovenClients.{WovenClientsAreKnown, WovenStartsInFirst};
+ghost use Rattle.block_runs.specs.WovenClients.{WovenClientsAreKnown, WovenClientsHaveRoom, WovenStartsInFirst};
 ghost use Rattle.block_runs.specs.Transparent.{BlocksNeedNoHandler, BlocksReachCalls, BlocksReturn, BlocksThrowOn};
 
 use block_template::plans_are_good;
@@ -138,6 +138,8 @@ pub fn runs_are_lifted()
 /// ConstantValue of the client names is a constant of its file.
 pub fn woven_clients_are_known()
     ensures known { WovenClientsAreKnown }
+    // The locals of its blocks fit.
+    ensures room { WovenClientsHaveRoom }
     ensures start { WovenStartsInFirst }
 {
     plans_are_good();

@@ -1,8 +1,8 @@
 -- What weaving makes of a program: each instruction to which the plan gives a block stands in it, and after the classes
 -- stands conspec/State. Or the first size that does not fit. (docs/BLOCKS.md)
-use Rattle.std.specs.Prelude.{ℕ, ◌+◌, Bool, max, if◌then◌else◌, List, [], ◌∷◌, ◌++◌, length, map, Option, Some, None, slice_get, Ok}
+use Rattle.std.specs.Prelude.{◌≡◌, ℕ, ◌+◌, ◌<◌, ◌^◌, Bool, true, max, if◌then◌else◌, List, [], ◌∷◌, ◌++◌, length, map, Option, Some, None, slice_get, Ok}
 use Rattle.std.specs.Option.{option_to_list}
-use Rattle.std.specs.List.{list_any}
+use Rattle.std.specs.List.{AllByRecursion, list_any}
 use Rattle.mon_base.specs.Reading.{◌>>=◌}
 use Rattle.class_codec.specs.declared.tree.Attr.{Attr}
 use Rattle.class_codec.specs.declared.tree.Attr.TheVariants as attributes
@@ -42,6 +42,10 @@ is_woven plan method = list_any plan.has_block method.refs
 abbrev pub sites_of : Plan → ℕ → Method → List (Option Block)
 sites_of plan base method = map (plan.block base) method.refs
 
+-- the same, where the blocks' own locals stand after those of the method
+abbrev pub plan_sites : Plan → Method → List (Option Block)
+plan_sites plan method = sites_of plan method.max_locals method
+
 abbrev pub most_locals : Plan → List Target → ℕ
 most_locals plan [] = 0
 most_locals plan (ref ∷ refs) = max (plan.locals ref) (most_locals plan refs)
@@ -49,6 +53,13 @@ most_locals plan (ref ∷ refs) = max (plan.locals ref) (most_locals plan refs)
 -- the greatest number of locals that a block of the method uses
 abbrev pub locals_of : Plan → Method → ℕ
 locals_of plan method = most_locals plan method.refs
+
+-- The locals of blocks fit after those of the method, where it has a block.
+abbrev pub LocalsFit : Plan → Method → Type 0
+LocalsFit plan method = is_woven plan method ≡ true → method.max_locals + locals_of plan method < 2 ^ 16
+
+abbrev pub AllLocalsFit : Plan → Program → Type 0
+AllLocalsFit plan program = AllByRecursion (λ (c : LinkedClass). AllByRecursion (LocalsFit plan) c.methods) program.classes
 
 -- Each instruction is the client's.
 abbrev pub clients_from : ℕ → List Insn → List Origin

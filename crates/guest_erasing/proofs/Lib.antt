@@ -32,3 +32,4 @@ pub mod Climbing
 pub mod Erased
 pub mod Resting
 pub mod Starting
+pub mod Accepted

@@ -7,6 +7,7 @@ pub mod Mirrors
 pub mod Adding
 pub mod Changing
 pub mod Runs
+pub mod Accepted
 pub mod Climbing
 pub mod Steps
 pub mod Starting

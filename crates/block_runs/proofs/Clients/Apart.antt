@@ -37,8 +37,8 @@ use Rattle.guest_model.specs.Runs.{stepped_or_same, trace_from}
 use Rattle.guest_model.specs.Stepping.{call_stepped, changed, doing_stepped, frames_stepped, insn_stepped, is_on_null, stepped}
 use Rattle.guest_model.specs.Throwing.{unwound}
 use Rattle.guest_model.proofs.Options.{and_then_of, is_there, map_of, some_is}
+use Rattle.guest_erasing.specs.Accepted.{Alternate, AreApart, with_clauses}
 use Rattle.guest_erasing.proofs.Runs.{comes_to, sees}
-use Rattle.block_runs.specs.ClientRuns.{Alternate, AreApart, with_clauses}
 use Rattle.block_runs.specs.Joining.{ListedAreCalled, MayBegin, callers, is_calling}
 use Rattle.block_runs.proofs.Answered.{answered_is}
 use Rattle.block_runs.proofs.Clients.Unasked.{others_still, unless}
