@@ -22,9 +22,20 @@ as_program program made mode = record { program = program_with program made.file
 abbrev pub inlined : Program → Policy → Mode → Fitting (Inlined × List LinkedClass)
 inlined program policy mode = woven program (plan_of policy mode) policy.vars >>= λ made. Ok (as_program program made mode, program.classes)
 
+-- the same beside the program, whose classes stay
+abbrev pub inlined_beside : Program → Policy → Mode → Fitting Inlined
+inlined_beside program policy mode = woven program (plan_of policy mode) policy.vars >>= λ made. Ok (as_program program made mode)
+
 -- What was made is the program that woven files link to, which can be written.
 pub record IsOfFiles (program : Program) (policy : Policy) (mode : Mode) (made : Inlined × List LinkedClass) : Type 0 where
   pub files : Woven
   pub woven : woven program (plan_of policy mode) policy.vars ≡ Ok files
   pub is : made ≡ (as_program program files mode, program.classes)
+  pub encodes : AllByRecursion IsEncodable files.files
+
+-- So it is of what was made beside the program.
+pub record IsMadeBeside (program : Program) (policy : Policy) (mode : Mode) (made : Inlined) : Type 0 where
+  pub files : Woven
+  pub woven : woven program (plan_of policy mode) policy.vars ≡ Ok files
+  pub is : made ≡ as_program program files mode
   pub encodes : AllByRecursion IsEncodable files.files

@@ -12,9 +12,9 @@ ghost use Rattle.offset_patch.specs.Sizes.{first_unfit};
 ghost use Rattle.offset_patch.specs.declared.fault.SpliceFault.TheVariants.{Memory};
 ghost use Rattle.class_weaving.specs.Sizes.{program_sizes};
 ghost use Rattle.class_weaving.specs.Woven.{woven};
-ghost use Rattle.woven_linking.specs.Inlined.{IsOfFiles, as_program, inlined};
+ghost use Rattle.woven_linking.specs.Inlined.{IsMadeBeside, IsOfFiles, as_program, inlined, inlined_beside};
 
-use crate::program::program_with;
+use crate::program::{program_beside, program_with};
 use block_template::PolicyPlan;
 use bytecode_model::{LinkedClass, Origin, Program};
 use cert_format::Mode;
@@ -109,6 +109,42 @@ fn relinked(
         Err(NoMemory) => {
             drop(origins);
             Err(NoMemory)
+        }
+    }
+}
+
+/// The same, and the program stays as it is: what both share is copied.
+pub fn inline_beside(
+    alloc: Global,
+    program: &Program,
+    policy: &Policy,
+    mode: Mode,
+) -> Result<Inlined, SpliceFault>
+    requires sound { IsSound program.now }
+    requires policy { IsPolicy policy.now }
+    ensures exact { Answers SpliceFault.Memory result (inlined_beside program.now policy.now mode) }
+    // Each size fits, or the first that does not is the fault.
+    ensures fits { IsOk result → first_unfit (program_sizes program.now (plan_of policy.now mode)) ≡ None }
+    ensures unfit { IfErr result (λ fault. fault ≢ Memory
+        → first_unfit (program_sizes program.now (plan_of policy.now mode)) ≡ Some fault) }
+    // Its class files can be written.
+    ensures encodes { IfOk result (IsMadeBeside program.now policy.now mode) }
+{
+    let Woven {
+        files,
+        methods,
+        origins,
+    } = woven(alloc, program, policy, mode)?;
+    let linked = program_beside(alloc, program, files, methods);
+    match linked {
+        Ok(program) => Ok(Inlined {
+            program,
+            mode,
+            origins,
+        }),
+        Err(NoMemory) => {
+            drop(origins);
+            Err(SpliceFault::Memory)
         }
     }
 }

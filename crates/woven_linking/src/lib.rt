@@ -6,7 +6,7 @@ mod inlining;
 mod laws;
 mod program;
 
-pub use inlining::{Inlined, inline};
+pub use inlining::{Inlined, inline, inline_beside};
 pub use laws::{
     original_is_free, origins_are_laid_out, origins_are_true, woven_files_link,
     woven_program_is_linked,

@@ -4,9 +4,10 @@ ghost use Rattle.std.specs.Prelude.{◌≡◌, IfOk, Ok};
 ghost use Rattle.bytecode_model.specs.Heads.{class_at};
 ghost use Rattle.woven_linking.specs.Program.{class_with, classes_with, program_with, state_with};
 
+use api_listing::{ListedClass, ListedMethod, Listing};
 use bytecode_model::{LinkedClass, Method, Program, copy_class};
 use class_codec::ClassFile;
-use mon_base::{Bytes, List, NoMemory};
+use mon_base::{Bytes, List, MethodId, NoMemory};
 use std::alloc::Global;
 use std::collections::VecDeque;
 
@@ -36,6 +37,80 @@ pub fn program_with(
         main_method,
     };
     Ok((program, classes))
+}
+
+/// The same, and the program stays as it is: its listing and its literals are copied.
+pub fn program_beside(
+    alloc: Global,
+    old: &Program,
+    files: List<ClassFile>,
+    methods: List<List<Method>>,
+) -> Result<Program, NoMemory>
+    ensures { IfOk result (λ made. made ≡ program_with old.now files methods) }
+{
+    let classes = classes_with(alloc, old.classes.as_slice(), files, methods)?;
+    let listing = listing_copied(alloc, &old.listing)?;
+    let literals = names_copied(alloc, old.literals.as_slice())?;
+    Ok(Program {
+        classes,
+        listing,
+        literals,
+        main_class: old.main_class,
+        main_method: old.main_method,
+    })
+}
+
+fn listing_copied(alloc: Global, listing: &Listing) -> Result<Listing, NoMemory>
+    ensures { IfOk result (λ copy. copy ≡ listing.now) }
+{
+    let classes = classes_copied(alloc, listing.classes.as_slice())?;
+    let methods = methods_copied(alloc, listing.methods.as_slice())?;
+    let fields = fields_copied(alloc, listing.fields.as_slice())?;
+    Ok(Listing {
+        classes,
+        methods,
+        fields,
+    })
+}
+
+fn classes_copied(alloc: Global, classes: &[ListedClass]) -> Result<List<ListedClass>, NoMemory>
+    ensures { IfOk result (λ copies. copies ≡ classes.now) }
+{
+    let mut copies = List::new(alloc);
+    for class in classes {
+        copies.push(class.copy(alloc)?)?;
+    }
+    Ok(copies)
+}
+
+fn methods_copied(alloc: Global, methods: &[ListedMethod]) -> Result<List<ListedMethod>, NoMemory>
+    ensures { IfOk result (λ copies. copies ≡ methods.now) }
+{
+    let mut copies = List::new(alloc);
+    for method in methods {
+        copies.push(method.copy(alloc)?)?;
+    }
+    Ok(copies)
+}
+
+fn fields_copied(alloc: Global, fields: &[MethodId]) -> Result<List<MethodId>, NoMemory>
+    ensures { IfOk result (λ copies. copies ≡ fields.now) }
+{
+    let mut copies = List::new(alloc);
+    for field in fields {
+        copies.push(field.copy(alloc)?)?;
+    }
+    Ok(copies)
+}
+
+fn names_copied(alloc: Global, names: &[Bytes]) -> Result<List<Bytes>, NoMemory>
+    ensures { IfOk result (λ copies. copies ≡ names.now) }
+{
+    let mut copies = List::new(alloc);
+    for name in names {
+        copies.push(name.copy(alloc)?)?;
+    }
+    Ok(copies)
 }
 
 /// The classes with their files and methods, and after them `conspec/State`.
