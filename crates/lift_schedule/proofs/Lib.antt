@@ -1,0 +1,5 @@
+pub mod Places
+pub mod Tables
+pub mod Climbing
+pub mod Judging
+pub mod Lifts
