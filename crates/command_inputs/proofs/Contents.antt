@@ -144,4 +144,9 @@ told_are_read = record {
       then_so _ _ _ _ (file_so named.listing _ contents count no_rise) (λ listing.
       then_so _ _ _ _ (file_so named.recorded _ contents count no_rise) (λ recorded.
       then_so _ _ _ _ (classes_so contents count no_rise named.classes) (λ classes. yields_so _))) result;
+  lift = λ contents count named result no_rise.
+      then_so _ _ _ _ (file_so named.listing _ contents count no_rise) (λ listing.
+      then_so _ _ _ _ (file_so named.policy _ contents count no_rise) (λ policy.
+      then_so _ _ _ _ (file_so named.recorded _ contents count no_rise) (λ recorded.
+      then_so _ _ _ _ (classes_so contents count no_rise named.classes) (λ classes. yields_so _)))) result;
 }

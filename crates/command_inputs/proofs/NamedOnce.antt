@@ -6,8 +6,9 @@ use Rattle.command_inputs.specs.declared.inline_words.Weaving.{Weaving}
 use Rattle.command_inputs.specs.declared.inline_words.Weaving.TheVariants.{Auto, Hold, Release}
 use Rattle.command_inputs.specs.GenWords.{IsGen, NamedGen}
 use Rattle.command_inputs.specs.InlineWords.{IsInline, NamedInline, weaving_word}
+use Rattle.command_inputs.specs.LiftWords.{IsLift, NamedLift}
 use Rattle.command_inputs.specs.ReplayWords.{IsReplay, NamedReplay}
-use Rattle.command_inputs.specs.Words.{Check, Gen, Inline, IsCheck, IsCommand, IsPolicyCommand, IsRace, IsShow, NamedCheck, NamedCommand, NamedPolicy, NamedRace, NamedShow, NamedRun, Policy, Race, Replay, Run, IsRunCommand, Show, Encodes}
+use Rattle.command_inputs.specs.Words.{Check, Gen, Inline, IsCheck, IsCommand, IsPolicyCommand, IsRace, IsShow, Lift, NamedCheck, NamedCommand, NamedPolicy, NamedRace, NamedShow, NamedRun, Policy, Race, Replay, Run, IsRunCommand, Show, Encodes}
 
 -- ---- the command inline
 
@@ -106,6 +107,20 @@ same_replay words a b of_a of_b =
     let whole : a ≡ record { listing = b.listing; main = b.main; recorded = b.recorded; classes = b.classes } = rw (← listing, ← main, ← recorded, ← classes) refl in
     whole
 
+abbrev words_of_lift : NamedLift → List (List ℕ)
+words_of_lift named = codes "lift" ∷ named.policy ∷ named.listing ∷ named.main ∷ named.recorded ∷ named.classes
+
+same_lift : (words : List (List ℕ)) (a b : NamedLift) → IsLift words a → IsLift words b → a ≡ b
+same_lift words a b of_a of_b =
+    let e : words_of_lift a ≡ words_of_lift b = sym of_a.encoded ∙ of_b.encoded in
+    let policy : a.policy ≡ b.policy = cc in
+    let listing : a.listing ≡ b.listing = cc in
+    let main : a.main ≡ b.main = cc in
+    let recorded : a.recorded ≡ b.recorded = cc in
+    let classes : a.classes ≡ b.classes = cc in
+    let whole : a ≡ record { policy = b.policy; listing = b.listing; main = b.main; recorded = b.recorded; classes = b.classes } = rw (← policy, ← listing, ← main, ← recorded, ← classes) refl in
+    whole
+
 -- ---- any command
 
 -- a number by which the words that name commands are told apart
@@ -162,6 +177,7 @@ mark_of (Policy named) = 1126
 mark_of (Race named) = 1144
 mark_of (Inline named) = 1056
 mark_of (Replay named) = 1146
+mark_of (Lift named) = 1084
 mark_of (Run named) = 1143
 mark_of (Gen named) = 1033
 
@@ -172,6 +188,7 @@ marks words (Policy named) encoded = ap marked encoded.encoded
 marks words (Race named) encoded = ap marked encoded.encoded
 marks words (Inline named) encoded = ap marked encoded.encoded
 marks words (Replay named) encoded = ap marked encoded.encoded
+marks words (Lift named) encoded = ap marked encoded.encoded
 marks words (Run named) encoded = ap marked encoded.encoded
 marks words (Gen named) encoded = ap marked encoded.encoded
 
@@ -182,6 +199,7 @@ same_command words (Check a) (Policy b) e of_a of_b = absurd (omega (arith, e))
 same_command words (Check a) (Race b) e of_a of_b = absurd (omega (arith, e))
 same_command words (Check a) (Inline b) e of_a of_b = absurd (omega (arith, e))
 same_command words (Check a) (Replay b) e of_a of_b = absurd (omega (arith, e))
+same_command words (Check a) (Lift b) e of_a of_b = absurd (omega (arith, e))
 same_command words (Check a) (Run b) e of_a of_b = absurd (omega (arith, e))
 same_command words (Check a) (Gen b) e of_a of_b = absurd (omega (arith, e))
 same_command words (Show a) (Check b) e of_a of_b = absurd (omega (arith, e))
@@ -190,6 +208,7 @@ same_command words (Show a) (Policy b) e of_a of_b = absurd (omega (arith, e))
 same_command words (Show a) (Race b) e of_a of_b = absurd (omega (arith, e))
 same_command words (Show a) (Inline b) e of_a of_b = absurd (omega (arith, e))
 same_command words (Show a) (Replay b) e of_a of_b = absurd (omega (arith, e))
+same_command words (Show a) (Lift b) e of_a of_b = absurd (omega (arith, e))
 same_command words (Show a) (Run b) e of_a of_b = absurd (omega (arith, e))
 same_command words (Show a) (Gen b) e of_a of_b = absurd (omega (arith, e))
 same_command words (Policy a) (Check b) e of_a of_b = absurd (omega (arith, e))
@@ -198,6 +217,7 @@ same_command words (Policy a) (Policy b) e of_a of_b = ap Policy (same_policy wo
 same_command words (Policy a) (Race b) e of_a of_b = absurd (omega (arith, e))
 same_command words (Policy a) (Inline b) e of_a of_b = absurd (omega (arith, e))
 same_command words (Policy a) (Replay b) e of_a of_b = absurd (omega (arith, e))
+same_command words (Policy a) (Lift b) e of_a of_b = absurd (omega (arith, e))
 same_command words (Policy a) (Run b) e of_a of_b = absurd (omega (arith, e))
 same_command words (Policy a) (Gen b) e of_a of_b = absurd (omega (arith, e))
 same_command words (Race a) (Check b) e of_a of_b = absurd (omega (arith, e))
@@ -206,6 +226,7 @@ same_command words (Race a) (Policy b) e of_a of_b = absurd (omega (arith, e))
 same_command words (Race a) (Race b) e of_a of_b = ap Race (same_race words a b of_a of_b)
 same_command words (Race a) (Inline b) e of_a of_b = absurd (omega (arith, e))
 same_command words (Race a) (Replay b) e of_a of_b = absurd (omega (arith, e))
+same_command words (Race a) (Lift b) e of_a of_b = absurd (omega (arith, e))
 same_command words (Race a) (Run b) e of_a of_b = absurd (omega (arith, e))
 same_command words (Race a) (Gen b) e of_a of_b = absurd (omega (arith, e))
 same_command words (Inline a) (Check b) e of_a of_b = absurd (omega (arith, e))
@@ -214,6 +235,7 @@ same_command words (Inline a) (Policy b) e of_a of_b = absurd (omega (arith, e))
 same_command words (Inline a) (Race b) e of_a of_b = absurd (omega (arith, e))
 same_command words (Inline a) (Inline b) e of_a of_b = ap Inline (same_inline words a b of_a of_b)
 same_command words (Inline a) (Replay b) e of_a of_b = absurd (omega (arith, e))
+same_command words (Inline a) (Lift b) e of_a of_b = absurd (omega (arith, e))
 same_command words (Inline a) (Run b) e of_a of_b = absurd (omega (arith, e))
 same_command words (Inline a) (Gen b) e of_a of_b = absurd (omega (arith, e))
 same_command words (Replay a) (Check b) e of_a of_b = absurd (omega (arith, e))
@@ -222,14 +244,25 @@ same_command words (Replay a) (Policy b) e of_a of_b = absurd (omega (arith, e))
 same_command words (Replay a) (Race b) e of_a of_b = absurd (omega (arith, e))
 same_command words (Replay a) (Inline b) e of_a of_b = absurd (omega (arith, e))
 same_command words (Replay a) (Replay b) e of_a of_b = ap Replay (same_replay words a b of_a of_b)
+same_command words (Replay a) (Lift b) e of_a of_b = absurd (omega (arith, e))
 same_command words (Replay a) (Run b) e of_a of_b = absurd (omega (arith, e))
 same_command words (Replay a) (Gen b) e of_a of_b = absurd (omega (arith, e))
+same_command words (Lift a) (Check b) e of_a of_b = absurd (omega (arith, e))
+same_command words (Lift a) (Show b) e of_a of_b = absurd (omega (arith, e))
+same_command words (Lift a) (Policy b) e of_a of_b = absurd (omega (arith, e))
+same_command words (Lift a) (Race b) e of_a of_b = absurd (omega (arith, e))
+same_command words (Lift a) (Inline b) e of_a of_b = absurd (omega (arith, e))
+same_command words (Lift a) (Replay b) e of_a of_b = absurd (omega (arith, e))
+same_command words (Lift a) (Lift b) e of_a of_b = ap Lift (same_lift words a b of_a of_b)
+same_command words (Lift a) (Run b) e of_a of_b = absurd (omega (arith, e))
+same_command words (Lift a) (Gen b) e of_a of_b = absurd (omega (arith, e))
 same_command words (Run a) (Check b) e of_a of_b = absurd (omega (arith, e))
 same_command words (Run a) (Show b) e of_a of_b = absurd (omega (arith, e))
 same_command words (Run a) (Policy b) e of_a of_b = absurd (omega (arith, e))
 same_command words (Run a) (Race b) e of_a of_b = absurd (omega (arith, e))
 same_command words (Run a) (Inline b) e of_a of_b = absurd (omega (arith, e))
 same_command words (Run a) (Replay b) e of_a of_b = absurd (omega (arith, e))
+same_command words (Run a) (Lift b) e of_a of_b = absurd (omega (arith, e))
 same_command words (Run a) (Run b) e of_a of_b = ap Run (same_run words a b of_a of_b)
 same_command words (Run a) (Gen b) e of_a of_b = absurd (omega (arith, e))
 same_command words (Gen a) (Check b) e of_a of_b = absurd (omega (arith, e))
@@ -238,6 +271,7 @@ same_command words (Gen a) (Policy b) e of_a of_b = absurd (omega (arith, e))
 same_command words (Gen a) (Race b) e of_a of_b = absurd (omega (arith, e))
 same_command words (Gen a) (Inline b) e of_a of_b = absurd (omega (arith, e))
 same_command words (Gen a) (Replay b) e of_a of_b = absurd (omega (arith, e))
+same_command words (Gen a) (Lift b) e of_a of_b = absurd (omega (arith, e))
 same_command words (Gen a) (Run b) e of_a of_b = absurd (omega (arith, e))
 same_command words (Gen a) (Gen b) e of_a of_b = ap Gen (same_gen words a b of_a of_b)
 

@@ -9,12 +9,15 @@ use Rattle.command_inputs.specs.declared.named.ReadClasses.{ReadClasses as Class
 use Rattle.command_inputs.specs.Forms.{Count, Form, IsRead, ReadsForm, Then, Yields}
 use Rattle.command_inputs.specs.InlineInputs.{ReadsInline}
 use Rattle.command_inputs.specs.InlineWords.{NamedInline}
+use Rattle.command_inputs.specs.LiftInputs.{ReadsLift}
+use Rattle.command_inputs.specs.LiftWords.{NamedLift}
 use Rattle.command_inputs.specs.ReplayWords.{NamedReplay}
 use Rattle.event_record.specs.declared.reading.Record.{Record}
 use Rattle.command_inputs.specs.ReplayInputs.{ReadsReplay}
 use Rattle.command_inputs.specs.CheckInputs.{ReadsCheck}
 use Rattle.command_inputs.specs.Named.{ReadsClasses, ReadsBefore}
 use Rattle.command_inputs.specs.declared.check_inputs.CheckInputs.{CheckInputs}
+use Rattle.command_inputs.specs.declared.lift_inputs.LiftInputs.{LiftInputs}
 use Rattle.command_inputs.specs.declared.race_inputs.RaceInputs.{RaceInputs}
 use Rattle.command_inputs.specs.declared.replay_inputs.ReplayInputs.{ReplayInputs}
 use Rattle.command_inputs.specs.PolicyInputs.{ReadsPolicy}
@@ -100,3 +103,13 @@ pub replay_stops : (files : Files) (named : NamedReplay) (first begun now : ℕ)
 replay_stops files named first begun now last le listing listed stop over =
     let whole : Record → Classes → ReplayInputs = λ recorded classes. record { listing = listing; recorded = recorded; classes = classes } in
     inr (listing, listed, before_since files (record_form listing) named.recorded named.classes whole first begun now last stop le over)
+
+-- ---- lift
+
+pub lift_stops : (files : Files) (named : NamedLift) (count : Count) (inputs : RaceInputs) → ReadsRace files count (record { policy = named.policy; listing = named.listing }) (Ok inputs)
+    → (first begun now : ℕ) (last : List ℕ) (stop : Stop) → first ≤ begun
+    → ReadsBefore files (counted begun now last) named.recorded (record_form inputs.listing) named.classes (Err stop) → ReadsLift files (counted first now last) named (Err stop)
+lift_stops files named count inputs read first begun now last stop le over =
+    let form = subst (λ (i : RaceInputs). ReadsBefore files (counted begun now last) named.recorded (record_form i.listing) named.classes (Err stop)) read.2.2 over in
+    let whole : Record → Classes → LiftInputs = λ recorded classes. record { listing = read.0; policy = read.2.0; recorded = recorded; classes = classes } in
+    inr (read.0, read.1, inr (read.2.0, read.2.1, before_since files (record_form read.0) named.recorded named.classes whole first begun now last stop le form))

@@ -2,6 +2,7 @@
 -- (docs/COMMANDS.md)
 use Rattle.std.specs.Prelude.{ℕ, nat_lt, if◌then◌else◌, List, [], ◌∷◌, length, Option, Some, None, Result, Ok, Err}
 use Rattle.command_inputs.specs.InlineWords.{NamedInline}
+use Rattle.command_inputs.specs.LiftWords.{NamedLift}
 use Rattle.command_inputs.specs.ReplayWords.{NamedReplay}
 use Rattle.command_inputs.specs.Words.{NamedCheck, NamedPolicy, NamedRace, NamedShow}
 use Rattle.mon_base.specs.Reading.{◌>>=◌}
@@ -11,6 +12,7 @@ use Rattle.command_inputs.specs.declared.fault.InputFault.TheVariants as faults
 use Rattle.command_inputs.specs.declared.files.Stop.{Stop}
 use Rattle.command_inputs.specs.declared.files.Stop.TheVariants as stops
 use Rattle.command_inputs.specs.declared.inline_inputs.InlineInputs.{InlineInputs}
+use Rattle.command_inputs.specs.declared.lift_inputs.LiftInputs.{LiftInputs}
 use Rattle.command_inputs.specs.declared.named.ReadClasses.{ReadClasses as Classes}
 use Rattle.command_inputs.specs.declared.policy_inputs.PolicyInputs.{PolicyInputs}
 use Rattle.command_inputs.specs.declared.race_inputs.RaceInputs.{RaceInputs}
@@ -94,3 +96,11 @@ replay_read contents named = do
   recorded ← file_read contents named.recorded (record_form listing)
   classes ← classes_read contents named.classes
   Ok (record { listing = listing; recorded = recorded; classes = classes })
+
+abbrev pub lift_read : Contents → NamedLift → Result LiftInputs Stop
+lift_read contents named = do
+  listing ← file_read contents named.listing listing_form
+  policy ← file_read contents named.policy (policy_form listing)
+  recorded ← file_read contents named.recorded (record_form listing)
+  classes ← classes_read contents named.classes
+  Ok (record { listing = listing; policy = policy; recorded = recorded; classes = classes })

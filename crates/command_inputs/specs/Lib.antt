@@ -1,6 +1,7 @@
 pub mod Counts
 pub mod GenWords
 pub mod InlineWords
+pub mod LiftWords
 pub mod ReplayWords
 pub mod Words
 pub mod Fault
@@ -13,6 +14,7 @@ pub mod PolicyInputs
 pub mod RaceInputs
 pub mod InlineInputs
 pub mod ReplayInputs
+pub mod LiftInputs
 pub mod Encoded
 pub mod Contents
 pub mod Told

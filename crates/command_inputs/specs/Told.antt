@@ -1,18 +1,13 @@
 -- That what is read of told files, without a fault of the store, is what these are, want of memory aside. (docs/COMMANDS.md)
 use Rattle.std.specs.Prelude.{◌≡◌, Some, Result, Ok, Err}
 use Rattle.mon_store.specs.Store.{Files, Rose}
-use Rattle.command_inputs.specs.declared.check_inputs.CheckInputs.{CheckInputs}
 use Rattle.command_inputs.specs.declared.files.Stop.{Stop}
 use Rattle.command_inputs.specs.declared.files.Stop.TheVariants as stops
-use Rattle.command_inputs.specs.declared.inline_inputs.InlineInputs.{InlineInputs}
-use Rattle.command_inputs.specs.declared.policy_inputs.PolicyInputs.{PolicyInputs}
-use Rattle.command_inputs.specs.declared.race_inputs.RaceInputs.{RaceInputs}
-use Rattle.command_inputs.specs.declared.replay_inputs.ReplayInputs.{ReplayInputs}
-use Rattle.command_inputs.specs.declared.show_inputs.ShowInputs.{ShowInputs}
 use Rattle.command_inputs.specs.CheckInputs.{ReadsCheck}
-use Rattle.command_inputs.specs.Contents.{Contents, check_read, inline_read, policy_read, race_read, replay_read, show_read}
+use Rattle.command_inputs.specs.Contents.{Contents, check_read, inline_read, lift_read, policy_read, race_read, replay_read, show_read}
 use Rattle.command_inputs.specs.Forms.{Count}
 use Rattle.command_inputs.specs.InlineInputs.{ReadsInline}
+use Rattle.command_inputs.specs.LiftInputs.{ReadsLift}
 use Rattle.command_inputs.specs.PolicyInputs.{ReadsPolicy}
 use Rattle.command_inputs.specs.RaceInputs.{ReadsRace}
 use Rattle.command_inputs.specs.ReplayInputs.{ReadsReplay}
@@ -38,3 +33,4 @@ pub record ToldAreRead : Type 0 where
   pub race : ReadsTold ReadsRace race_read
   pub inline : ReadsTold ReadsInline inline_read
   pub replay : ReadsTold ReadsReplay replay_read
+  pub lift : ReadsTold ReadsLift lift_read

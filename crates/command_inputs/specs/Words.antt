@@ -13,6 +13,7 @@ use Rattle.command_inputs.specs.declared.words.ShowWords.{ShowWords}
 use Rattle.command_inputs.specs.Counts.{IsCount}
 use Rattle.command_inputs.specs.GenWords.{IsGen, NamedGen, gen_named}
 use Rattle.command_inputs.specs.InlineWords.{IsInline, NamedInline, inline_named}
+use Rattle.command_inputs.specs.LiftWords.{IsLift, NamedLift, lift_named}
 use Rattle.command_inputs.specs.ReplayWords.{IsReplay, NamedReplay, replay_named}
 
 -- the files of a check, and the name of its main class
@@ -52,6 +53,7 @@ pub data NamedCommand : Type 0 where
   Race : NamedRace → NamedCommand
   Inline : NamedInline → NamedCommand
   Replay : NamedReplay → NamedCommand
+  Lift : NamedLift → NamedCommand
   Gen : NamedGen → NamedCommand
   Run : NamedRun → NamedCommand
 
@@ -83,6 +85,7 @@ files_named (overs.Policy words) = Policy (policy_named words)
 files_named (overs.Race words) = Race (race_named words)
 files_named (overs.Inline words) = Inline (inline_named words)
 files_named (overs.Replay words) = Replay (replay_named words)
+files_named (overs.Lift words) = Lift (lift_named words)
 files_named (overs.Gen words) = Gen (gen_named words)
 
 abbrev pub named_by : Command → NamedCommand
@@ -97,6 +100,7 @@ IsOverFiles (Policy named) = Unit {0}
 IsOverFiles (Race named) = Unit {0}
 IsOverFiles (Inline named) = Unit {0}
 IsOverFiles (Replay named) = Unit {0}
+IsOverFiles (Lift named) = Unit {0}
 IsOverFiles (Gen named) = Unit {0}
 IsOverFiles (Run named) = ⊥
 
@@ -134,6 +138,7 @@ Encodes words (Policy named) = IsPolicyCommand words named
 Encodes words (Race named) = IsRace words named
 Encodes words (Inline named) = IsInline words named
 Encodes words (Replay named) = IsReplay words named
+Encodes words (Lift named) = IsLift words named
 Encodes words (Gen named) = IsGen words named
 Encodes words (Run named) = IsRunCommand words named
 

@@ -15,6 +15,7 @@ use crate::named::{ReadClasses, classes_of, listing_of, record_of};
 use crate::replay_words::ReplayWords;
 use api_listing::Listing;
 use event_record::Record;
+use mon_base::Bytes;
 use mon_store::Store;
 use std::alloc::Global;
 
@@ -26,22 +27,23 @@ pub struct ReplayInputs {
     pub classes: ReadClasses,
 }
 
-/// Reads the record, over the listing, and then the classes.
-fn read_over<S: Store>(
+/// Reads a record, over the listing, and then classes.
+pub fn recorded_classes<S: Store>(
     alloc: Global,
     store: &mut S,
-    words: &ReplayWords,
     listing: &Listing,
+    recorded: &Bytes,
+    classes: &[Bytes],
 ) -> Result<(Record, ReadClasses), Stop>
     requires { IsFew listing.now }
     ensures read { ReadsBefore (S.files store.old) (since (S.faults store.old) (S.faults store.new) (S.last store.new))
-        (replay_named words.now).recorded (record_form listing.now) (replay_named words.now).classes result }
+        recorded.now (record_form listing.now) classes.now result }
     ensures fits { IfOk result (λ r. AllByRecursion IsEncodable r.1.files) }
     ensures files { S.files store.new ≡ S.files store.old }
     ensures faults { S.faults store.old ≤ S.faults store.new }
 {
-    let recorded = record_of(alloc, store, words.recorded, listing)?;
-    let classes = classes_of(alloc, store, words.classes)?;
+    let recorded = record_of(alloc, store, recorded, listing)?;
+    let classes = classes_of(alloc, store, classes)?;
     Ok((recorded, classes))
 }
 
@@ -58,7 +60,13 @@ pub fn read_replay<S: Store>(
     ensures faults { S.faults store.old ≤ S.faults store.new }
 {
     let listing = listing_of(alloc, store, words.listing)?;
-    let (recorded, classes) = read_over(alloc, store, words, &listing)?;
+    let (recorded, classes) = recorded_classes(
+        alloc,
+        store,
+        &listing,
+        words.recorded,
+        words.classes,
+    )?;
     Ok(ReplayInputs {
         listing,
         recorded,

@@ -25,6 +25,7 @@ ghost use Rattle.command_inputs.specs.Words.{
 
 use crate::gen_words::{GenWords, gen_words};
 use crate::inline_words::{InlineWords, inline_words};
+use crate::lift_words::{LiftWords, lift_words};
 use crate::replay_words::{ReplayWords, replay_words};
 use crate::run_words::{RunWords, run_words};
 use mon_base::Bytes;
@@ -72,6 +73,7 @@ pub enum FileCommand<'a> {
     Race(RaceWords<'a>),
     Inline(InlineWords<'a>),
     Replay(ReplayWords<'a>),
+    Lift(LiftWords<'a>),
     Gen(GenWords<'a>),
 }
 
@@ -122,6 +124,9 @@ fn file_command_of(words: &[Bytes]) -> Option<FileCommand<'_>>
     }
     if let Some(words) = replay_words(words) {
         return Some(FileCommand::Replay(words));
+    }
+    if let Some(words) = lift_words(words) {
+        return Some(FileCommand::Lift(words));
     }
     if let Some(words) = gen_words(words) {
         return Some(FileCommand::Gen(words));
