@@ -1,4 +1,4 @@
--- Codes that are written whole: none of their sizes can be too large.
+-- Codes that are written whole: none of their sizes can be too large. (docs/GENERATED.md)
 use Rattle.std.specs.Prelude.{◌≤◌, List}
 use Rattle.insn_codec.specs.declared.insn.Insn.{Insn}
 use Rattle.insn_codec.specs.Encoding.{len_from}

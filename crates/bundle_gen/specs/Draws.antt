@@ -1,4 +1,5 @@
 -- The numbers that a generated program is made of: a linear congruential generator, of whose states the high bits are drawn.
+-- (docs/GENERATED.md)
 use Rattle.std.specs.Prelude.{ℕ, zero, suc, ◌+◌, ◌*◌, ◌/◌, ◌%◌, ◌^◌}
 
 -- the state after this one

@@ -48,7 +48,7 @@ HasName file name = class_name_at file.pool file.this_class ≡ Some name
 abbrev pub thread_name : ℕ → List ℕ
 thread_name index = codes "g/C" ++ decimal index
 
--- places 0 to 10: the class, how a thread is thread_begun, and its run
+-- places 0 to 10: the class, how a thread is begun, and its run
 abbrev pub thread_own : ℕ → List Const
 thread_own index =
     Second
@@ -155,7 +155,7 @@ unfoldable pub named_from : ℕ → ℕ → List Const
 named_from index zero = []
 named_from index (suc n) = named index ++ named_from (index + 1) n
 
--- a thread of the class of this index is made, and thread_begun
+-- a thread of the class of this index is made, and begun
 unfoldable pub thread_begun : ℕ → List Insn
 thread_begun index =
     Pool NEW (constants_place index + 1)
