@@ -2,5 +2,5 @@ mod Asked
 mod Devices
 mod Keeping
 mod Lines
-mod Traces
+pub mod Traces
 mod Turning

@@ -25,7 +25,7 @@ one_event line lines = by line.event refl where
   by None is = rw is refl
   by (Some event) is = rw is refl
 
-trace_is : (program : Program) (lines : List Line) (machine : Machine) → AreLinesFrom program machine lines
+pub trace_is : (program : Program) (lines : List Line) (machine : Machine) → AreLinesFrom program machine lines
     → trace_from program machine (steps_of lines) ≡ events_in lines
 trace_is program [] machine are = refl
 trace_is program (line ∷ lines) machine are =

@@ -4,7 +4,7 @@ use Rattle.std.specs.Prelude.{IfOk}
 use Rattle.api_shelf.specs.Shelf.{View}
 use Rattle.command_inputs.specs.InlineWords.{NamedInline}
 use Rattle.command_inputs.specs.ReplayWords.{NamedReplay}
-use Rattle.command_inputs.specs.Words.{Check, Gen, Inline, NamedCheck, NamedCommand, NamedRun, Policy, Race, Replay, Run, Show}
+use Rattle.command_inputs.specs.Words.{Check, Gen, Inline, Lift, NamedCheck, NamedCommand, NamedRun, Policy, Race, Replay, Run, Show}
 use Rattle.command_inputs.specs.declared.files.Stop.{Stop}
 use Rattle.command_inputs.specs.declared.files.Stop.TheVariants as stops
 use Rattle.command_inputs.specs.Forms.{Count, Then, Yields, since}
@@ -49,6 +49,7 @@ made_still files new after count again (Policy named) made makes = makes
 made_still files new after count again (Race named) made makes = makes
 made_still files new after count again (Inline named) made makes = makes
 made_still files new after count again (Replay named) made makes = makes
+made_still files new after count again (Lift named) made makes = makes
 made_still files new after count again (Gen named) made makes = makes
 made_still files new after count again (Run named) made makes = makes
 

@@ -1,8 +1,8 @@
 -- What a command comes to over told files, without a fault of the store, is what its definition gives.
 use Rattle.std.proofs.Common.{◌≡◌, ℕ, List, Option, Some, Ok, Err, inl, inr, refl, subst}
-use Rattle.command_inputs.specs.Words.{Check, Gen, Inline, IsCommand, NamedCommand, Policy, Race, Replay, Run, Show}
+use Rattle.command_inputs.specs.Words.{Check, Gen, Inline, IsCommand, Lift, NamedCommand, Policy, Race, Replay, Run, Show}
 use Rattle.command_inputs.proofs.NamedOnce.{command_once}
-use Rattle.command_inputs.specs.Contents.{Contents, check_read, inline_read, policy_read, race_read, replay_read, show_read}
+use Rattle.command_inputs.specs.Contents.{Contents, check_read, inline_read, lift_read, policy_read, race_read, replay_read, show_read}
 use Rattle.command_inputs.specs.Forms.{Count, Then, Yields}
 use Rattle.command_inputs.specs.Told.{ToldAreRead}
 use Rattle.mon_store.specs.Sink.{Appends}
@@ -15,6 +15,7 @@ use Rattle.inliner_tool.specs.Check.{Checks}
 use Rattle.inliner_tool.specs.Commands.{Makes, readings_in, readings_of}
 use Rattle.inliner_tool.specs.Decides.{ComesTo, Decides, Gives}
 use Rattle.inliner_tool.specs.Inline.{Inlines}
+use Rattle.inliner_tool.specs.Lift.{Lifts}
 use Rattle.inliner_tool.specs.Policy.{Judges}
 use Rattle.inliner_tool.specs.Race.{Races}
 use Rattle.inliner_tool.specs.Replay.{Replays}
@@ -41,6 +42,7 @@ module _ (told : ToldAreRead) (contents : Contents) (count : Count) (no_rise : R
   makes_so (Race named) new step other = told_so _ (race_read contents named) (λ r. told.race contents count named r no_rise) Races step other
   makes_so (Inline named) new step other = told_so _ (inline_read contents named) (λ r. told.inline contents count named r no_rise) (Inlines named) step other
   makes_so (Replay named) new step other = told_so _ (replay_read contents named) (λ r. told.replay contents count named r no_rise) (Replays named.main) step other
+  makes_so (Lift named) new step other = told_so _ (lift_read contents named) (λ r. told.lift contents count named r no_rise) (Lifts named.main) step other
   makes_so (Gen named) new step other = λ makes. makes
   makes_so (Run named) new step other = told_so _ (check_read contents named.check) (λ r. told.check contents count named.check r no_rise) (Runs named) step other
 

@@ -22,6 +22,7 @@ mod Names
 mod Encoded
 mod Expected
 mod Planned
+mod Lifting
 mod MadeOf
 pub mod Runs
 pub mod CheckDecision

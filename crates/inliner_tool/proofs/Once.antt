@@ -1,17 +1,22 @@
--- A command but `inline` comes to one outcome over the same files.
+-- A command but `inline` and `run` comes to one outcome over the same files.
 use Rattle.std.proofs.Common.{◌≡◌, ◌⊎◌, inl, inr, ℕ, ◌+◌, ◌<◌, ◌≤◌, List, length, Option, Some, Result, Ok, Err, refl, sym, ap, subst, ◌∙◌, arith}
 use Rattle.std.specs.Prelude.{slice_get}
 use Rattle.bytecode_model.specs.declared.program.LinkedClass.{LinkedClass}
 use Rattle.bytecode_model.specs.declared.program.Method.{Method}
 use Rattle.bytecode_model.specs.declared.program.Program.{Program}
-use Rattle.cert_format.specs.declared.typing.Typing.{Typing}
-use Rattle.command_inputs.specs.Words.{Check, Gen, Inline, NamedCommand, Policy, Race, Replay, Run, Show}
+use Rattle.cert_format.specs.declared.certificate.Mode.{Mode}
+use Rattle.command_inputs.specs.declared.inline_words.Weaving.TheVariants.{Auto}
+use Rattle.command_inputs.specs.declared.lift_inputs.LiftInputs.{LiftInputs}
+use Rattle.conspec_automaton.specs.declared.policy.Policy.{Policy as Automaton}
+use Rattle.guest_model.specs.declared.machine.Step.{Step as GuestStep}
+use Rattle.lift_schedule.specs.Lifting.{lift_of}
+use Rattle.command_inputs.specs.Words.{Check, Gen, Inline, Lift, NamedCommand, Policy, Race, Replay, Run, Show}
 use Rattle.conspec_automaton.specs.Building.{built}
 use Rattle.command_inputs.specs.declared.check_inputs.CheckInputs.{CheckInputs}
 use Rattle.race_free_check.specs.Deciding.{decided}
 use Rattle.command_inputs.specs.declared.files.Stop.{Stop}
 use Rattle.command_inputs.specs.declared.replay_inputs.ReplayInputs.{ReplayInputs}
-use Rattle.command_inputs.specs.Contents.{Contents, check_read, policy_read, race_read, replay_read, show_read}
+use Rattle.command_inputs.specs.Contents.{Contents, check_read, lift_read, policy_read, race_read, replay_read, show_read}
 use Rattle.command_inputs.specs.Forms.{Then, Yields}
 use Rattle.type_infer.specs.Untyped.{CanBeMet, IsUntypedAt, StandsBefore}
 use Rattle.inliner_tool.specs.declared.answer.Answer.{Answer}
@@ -21,12 +26,14 @@ use Rattle.inliner_tool.specs.declared.refusal.Refusal.{Refusal}
 use Rattle.inliner_tool.specs.Check.{Checks, judged_step, link_inputs}
 use Rattle.inliner_tool.specs.Commands.{Makes, readings_in}
 use Rattle.inliner_tool.specs.Decides.{GivesOnce, IsDetermined}
+use Rattle.inliner_tool.specs.Lift.{Lifts, LiftsOver, LiftsText, LiftsTyped, blocks_step, lift_told}
 use Rattle.inliner_tool.specs.Policy.{Judges}
 use Rattle.inliner_tool.specs.Programs.{Types}
 use Rattle.inliner_tool.specs.Race.{Races, race_step}
 use Rattle.inliner_tool.specs.Replay.{Replays, Tells, link_run, steps_told}
 use Rattle.inliner_tool.specs.Show.{Shows, text_shown}
 use Rattle.inliner_tool.specs.Steps.{Equals, Just, Outcome, Reading, Step, outcome_step, stopped}
+use Rattle.inliner_tool.specs.Weaving.{mode_for, original}
 use Rattle.inliner_tool.proofs.RunDecision.{types_are_found}
 
 -- ---- where no types fit
@@ -89,62 +96,6 @@ untyped_same program a b (class, method, at, is, one) (own, index, place, also, 
     let same = untyped_once program class method at own index place one two in
     is ∙ rw (same.0, same.1.0, same.1.1) refl ∙ sym also
 
--- ---- what is told of a run
-
--- What a run comes to: the program does not link, or has no types, or its steps are told.
-record RunIs (main : List ℕ) (inputs : ReplayInputs) (step : Step (List ℕ)) : Type 0 where
-  is : ((e : Ended) × (link_run main inputs ≡ Err e) × (step ≡ Err e))
-      ⊎ ((program : Program) × (link_run main inputs ≡ Ok program)
-      × (((e : Ended) × Types program (Err e) × (step ≡ Err e)) ⊎ ((typing : Typing) × Types program (Ok typing) × (step ≡ steps_told program inputs.recorded.steps))))
-
-run_is : (main : List ℕ) (inputs : ReplayInputs) (step : Step (List ℕ)) → Tells main inputs step → RunIs main inputs step
-run_is main inputs (Ok text) (program, links, (typing, typed, is)) = record { is = inr (program, sym links, inr (typing, typed, is)) }
-run_is main inputs (Err e) (inl unlinked) = record { is = inl (e, sym unlinked, refl) }
-run_is main inputs (Err e) (inr (program, links, inl untyped)) = record { is = inr (program, sym links, inl (e, untyped, refl)) }
-run_is main inputs (Err e) (inr (program, links, inr (typing, typed, is))) = record { is = inr (program, sym links, inr (typing, typed, is)) }
-
-same_link : (main : List ℕ) (inputs : ReplayInputs) (p q : Program) → link_run main inputs ≡ Ok p → link_run main inputs ≡ Ok q → p ≡ q
-same_link main inputs p q e f =
-    let same : ◌≡◌ {A = Step Program} (Ok p) (Ok q) = sym e ∙ f in
-    cc
-
-tells_once : (main : List ℕ) (inputs : ReplayInputs) (a b : Step (List ℕ)) → Tells main inputs a → Tells main inputs b → a ≡ b
-tells_once main inputs a b one two = by (run_is main inputs a one) (run_is main inputs b two)
-  where
-    by : RunIs main inputs a → RunIs main inputs b → a ≡ b
-    by x y = of x.is y.is
-      where
-        of : ((e : Ended) × (link_run main inputs ≡ Err e) × (a ≡ Err e))
-            ⊎ ((program : Program) × (link_run main inputs ≡ Ok program)
-            × (((e : Ended) × Types program (Err e) × (a ≡ Err e)) ⊎ ((typing : Typing) × Types program (Ok typing) × (a ≡ steps_told program inputs.recorded.steps))))
-            → ((e : Ended) × (link_run main inputs ≡ Err e) × (b ≡ Err e))
-            ⊎ ((program : Program) × (link_run main inputs ≡ Ok program)
-            × (((e : Ended) × Types program (Err e) × (b ≡ Err e)) ⊎ ((typing : Typing) × Types program (Ok typing) × (b ≡ steps_told program inputs.recorded.steps))))
-            → a ≡ b
-        of (inl (e, un, is)) (inl (f, also, holds)) =
-            let same : ◌≡◌ {A = Step Program} (Err e) (Err f) = sym un ∙ also in
-            let fault : e ≡ f = cc in
-            is ∙ ap (λ (r : Ended). Err r) fault ∙ sym holds
-        of (inl (e, un, is)) (inr (q, also, rest)) =
-            let wrong : ◌≡◌ {A = Step Program} (Err e) (Ok q) = sym un ∙ also in
-            absurd cc
-        of (inr (p, links, rest)) (inl (f, un, holds)) =
-            let wrong : ◌≡◌ {A = Step Program} (Err f) (Ok p) = sym un ∙ links in
-            absurd cc
-        of (inr (p, links, inl (e, untyped, is))) (inr (q, also, inl (f, other, holds))) =
-            let same : q ≡ p = same_link main inputs q p also links in
-            let fault : e ≡ f = untyped_same p e f untyped (subst (λ (r : Program). Types r (Err f)) same other) in
-            is ∙ ap (λ (r : Ended). Err r) fault ∙ sym holds
-        of (inr (p, links, inl (e, untyped, is))) (inr (q, also, inr (typing, typed, holds))) =
-            let same : q ≡ p = same_link main inputs q p also links in
-            absurd (types_are_found p (typing, (subst (λ (r : Program). Types r (Ok typing)) same typed).typed) e untyped)
-        of (inr (p, links, inr (typing, typed, is))) (inr (q, also, inl (f, untyped, holds))) =
-            let same : q ≡ p = same_link main inputs q p also links in
-            absurd (types_are_found p (typing, typed.typed) f (subst (λ (r : Program). Types r (Err f)) same untyped))
-        of (inr (p, links, inr (typing, typed, is))) (inr (q, also, inr (types, fit, holds))) =
-            let same : p ≡ q = same_link main inputs p q links also in
-            is ∙ ap (λ (r : Program). steps_told r inputs.recorded.steps) same ∙ sym holds
-
 -- ---- outcomes
 
 -- It is so of one alone.
@@ -186,6 +137,37 @@ module _ {A B : Type 0} (First : Step A → Type 0) (Second : A → Step B → T
   then_once (Err e) (Err f) (inr (a, one, rest)) (inl two) = absurd (not_both a f one two)
   then_once (Err e) (Err f) (inr (a, one, rest)) (inr (b, two, others)) = second a (Err e) (Err f) rest (subst (λ (c : A). Second c (Err f)) (sym (same_first a b one two)) others)
 
+-- What comes after the types, whichever these are.
+types_once : {B : Type 0} (program : Program) (Second : Step B → Type 0) → Once Second → Once (Then (Types program) (λ typing. Second))
+types_once program Second second (Ok x) (Ok y) (typing, typed, rest) (types, fit, others) = second (Ok x) (Ok y) rest others
+types_once program Second second (Ok x) (Err f) (typing, typed, rest) (inl untyped) = absurd (types_are_found program (typing, typed.typed) f untyped)
+types_once program Second second (Ok x) (Err f) (typing, typed, rest) (inr (types, fit, others)) = second (Ok x) (Err f) rest others
+types_once program Second second (Err e) (Ok y) (inl untyped) (types, fit, others) = absurd (types_are_found program (types, fit.typed) e untyped)
+types_once program Second second (Err e) (Ok y) (inr (typing, typed, rest)) (types, fit, others) = second (Err e) (Ok y) rest others
+types_once program Second second (Err e) (Err f) (inl one) (inl two) = ap (λ (x : Ended). Err x) (untyped_same program e f one two)
+types_once program Second second (Err e) (Err f) (inl untyped) (inr (types, fit, others)) = absurd (types_are_found program (types, fit.typed) e untyped)
+types_once program Second second (Err e) (Err f) (inr (typing, typed, rest)) (inl untyped) = absurd (types_are_found program (typing, typed.typed) f untyped)
+types_once program Second second (Err e) (Err f) (inr (typing, typed, rest)) (inr (types, fit, others)) = second (Err e) (Err f) rest others
+
+-- what is told of a run
+tells_once : (main : List ℕ) (inputs : ReplayInputs) → Once (Tells main inputs)
+tells_once main inputs =
+    then_once (Equals (link_run main inputs)) (λ program. Then (Types program) (λ typing. Equals (steps_told program inputs.recorded.steps))) (equals_once _)
+    (λ program. types_once program (Equals (steps_told program inputs.recorded.steps)) (equals_once _))
+
+-- and of a lifted one
+lifts_over_once : (client : Program) (policy : Automaton) (mode : Mode) (steps : List GuestStep) → Once (LiftsOver client policy mode steps)
+lifts_over_once client policy mode steps =
+    then_once (Equals (blocks_step client policy mode)) (λ woven. Equals (lift_told woven (lift_of policy mode client woven steps))) (equals_once _) (λ woven. equals_once _)
+
+lifts_once : (main : List ℕ) (inputs : LiftInputs) → Once (LiftsText main inputs)
+lifts_once main inputs =
+    then_once (Equals (original inputs.listing inputs.classes main)) (LiftsTyped inputs.policy inputs.recorded.steps) (equals_once _)
+    (λ client. types_once client
+    (Then (Equals (mode_for Auto inputs.policy client.listing)) (λ mode. LiftsOver client (built inputs.policy) mode inputs.recorded.steps))
+    (then_once (Equals (mode_for Auto inputs.policy client.listing)) (λ mode. LiftsOver client (built inputs.policy) mode inputs.recorded.steps) (equals_once _)
+    (λ mode. lifts_over_once client (built inputs.policy) mode inputs.recorded.steps)))
+
 reading_once : {A : Type 0} (read : Result A Stop) → Once {X = Step A} (Reading (λ r. r ≡ read))
 reading_once read (Ok x) (Ok y) one two =
     let same : ◌≡◌ {A = Result _ Stop} (Ok x) (Ok y) = one ∙ sym two in
@@ -219,6 +201,9 @@ makes_once contents (Inline named) other = absurd other
 makes_once contents (Replay named) other =
     then_once (Reading (λ r. r ≡ replay_read contents named)) (Replays named.main) (reading_once _)
     (λ inputs. then_once (Tells named.main inputs) (λ text. Just (answers.Replayed text)) (tells_once named.main inputs) (λ text. yields_once _))
+makes_once contents (Lift named) other =
+    then_once (Reading (λ r. r ≡ lift_read contents named)) (Lifts named.main) (reading_once _)
+    (λ inputs. then_once (LiftsText named.main inputs) (λ text. Just (answers.Lifted text)) (lifts_once named.main inputs) (λ text. yields_once _))
 makes_once contents (Gen named) other = yields_once _
 makes_once contents (Run named) other = absurd other
 

@@ -4,7 +4,6 @@ use Rattle.std.specs.List.{AllByRecursion}
 use Rattle.mon_base.proofs.Reading.{ok_is}
 use Rattle.api_listing.specs.declared.types.Listing.{Listing}
 use Rattle.bytecode_model.specs.declared.program.Program.{Program}
-use Rattle.class_weaving.specs.Woven.{woven}
 use Rattle.command_inputs.specs.declared.inline_words.Weaving.{Weaving}
 use Rattle.conspec_automaton.specs.declared.policy.Policy.{Policy}
 use Rattle.conspec_tree.specs.declared.types.PolicyTree.{PolicyTree}

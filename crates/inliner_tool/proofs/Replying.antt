@@ -3,8 +3,9 @@ use Rattle.std.proofs.Common.{◌≡◌, inl, inr, ℕ, List, Option, Ok, Err, s
 use Rattle.std.specs.Prelude.{IfSome}
 use Rattle.command_inputs.specs.GenWords.{IsGen, NamedGen}
 use Rattle.command_inputs.specs.InlineWords.{IsInline, NamedInline}
+use Rattle.command_inputs.specs.LiftWords.{IsLift, NamedLift}
 use Rattle.command_inputs.specs.ReplayWords.{IsReplay, NamedReplay}
-use Rattle.command_inputs.specs.Words.{Check, Gen, Inline, IsCheck, IsCommand, IsRunCommand, NamedCheck, NamedCommand, NamedRun, Policy, Race, Replay, Run, Show}
+use Rattle.command_inputs.specs.Words.{Check, Gen, Inline, IsCheck, IsCommand, IsRunCommand, Lift, NamedCheck, NamedCommand, NamedRun, Policy, Race, Replay, Run, Show}
 use Rattle.command_inputs.proofs.NamedOnce.{command_once}
 use Rattle.mon_store.specs.Sink.{Appends, AppendsFront}
 use Rattle.inliner_tool.specs.declared.answer.Answer.{Answer}
@@ -29,6 +30,9 @@ is_check words command is named encoded = command_once words command (Check name
 pub is_replay : (words : List (List ℕ)) (command : NamedCommand) → IsCommand words command → (named : NamedReplay) → IsReplay words named → command ≡ Replay named
 is_replay words command is named encoded = command_once words command (Replay named) is (record { encoded = encoded; full = is.full })
 
+pub is_lift : (words : List (List ℕ)) (command : NamedCommand) → IsCommand words command → (named : NamedLift) → IsLift words named → command ≡ Lift named
+is_lift words command is named encoded = command_once words command (Lift named) is (record { encoded = encoded; full = is.full })
+
 pub is_inline : (words : List (List ℕ)) (command : NamedCommand) → IsCommand words command → (named : NamedInline) → IsInline words named → command ≡ Inline named
 is_inline words command is named encoded = command_once words command (Inline named) is (record { encoded = encoded; full = is.full })
 
@@ -46,6 +50,7 @@ within words (Policy named) is = tt
 within words (Race named) is = tt
 within words (Inline named) is = tt
 within words (Replay named) is = tt
+within words (Lift named) is = tt
 within words (Gen named) is = is.encoded.bounds
 within words (Run named) is = record { some = is.encoded.workers.some; most = is.encoded.workers.within; steps = is.encoded.budget.within }
 

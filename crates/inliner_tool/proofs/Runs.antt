@@ -17,11 +17,11 @@ use Rattle.bytecode_model.specs.declared.program.Program.{Program}
 use Rattle.command_inputs.specs.Words.{NamedRun}
 use Rattle.api_listing.specs.declared.events.Event.{Event}
 use Rattle.event_record.specs.declared.writing.Line.{Line}
-use Rattle.event_record.specs.RunLines.{AreLinesFrom, RecordsOfRunsAreReadAgain}
+use Rattle.event_record.specs.RunLines.{AreLinesFrom, AreLinesOf, RecordsOfRunsAreReadAgain}
 use Rattle.event_record.specs.Writing.{events_text}
 use Rattle.guest_model.specs.declared.machine.Machine.{Machine}
 use Rattle.guest_model.specs.Ending.{end_of}
-use Rattle.guest_model.specs.Runs.{start_of}
+use Rattle.guest_model.specs.Runs.{exec, start_of, trace}
 use Rattle.guest_model.specs.Turns.{MakesWhatIsEnabled}
 use Rattle.guest_replay.specs.declared.replaying.Replayed.{Replayed}
 use Rattle.guest_replay.specs.declared.replaying.ReplayFault.{ReplayFault}
@@ -114,21 +114,29 @@ length_steps : (lines : List Line) → length (steps_of lines) ≡ length lines
 length_steps [] = refl
 length_steps (line ∷ lines) = ap suc (length_steps lines)
 
+-- Replay of the steps of lines tells their events, and how the machine has ended.
+pub lines_replayed : ReplaysAreRuns → (program : Program) (lines : List Line) (machine : Machine) → AreLinesOf program lines
+    → machine ≡ exec program (steps_of lines) → filter_map (λ (line : Line). line.event) lines ≡ trace program (steps_of lines)
+    → steps_told program (steps_of lines)
+    ≡ Ok (events_text program.listing (filter_map (λ (line : Line). line.event) lines) (end_told (end_of program machine)) (length lines))
+lines_replayed law program lines machine are at traced =
+    let is = law program (steps_of lines) in
+    by (replayed program (steps_of lines)) refl is.0 (is.1 (are_made program lines (start_of program) are)) where
+      by : (r : Result Replayed ReplayFault) → replayed program (steps_of lines) ≡ r → TellsRun program (steps_of lines) r → IsOk r
+          → steps_told program (steps_of lines)
+          ≡ Ok (events_text program.listing (filter_map (λ (line : Line). line.event) lines) (end_told (end_of program machine)) (length lines))
+      by (Ok replay) same made ok =
+          let events : replay.events ≡ filter_map (λ (line : Line). line.event) lines = made.1 ∙ sym traced in
+          let stands : replay.machine ≡ machine = made.2 ∙ sym at in
+          ap (run_told program (length (steps_of lines))) same
+          ∙ ap (λ (n : ℕ). Ok (events_text program.listing replay.events (end_told (end_of program replay.machine)) n)) (length_steps lines)
+          ∙ ap (λ (es : List Event). Ok (events_text program.listing es (end_told (end_of program replay.machine)) (length lines))) events
+          ∙ ap (λ (m : Machine). Ok (events_text program.listing (filter_map (λ (line : Line). line.event) lines) (end_told (end_of program m)) (length lines))) stands
+      by (Err fault) same made ok = absurd cc
+
 -- Replay of the book's steps prints its events, and how its machine has ended.
 replays_so : ReplaysAreRuns → (book : RunView) → IsRun book → IsTraced book → steps_told book.program (steps_of book.lines) ≡ Ok (replay_text book)
-replays_so law book run traced =
-    let is = law book.program (steps_of book.lines) in
-    by (replayed book.program (steps_of book.lines)) refl is.0 (is.1 (are_made book.program book.lines (start_of book.program) run.keeps.lines)) where
-      by : (r : Result Replayed ReplayFault) → replayed book.program (steps_of book.lines) ≡ r → TellsRun book.program (steps_of book.lines) r → IsOk r
-          → steps_told book.program (steps_of book.lines) ≡ Ok (replay_text book)
-      by (Ok replay) same made ok =
-          let events : replay.events ≡ filter_map (λ (line : Line). line.event) book.lines = made.1 ∙ sym traced.events in
-          let machine : replay.machine ≡ book.machine = made.2 ∙ sym run.keeps.machine in
-          ap (run_told book.program (length (steps_of book.lines))) same
-          ∙ ap (λ (n : ℕ). Ok (events_text book.program.listing replay.events (end_told (end_of book.program replay.machine)) n)) (length_steps book.lines)
-          ∙ ap (λ (es : List Event). Ok (events_text book.program.listing es (end_told (end_of book.program replay.machine)) (length book.lines))) events
-          ∙ ap (λ (m : Machine). Ok (events_text book.program.listing (filter_map (λ (line : Line). line.event) book.lines) (end_told (end_of book.program m)) (length book.lines))) machine
-      by (Err fault) same made ok = absurd cc
+replays_so law book run traced = lines_replayed law book.program book.lines book.machine run.keeps.lines run.keeps.machine traced.events
 
 -- ---- the inputs
 

@@ -1,6 +1,6 @@
 -- What a command comes to where the store tells its files, and neither it nor the sink has a fault. (docs/COMMANDS.md)
 use Rattle.std.specs.Prelude.{◌≡◌, ℕ, List, Option}
-use Rattle.command_inputs.specs.Words.{Check, Gen, Inline, IsCommand, NamedCommand, Policy, Race, Replay, Run, Show}
+use Rattle.command_inputs.specs.Words.{Check, Gen, Inline, IsCommand, Lift, NamedCommand, Policy, Race, Replay, Run, Show}
 use Rattle.command_inputs.specs.Contents.{Contents}
 use Rattle.command_inputs.specs.Forms.{Then, Yields}
 use Rattle.mon_store.specs.Sink.{Appends}
@@ -41,6 +41,7 @@ IsDetermined (Policy named) = Unit {0}
 IsDetermined (Race named) = Unit {0}
 IsDetermined (Inline named) = ⊥
 IsDetermined (Replay named) = Unit {0}
+IsDetermined (Lift named) = Unit {0}
 IsDetermined (Gen named) = Unit {0}
 IsDetermined (Run named) = ⊥
 

@@ -17,6 +17,7 @@ pub mod Expected
 pub mod Transparent
 pub mod Inline
 pub mod Replay
+pub mod Lift
 pub mod Generate
 pub mod Headline
 pub mod Commands

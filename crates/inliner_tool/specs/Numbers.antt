@@ -137,6 +137,14 @@ cells_report first second count = report 222 (Count first ∷ Count second ∷ C
 abbrev pub step_report : ℕ → Report
 step_report index = report 301 (Count index ∷ [])
 
+-- the first step of a run whose event is refused, so that it is not lifted
+abbrev pub disobeying_report : ℕ → Report
+disobeying_report index = report 281 (Count index ∷ [])
+
+-- the first step of a run at which calls overlap, so that it is not lifted
+abbrev pub overlapping_report : ℕ → Report
+overlapping_report index = report 282 (Count index ∷ [])
+
 -- ---- sizes
 
 abbrev pub size_name : Size → List ℕ

@@ -13,7 +13,7 @@ use Rattle.inliner_tool.specs.declared.answer.Answer.{Answer}
 use Rattle.inliner_tool.specs.declared.answer.Answer.TheVariants as answers
 use Rattle.inliner_tool.specs.declared.refusal.Refusal.{Refusal}
 use Rattle.inliner_tool.specs.declared.refusal.Refusal.TheVariants as refusals
-use Rattle.inliner_tool.specs.Numbers.{cells_report, check_report, event_report, input_report, length_report, link_report, race_report, size_report, step_report, total_report, untyped_report}
+use Rattle.inliner_tool.specs.Numbers.{cells_report, check_report, disobeying_report, event_report, input_report, length_report, link_report, overlapping_report, race_report, size_report, step_report, total_report, untyped_report}
 use Rattle.inliner_tool.specs.Steps.{Outcome}
 
 abbrev pub mode_name : Mode → List ℕ
@@ -46,6 +46,7 @@ answer_reply (answers.Inlined accepted classes) = replies.Line (lines.Inlined (m
 answer_reply (answers.Generated classes sites bytes) = replies.Line (lines.Generated classes sites bytes)
 answer_reply (answers.Replayed text) = replies.Text text
 answer_reply (answers.Ran end text) = replies.Text text
+answer_reply (answers.Lifted text) = replies.Text text
 
 abbrev pub refusal_reply : Refusal → Reply
 refusal_reply (refusals.Input name fault) = input (Some name) (input_report fault)
@@ -59,6 +60,8 @@ refusal_reply (refusals.CellLimit first second count) = denied (cells_report fir
 refusal_reply (refusals.Overflow class method what value) = overflow (size_report class method what value)
 refusal_reply (refusals.LongCertificate value) = overflow (length_report value)
 refusal_reply (refusals.NotEnabled index) = denied (step_report index)
+refusal_reply (refusals.Disobeys index) = denied (disobeying_report index)
+refusal_reply (refusals.Overlaps index) = denied (overlapping_report index)
 refusal_reply (refusals.Unwritten name) = replies.Line (lines.Store name)
 
 abbrev pub reply_of : Outcome → Reply

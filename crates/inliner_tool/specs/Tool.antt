@@ -58,6 +58,7 @@ answer_status (answers.Inlined accepted classes) = statuses.Done
 answer_status (answers.Generated classes sites bytes) = statuses.Done
 answer_status (answers.Replayed text) = statuses.Done
 answer_status (answers.Ran end text) = run_status end
+answer_status (answers.Lifted text) = statuses.Done
 
 abbrev pub refusal_status : Refusal → Status
 refusal_status (refusals.Input name fault) = statuses.Input
@@ -71,6 +72,8 @@ refusal_status (refusals.CellLimit first second count) = statuses.Denied
 refusal_status (refusals.Overflow class method what value) = statuses.Overflow
 refusal_status (refusals.LongCertificate value) = statuses.Overflow
 refusal_status (refusals.NotEnabled index) = statuses.Denied
+refusal_status (refusals.Disobeys index) = statuses.Denied
+refusal_status (refusals.Overlaps index) = statuses.Denied
 refusal_status (refusals.Unwritten name) = statuses.StoreFault
 
 abbrev pub status_of : Outcome → Status

@@ -9,7 +9,7 @@ use Rattle.bytecode_model.specs.Files.{unlinked}
 use Rattle.bytecode_model.specs.Layout.{IsLaidOut}
 use Rattle.bytecode_model.specs.Sound.{IsSound}
 use Rattle.bytecode_model.specs.Typed.{IsTyped}
-use Rattle.block_runs.specs.ClientRuns.{IsAcceptedRun, IsRunOf}
+use Rattle.block_runs.specs.ClientRuns.{IsRunOf}
 use Rattle.block_runs.specs.WovenClients.{ConstantsAreThere}
 use Rattle.block_template.specs.Blocks.{plan_of}
 use Rattle.cert_checker.specs.declared.checking.Accepted.{Accepted}
@@ -33,6 +33,7 @@ use Rattle.conspec_automaton.specs.Building.{built}
 use Rattle.conspec_automaton.specs.Next.{Values}
 use Rattle.conspec_automaton.specs.Racing.{IsRaceFree, all_pairs}
 use Rattle.conspec_tree.specs.declared.types.PolicyTree.{PolicyTree}
+use Rattle.guest_erasing.specs.Accepted.{IsAcceptedRun}
 use Rattle.guest_model.specs.declared.machine.Step.{Step as GuestStep}
 use Rattle.command_inputs.specs.declared.inline_inputs.InlineInputs.{InlineInputs}
 use Rattle.command_inputs.specs.declared.named.ReadClasses.{ReadClasses as Classes}

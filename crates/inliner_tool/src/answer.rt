@@ -39,6 +39,8 @@ pub enum Answer {
         end: EndLine,
         text: Bytes,
     },
+    /// The record of a lifted run, as it is printed.
+    Lifted(Bytes),
 }
 
 /// What a command makes of its inputs: its answer, and the files that are written, in their order, before it is given.

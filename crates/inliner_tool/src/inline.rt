@@ -162,7 +162,7 @@ pub fn plan(
 }
 
 /// What is woven of inputs links to their program with its blocks, and is as is expected.
-fn woven_is_expected()
+pub fn woven_is_expected()
     ensures links { WovenHasBlocks }
     ensures expected { WovenIsExpected }
 {
@@ -192,7 +192,7 @@ fn woven_is_transparent()
 }
 
 /// What is to be woven: the program with its types, and the policy in its mode.
-fn given_of(
+pub fn given_of(
     alloc: Global,
     weaving: Weaving,
     tree: PolicyTree,
@@ -322,7 +322,7 @@ fn inlined(
 }
 
 /// Why nothing is woven.
-fn unfit(fault: SpliceFault) -> Ended
+pub fn unfit(fault: SpliceFault) -> Ended
     ensures { result ≡ splice_end fault }
 {
     match fault {

@@ -10,11 +10,13 @@ ghost use Rattle.inliner_tool.specs.Numbers.{
   class_report,
   code_report,
   condition_name,
+  disobeying_report,
   event_report,
   input_report,
   length_report,
   link_report,
   listing_report,
+  overlapping_report,
   policy_report,
   race_report,
   record_report,
@@ -294,6 +296,20 @@ pub fn step_report(alloc: Global, index: u64) -> Result<Report, NoMemory>
     ensures { IfOk result (λ r. r ≡ step_report index) }
 {
     Report::new(alloc, 301, [Field::Count(index)])
+}
+
+/// The first step of a run whose event is refused, so that it is not lifted.
+pub fn disobeying_report(alloc: Global, index: u64) -> Result<Report, NoMemory>
+    ensures { IfOk result (λ r. r ≡ disobeying_report index) }
+{
+    Report::new(alloc, 281, [Field::Count(index)])
+}
+
+/// The first step of a run at which calls overlap, so that it is not lifted.
+pub fn overlapping_report(alloc: Global, index: u64) -> Result<Report, NoMemory>
+    ensures { IfOk result (λ r. r ≡ overlapping_report index) }
+{
+    Report::new(alloc, 282, [Field::Count(index)])
 }
 
 // ---- sizes

@@ -1,6 +1,7 @@
 //! Why a command ends before its answer.
 
 ghost use Rattle.std.specs.Prelude.{◌≡◌};
+ghost use Rattle.inliner_tool.specs.Lift.{lift_end};
 ghost use Rattle.inliner_tool.specs.Replay.{replay_end};
 ghost use Rattle.inliner_tool.specs.Steps.{stopped};
 ghost use Rattle.inliner_tool.specs.declared.refusal.Ended.TheVariants as ends;
@@ -9,6 +10,7 @@ use cert_checker::CheckFault;
 use class_linking::LinkFault;
 use command_inputs::{InputFault, Stop};
 use guest_replay::ReplayFault;
+use lift_schedule::LiftFault;
 use mon_base::{Bytes, NoMemory};
 use offset_patch::Size;
 
@@ -61,6 +63,15 @@ pub enum Refusal {
     NotEnabled {
         index: u64,
     },
+    /// The policy refuses what is seen of the step of a run that has this index, so that the run is not lifted.
+    Disobeys {
+        index: u64,
+    },
+    /// In mode hold a call of a method with clauses begins at the step of a run that has this index while another is under way, so
+    /// that the run is not lifted.
+    Overlaps {
+        index: u64,
+    },
     /// The file that could not be written.
     Unwritten(Bytes),
 }
@@ -92,6 +103,19 @@ impl From<ReplayFault> for Ended {
         match fault {
             ReplayFault::NotEnabled { index } => Ended::Refused(Refusal::NotEnabled { index }),
             ReplayFault::Memory => Ended::Memory,
+        }
+    }
+}
+
+impl From<LiftFault> for Ended {
+    ghost from_gives = { λ fault ended. ended ≡ lift_end fault };
+
+    fn from(fault: LiftFault) -> Ended {
+        match fault {
+            LiftFault::NotEnabled { index } => Ended::Refused(Refusal::NotEnabled { index }),
+            LiftFault::Disobeys { index } => Ended::Refused(Refusal::Disobeys { index }),
+            LiftFault::Overlaps { index } => Ended::Refused(Refusal::Overlaps { index }),
+            LiftFault::Memory => Ended::Memory,
         }
     }
 }

@@ -132,7 +132,7 @@ fn run_text(alloc: Global, stepper: &Stepper, count: u64, run: &Replayed) -> Res
 }
 
 /// How a record tells the end, or that there was none.
-fn end_told(end: Option<End>) -> EndLine
+pub fn end_told(end: Option<End>) -> EndLine
     ensures { result ≡ end_told end }
 {
     let Some(end) = end else {

@@ -16,8 +16,9 @@ ghost use Rattle.inliner_tool.specs.Replies.{
 
 use crate::answer::Answer;
 use crate::numbers::{
-    cells_report, check_report, event_report, input_report, length_report, link_report,
-    race_report, size_report, step_report, total_report, untyped_report,
+    cells_report, check_report, disobeying_report, event_report, input_report, length_report,
+    link_report, overlapping_report, race_report, size_report, step_report, total_report,
+    untyped_report,
 };
 use crate::refusal::Refusal;
 use cert_checker::Accepted;
@@ -71,6 +72,7 @@ fn answer_reply(alloc: Global, answer: Answer) -> Result<Reply, NoMemory>
         })),
         Answer::Replayed(text) => Ok(Reply::Text(text)),
         Answer::Ran { end: _, text } => Ok(Reply::Text(text)),
+        Answer::Lifted(text) => Ok(Reply::Text(text)),
     }
 }
 
@@ -168,10 +170,9 @@ fn refusal_reply(alloc: Global, refusal: Refusal) -> Result<Reply, NoMemory>
             let report = length_report(alloc, value)?;
             Ok(overflow(report))
         }
-        Refusal::NotEnabled { index } => {
-            let report = step_report(alloc, index)?;
-            Ok(denied(report))
-        }
+        Refusal::NotEnabled { index } => Ok(denied(step_report(alloc, index)?)),
+        Refusal::Disobeys { index } => Ok(denied(disobeying_report(alloc, index)?)),
+        Refusal::Overlaps { index } => Ok(denied(overlapping_report(alloc, index)?)),
         Refusal::Unwritten(name) => Ok(Reply::Line(Line::Store(name))),
     }
 }

@@ -47,6 +47,7 @@ use crate::answer::{Answer, Made};
 use crate::check::make_check;
 use crate::generate::make_gen;
 use crate::inline::make_inline;
+use crate::lift::make_lift;
 use crate::policy::make_policy;
 use crate::race::make_race;
 use crate::refusal::{Ended, Refusal};
@@ -119,9 +120,11 @@ impl Status {
 /// they obey the policy; `race POLICY LISTING` says of a policy whether its events race;
 /// `inline POLICY LISTING MAIN OUTDIR MODE CLASS..` weaves blocks into the classes, checks the program that they make with
 /// its certificate, and writes all of it; `replay LISTING MAIN RECORD CLASS..` links and types the classes, makes the steps of
-/// a recorded run, and gives the events that the library sees and the end; `gen SEED CLASSES SITES OUTDIR` makes a program from a
-/// number, with a listing and a policy, and writes all of it; `run POLICY LISTING CERT MAIN WORKERS BUDGET CLASS..` checks the
-/// program, and has so many worker threads run it, in at most so many steps, and gives the record of the run.
+/// a recorded run, and gives the events that the library sees and the end; `lift POLICY LISTING MAIN RECORD CLASS..` makes the
+/// steps of a recorded run and those of what the policy is woven to, and gives the record of these (`lifts_are_runs`);
+/// `gen SEED CLASSES SITES OUTDIR` makes a program from a number, with a listing and a policy, and writes all of it;
+/// `run POLICY LISTING CERT MAIN WORKERS BUDGET CLASS..` checks the program, and has so many worker threads run it, in at most
+/// so many steps, and gives the record of the run.
 ///
 /// Other commands than `inline` and `gen` change no file. One output is put into the sink, which says the answer. The devices answer
 /// the calls of the library in a run, the workers pass the gate, and the run is kept. The other commands have no part in threads
@@ -167,7 +170,8 @@ pub fn run_tool<S: Store, K: Sink, D: ApiDevice + Send, G: Gate + Sync, R: Threa
     // It has a book: want of memory is not kept, and no book of another run.
     ensures book { IfSome kept.new HasBook }
 
-    // Where weaving ends well, what is written is the program with its blocks, and is accepted with its certificate.
+    // Where weaving ends well, what is written is the program with its blocks, and is accepted with its certificate; and each run of the
+    // client that the policy accepts is one of it, with the monitor's steps put to it (`IsTransparent`).
     ensures inlined { (named : NamedInline) → IsInline words.now named → result ≡ Status.Done
         → IsInlined (seen S.files S.faults S.last store.old store.new) named }
 
@@ -324,6 +328,7 @@ fn make<S: Store>(alloc: Global, command: &FileCommand, store: &mut S) -> Result
         FileCommand::Race(words) => make_race(alloc, words, store),
         FileCommand::Inline(words) => make_inline(alloc, words, store),
         FileCommand::Replay(words) => make_replay(alloc, words, store),
+        FileCommand::Lift(words) => make_lift(alloc, words, store),
         FileCommand::Gen(words) => make_gen(alloc, words),
     }
 }
@@ -360,6 +365,7 @@ fn answer_status(answer: &Answer) -> Status
         Answer::Generated { .. } => Status::Done,
         Answer::Replayed(_) => Status::Done,
         Answer::Ran { end, .. } => run_status(*end),
+        Answer::Lifted(_) => Status::Done,
     }
 }
 
@@ -408,6 +414,8 @@ fn refusal_status(refusal: &Refusal) -> Status
         Refusal::Overflow { .. } => Status::Overflow,
         Refusal::LongCertificate { .. } => Status::Overflow,
         Refusal::NotEnabled { .. } => Status::Denied,
+        Refusal::Disobeys { .. } => Status::Denied,
+        Refusal::Overlaps { .. } => Status::Denied,
         Refusal::Unwritten(_) => Status::StoreFault,
     }
 }
