@@ -509,13 +509,47 @@ RUNS = {
         (
             "The step with this number, counted from 0, cannot be made: its thread does not exist, has ended or waits; "
             "or there is an answer where no call is open, or one that the method cannot give, or a plain step where "
-            "an answer is due."
+            "an answer is due. `replay` prints this, and `lift` of the program without blocks."
         ),
         (
             "The record is of another program, or of one that has been compiled again since.",
             "A line was removed or added by hand.",
+            "`lift` is given the record of a woven program, as `run` prints it for one: it takes one of the program as it was.",
         ),
-        "Replay with exactly the class files and the listing of the run; look at the step and at those before it.",
+        "Give exactly the class files and the listing of the run; look at the step and at those before it.",
+    ),
+    281: Refusal(
+        "a step that the policy refuses",
+        ("step",),
+        (
+            "The run is not lifted: by the step with this number, counted from 0, the library sees a call, a return or "
+            "an end by an exception that the policy refuses. The woven program would be stopped there."
+        ),
+        (
+            "If the policy says what you mean, there is no mistake: the run breaks it, and enforcing it changes the run.",
+            "A clause has no branch for a case that was meant to be allowed.",
+        ),
+        (
+            "Let `replay` print the events of the record, and `policy` say which of them is refused; then see 191. To lift "
+            "what comes before, cut the record at this step."
+        ),
+    ),
+    282: Refusal(
+        "overlapping calls in mode hold",
+        ("step",),
+        (
+            "The run is not lifted: by the step with this number, counted from 0, a call of a method that the policy has "
+            "a clause for begins while another such call is under way. The policy is woven in mode hold, whose lock "
+            "keeps them apart, so the woven program makes no such run."
+        ),
+        (
+            "There is no mistake: threads that call side by side wait for each other once the policy is enforced.",
+            "The policy is not race-free, and could be: `race` says what breaks it.",
+        ),
+        (
+            "Record a run in which each such call ends before the next begins; or see docs/RACES.md for what makes a "
+            "policy race-free, so that it is woven in mode release."
+        ),
     ),
 }
 
@@ -735,12 +769,12 @@ ANSWERS = {
         "clause: it has already happened, so the run obeys the policy, and nothing may follow it."
     ),
     "free": "`race` finds the policy race-free: the lock may be let go while the library runs.",
-    "end finished N": "`replay` or `run` made N steps, and every thread has ended.",
-    "end deadlock N": "`replay` or `run` made N steps, and no thread can make another.",
+    "end finished N": "`replay`, `lift` or `run` made N steps, and every thread has ended.",
+    "end deadlock N": "`replay`, `lift` or `run` made N steps, and no thread can make another.",
     "end stopped E N": (
-        "`replay` or `run` made N steps, and the program was stopped with the value E; a block stops it with 77."
+        "`replay`, `lift` or `run` made N steps, and the program was stopped with the value E; a block stops it with 77."
     ),
-    "end running N": "`replay` made N steps, and the run is not over.",
+    "end running N": "`replay` or `lift` made N steps, and the run is not over. Those of `lift` are the woven program's.",
     "end budget N": "`run` made N steps, as many as it may, and the run is not over: give a greater BUDGET.",
     "end device N": (
         "`run` made N steps, and then a device of the library failed, or gave what does not fit the call: for a "

@@ -1,8 +1,8 @@
-"""The promises of docs/CLAUSES.md and its two further pages, and the crates of docs/CRATES.md, row by row."""
+"""The promises of docs/CLAUSES.md and its further pages, and the crates of docs/CRATES.md, row by row."""
 import os
 
 DOCS = os.path.join(os.path.dirname(os.path.dirname(os.path.dirname(os.path.realpath(__file__)))), "docs")
-PAGES = ("CLAUSES.md", "clauses/PROGRAMS.md", "clauses/RUNS.md")
+PAGES = ("CLAUSES.md", "clauses/PROGRAMS.md", "clauses/RUNS.md", "clauses/TRANSPARENCY.md")
 
 
 def rows_of(name):

@@ -64,3 +64,25 @@ class Judge:
         """What `policy` prints of these events."""
         place, may_come = self.refused(events)
         return "accepted" if place is None else f"stopped {place}" if may_come else f"denied 191 {place}"
+
+
+REFUSED, OVERLAPS = 281, 282
+
+
+class Watched:
+    """What a policy says of the events of a run, one after another: its state, and whether a call with clauses is under way."""
+
+    def __init__(self, judge, is_held):
+        self.judge, self.is_held, self.state, self.under_way = judge, is_held, judge.first(), False
+
+    def fault(self, event):
+        """Takes what is seen of a step, and gives None; or the number of what keeps the run from being lifted (docs/COMMANDS.md)."""
+        if not event:
+            return None
+        behind, has_clauses, is_call = self.judge.after(self.state, event), self.judge.names(event), event.startswith("call")
+        if behind is None:
+            return REFUSED
+        if self.is_held and has_clauses and is_call and self.under_way:
+            return OVERLAPS
+        self.state, self.under_way = behind, is_call if has_clauses else self.under_way
+        return None

@@ -6,7 +6,7 @@ after the call.
 """
 import struct
 
-from judged_events import method_in
+from judged_events import Watched, method_in
 from loaded import METHODS
 from machine import INVOKES, LEAVE, Machine
 from policy_texts import RETURN
@@ -185,3 +185,18 @@ class Lifting:
         """What conspec/State holds."""
         values = {place[1]: value for place, value in self.run.machine.statics.items() if place[0] == STATE}
         return [values[f"v{index}"] for index in range(len(values))]
+
+
+def lifted_of(made, contents, steps):
+    """What `lift` has to print of these steps of the client, whose class files these are, and the lifting."""
+    client, watched = Run(contents, made.listing, made.main), Watched(made.judge, made.is_held)
+    lifting = Lifting(made.judge, contents, made.contents, made.listing, made.main)
+    for place, (number, answer) in enumerate(steps):
+        if not client.machine.takes(number, answer):
+            return f"denied 301 {place}\n", lifting
+        client.make(number, answer)
+        fault = watched.fault(client.lines[-1][2])
+        if fault:
+            return f"denied {fault} {place}\n", lifting
+        lifting.step(number, answer)
+    return lifting.run.record(), lifting
