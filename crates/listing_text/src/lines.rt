@@ -1,6 +1,6 @@
 //! The lines of a listing, each by itself.
 
-ghost use Rattle.std.specs.Prelude.{◌≡◌, ◌++◌, map, IfOk};
+ghost use Rattle.std.specs.Prelude.{◌≡◌, length, map, IfOk};
 ghost use Rattle.mon_base.specs.Answer.{Answers};
 ghost use Rattle.api_listing.specs.Words.{pieces};
 ghost use Rattle.api_listing.specs.Lines.{says_something, are_class_names};
@@ -8,7 +8,6 @@ ghost use Rattle.listing_text.specs.Saying.{
   interface_named,
   class_of,
   member,
-  ending,
   form_of,
   two_words,
   four_words,
@@ -38,21 +37,27 @@ pub enum Said {
     Says(Declaration),
 }
 
-/// What the lines of the text say. What stands after the last newline is a line of no form, unless it is nothing.
-pub fn said_lines(alloc: Global, text: &[u8]) -> Result<List<Said>, NoMemory>
-    ensures { IfOk result (λ said. said ≡ said_lines (pieces 10 text.now)) }
+/// How many lines the text has of which these are the pieces. What stands after the last newline is a line, unless it is nothing.
+pub fn count_lines(pieces: &[&[u8]]) -> usize
+    ensures { result ≡ length (said_lines (map (λ p. p.now) pieces.now)) }
 {
-    let parts = pieces(alloc, text, b'\n')?;
-    let mut parts = parts.into_vec();
-    let Some(last) = parts.pop() else {
-        return Ok(List::new(alloc));
+    let Some((last, _)) = pieces.split_last() else {
+        return 0;
     };
-    with_last(alloc, parts.as_slice(), &last)
+    if last.is_empty() {
+        pieces.len() - 1
+    } else {
+        pieces.len()
+    }
 }
 
-fn with_last(alloc: Global, lines: &[Bytes], last: &Bytes) -> Result<List<Said>, NoMemory>
-    ensures { IfOk result (λ s. s ≡ map said lines.now ++ ending last.now) }
+/// What the lines say. What stands after the last newline is a line of no form, unless it is nothing.
+pub fn said_lines(alloc: Global, pieces: &[&[u8]]) -> Result<List<Said>, NoMemory>
+    ensures { IfOk result (λ said. said ≡ said_lines (map (λ p. p.now) pieces.now)) }
 {
+    let Some((last, lines)) = pieces.split_last() else {
+        return Ok(List::new(alloc));
+    };
     let mut found = said_by(alloc, lines)?;
     if !last.is_empty() {
         found.push(Said::NoForm)?;
@@ -60,12 +65,12 @@ fn with_last(alloc: Global, lines: &[Bytes], last: &Bytes) -> Result<List<Said>,
     Ok(found)
 }
 
-fn said_by(alloc: Global, lines: &[Bytes]) -> Result<List<Said>, NoMemory>
-    ensures { IfOk result (λ s. s ≡ map said lines.now) }
+fn said_by(alloc: Global, lines: &[&[u8]]) -> Result<List<Said>, NoMemory>
+    ensures { IfOk result (λ s. s ≡ map said (map (λ p. p.now) lines.now)) }
 {
     let mut found = List::new(alloc);
     for line in lines {
-        let line = read_line(alloc, line.as_slice())?;
+        let line = read_line(alloc, line)?;
         found.push(line)?;
     }
     Ok(found)

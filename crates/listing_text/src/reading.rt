@@ -1,17 +1,19 @@
 //! A listing out of its text.
 
-ghost use Rattle.std.specs.Prelude.{◌≡◌, ◌||◌, ℕ, List, IfOk, OnOk, MatchResult};
+ghost use Rattle.std.specs.Prelude.{◌≡◌, ◌||◌, ℕ, List, map, IfOk, OnOk, MatchResult};
 ghost use Rattle.listing_text.specs.declared.fault.ListFault.TheVariants as faults;
 ghost use Rattle.api_listing.specs.declared.types.Listing.{Listing};
 ghost use Rattle.mon_base.specs.Answer.{Answers};
 ghost use Rattle.api_listing.specs.Seen.{has_name};
 ghost use Rattle.api_listing.specs.Listing.{is_known, EncodesListing, IsFew};
-ghost use Rattle.listing_text.specs.Reading.{is_named, class_said, classes_in, reading};
+ghost use Rattle.listing_text.specs.Reading.{is_named, class_said, classes_in, read_lines, reading};
+ghost use Rattle.listing_text.specs.Saying.{said_lines};
 
 use crate::draft::listing_of;
 use crate::fault::ListFault;
-use crate::lines::{Said, said_lines};
+use crate::lines::{Said, count_lines, said_lines};
 use crate::seen::{add_name, names_of};
+use crate::words::parts_of;
 use api_listing::{Declaration, Listing, built_in_classes};
 use mon_base::{Bytes, NoMemory};
 use std::alloc::Global;
@@ -36,12 +38,21 @@ pub fn read(alloc: Global, text: &[u8]) -> Result<Listing, ListFault>
 fn read_text(alloc: Global, text: &[u8]) -> Result<Listing, ListFault>
     ensures { Answers ListFault.Memory result (reading text.now) }
 {
-    let lines = said_lines(alloc, text)?;
-    if lines.len() > 20_000 {
+    let pieces = parts_of(alloc, text, b'\n')?;
+    read_pieces(alloc, pieces.as_slice())
+}
+
+/// The listing of which these are the pieces. They are counted first, since a line takes more memory once it is read.
+fn read_pieces(alloc: Global, pieces: &[&[u8]]) -> Result<Listing, ListFault>
+    ensures { Answers ListFault.Memory result (read_lines (said_lines (map (λ p. p.now) pieces.now))) }
+{
+    let count = count_lines(pieces);
+    if count > 20_000 {
         return Err(ListFault::TooMany {
-            count: lines.len() as u64,
+            count: count as u64,
         });
     }
+    let lines = said_lines(alloc, pieces)?;
     let known = names_in(alloc, lines.as_slice())?;
     listing_of(alloc, &known, lines.as_slice())
 }

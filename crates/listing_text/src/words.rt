@@ -14,7 +14,8 @@ pub fn pieces(alloc: Global, text: &[u8], byte: u8) -> Result<List<Bytes>, NoMem
     copies_of(alloc, parts.as_slice())
 }
 
-fn parts_of(alloc: Global, text: &[u8], byte: u8) -> Result<Vec<&[u8]>, AllocError>
+/// The same as places of the text, not copied.
+pub fn parts_of(alloc: Global, text: &[u8], byte: u8) -> Result<Vec<&[u8]>, AllocError>
     ensures { IfOk result (λ v. map (λ p. p.now) v.items ≡ pieces byte text.now) }
 {
     text.split(|b| *b == byte).collect(alloc)

@@ -3,4 +3,4 @@ use Rattle.listing_text.specs.Saying.{said}
 use Rattle.listing_text.proofs.lines.said_by.Given as goal
 
 abbrev pub invariant-loop-line : goal.invariant-loop-line
-invariant-loop-line l = l.found ≡ map said (take l.line-index l.lines)
+invariant-loop-line l = l.found ≡ map said (map (λ p. p.now) (take l.line-index l.lines))
