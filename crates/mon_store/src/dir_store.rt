@@ -1,7 +1,7 @@
 //! Real files.
 
-ghost use Rattle.std.specs.Prelude.{◌≡◌, ◌≢◌, ◌≤◌, length, [], None, IfOk};
-ghost use Rattle.mon_store.specs.Store.{one_more};
+ghost use Rattle.std.specs.Prelude.{◌≡◌, ◌≢◌, ◌≤◌, [], None, IsErrOf};
+ghost use Rattle.mon_store.specs.Store.{Caused, one_more};
 
 use crate::store::{Store, StoreFault};
 use mon_base::Bytes;
@@ -13,11 +13,23 @@ use std::rt::Files;
 use std::{fs, io};
 
 /// Real files, named by their paths. It does not tell what they hold. A name that is no UTF-8 text fails as a fault.
+///
+/// A file that is read piece by piece stays open up to its end: its pieces are those of one file, though another comes to have its
+/// name meanwhile.
 #[derive(Drop)]
 pub struct DirStore<'a, R: Files + AllocGlobal> {
     rt: &'a R,
+    open: Option<Opened<R::File>>,
     faults: u64,
     last: Bytes,
+}
+
+/// A file that is open, and the position up to which it was read.
+#[derive(Drop)]
+struct Opened<F: Drop> {
+    name: Bytes,
+    file: F,
+    at: u64,
 }
 
 impl<'a, R: Files + AllocGlobal> Model for DirStore<'a, R> {
@@ -35,8 +47,31 @@ impl<'a, R: Files + AllocGlobal> DirStore<'a, R> {
     {
         DirStore {
             rt,
+            open: None,
             faults: 0,
             last: Bytes::new(rt.alloc()),
+        }
+    }
+
+    /// The file from this position on: the one that is open, where it was read up to there.
+    fn opened(&mut self, name: &Bytes, at: u64) -> Result<Opened<R::File>, StoreFault>
+        ensures faults { self.old.faults ≤ self.new.faults }
+        ensures failed { IsErrOf result StoreFault.Failed → Caused self.old.faults self.new.faults self.new.last name.now }
+        ensures absent { IsErrOf result StoreFault.Absent → Caused self.old.faults self.new.faults self.new.last name.now }
+    {
+        if let Some(opened) = self.open.take() {
+            if opened.at == at && opened.name.as_slice() == name.as_slice() {
+                return Ok(opened);
+            }
+        }
+        let copy = name.copy(self.rt.alloc())?;
+        match open_at(self.rt, name, at) {
+            Ok(file) => Ok(Opened {
+                name: copy,
+                file,
+                at,
+            }),
+            Err(error) => Err(self.count(name, error)),
         }
     }
 
@@ -71,14 +106,12 @@ fn size_of<R: Files>(rt: &R, name: &Bytes) -> io::Result<u64> {
     Ok(data.len())
 }
 
-/// Reads from this position of the file on.
-fn read_at<R: Files>(rt: &R, name: &Bytes, at: u64, into: &mut [u8]) -> io::Result<usize>
-    ensures { IfOk result (λ n. n ≤ length into.new) }
-{
+/// The file, from this position on.
+fn open_at<R: Files>(rt: &R, name: &Bytes, at: u64) -> io::Result<R::File> {
     let path = path_of(name)?;
     let mut file = File::open(rt, path)?;
     file.seek(SeekFrom::Start(at))?;
-    file.read(into)
+    Ok(file)
 }
 
 /// Makes the folders that the path names, and the file with these bytes.
@@ -106,8 +139,14 @@ impl<'a, R: Files + AllocGlobal> Store for DirStore<'a, R> {
     }
 
     fn read(&mut self, name: &Bytes, at: u64, into: &mut [u8]) -> Result<usize, StoreFault> {
-        match read_at(self.rt, name, at, into) {
-            Ok(count) => Ok(count),
+        let mut opened = self.opened(name, at)?;
+        match opened.file.read(into) {
+            Ok(0) => Ok(0),
+            Ok(count) => {
+                opened.at = at.saturating_add(count as u64);
+                self.open = Some(opened);
+                Ok(count)
+            }
             Err(error) => Err(self.count(name, error)),
         }
     }

@@ -44,9 +44,9 @@ impl From<NoMemory> for ReadFault {
 }
 
 /// How many bytes are asked of a store at once.
-const PIECE: usize = 4096;
+const PIECE: usize = 32_768;
 
-/// Reads the named file whole: first its size, then pieces of at most 4,096 bytes up to its end or one byte past the
+/// Reads the named file whole: first its size, then pieces of at most 32,768 bytes up to its end or one byte past the
 /// limit.
 pub fn read_file<S: Store>(
     alloc: Global,
