@@ -17,14 +17,14 @@ ghost use Rattle.guest_step.specs.Rooms.{CanReturn, HaveRoom, TakesOne, bytes_of
 ghost use Rattle.guest_threads.specs.Acts.{Acted, ActsIn, StandsLow, thread_returned};
 
 use crate::fitting::fits_call;
-use crate::making_room::make_room;
+use crate::making_room::{make_room, put_objects, take_objects};
 use crate::rooms::{Rooms, Spare};
 use api_listing::{ApiAnswer, ApiValue, Event};
 use guest_frames::is_null;
 use guest_heap::{Object, Thread, Value};
-use guest_model::{Choice, Machine, StepFault, Thrown};
+use guest_model::{Choice, StepFault, Thrown};
 use guest_tables::{Guest, bytes_shown, shown_with};
-use guest_threads::{resume_in_frame, throw, throw_new};
+use guest_threads::{RunningMachine, resume_in_frame, throw, throw_new};
 use mon_base::{Bytes, List};
 use std::alloc::Global;
 
@@ -41,7 +41,7 @@ pub struct InCall<'a> {
 fn finish(
     alloc: Global,
     guest: &Guest,
-    machine: &Machine,
+    machine: &RunningMachine,
     heap: &[Object],
     thread: &mut Thread,
     call: &InCall,
@@ -105,7 +105,7 @@ fn return_to(thread: &mut Thread, value: Option<Value>, rested: &mut Option<Thre
 fn finish_with(
     alloc: Global,
     guest: &Guest,
-    machine: &Machine,
+    machine: &RunningMachine,
     heap: &mut Vec<Object>,
     thread: &mut Thread,
     call: &InCall,
@@ -137,7 +137,7 @@ fn finish_with(
 fn throw_made(
     alloc: Global,
     guest: &Guest,
-    machine: &mut Machine,
+    machine: &mut RunningMachine,
     heap: &mut Vec<Object>,
     thread: &mut Thread,
     call: &InCall,
@@ -171,7 +171,7 @@ fn throw_made(
 pub fn take(
     alloc: Global,
     guest: &Guest,
-    machine: &mut Machine,
+    machine: &mut RunningMachine,
     heap: &mut Vec<Object>,
     thread: &mut Thread,
     call: &InCall,
@@ -234,7 +234,7 @@ pub fn take(
 pub fn take_if_fit(
     alloc: Global,
     guest: &Guest,
-    machine: &mut Machine,
+    machine: &mut RunningMachine,
     heap: &mut Vec<Object>,
     thread: &mut Thread,
     call: &InCall,
@@ -306,7 +306,7 @@ fn bare_object(alloc: Global, class: Bytes) -> Object
 fn throw_in_call(
     alloc: Global,
     guest: &Guest,
-    machine: &mut Machine,
+    machine: &mut RunningMachine,
     thread: &mut Thread,
     call: &InCall,
     class: &[u8],
@@ -333,7 +333,7 @@ fn throw_in_call(
 fn take_at_once(
     alloc: Global,
     guest: &Guest,
-    machine: &mut Machine,
+    machine: &mut RunningMachine,
     thread: &mut Thread,
     call: &InCall,
     answer: &ApiAnswer,
@@ -342,9 +342,9 @@ fn take_at_once(
         (answered_well guest.now (world_of machine.old) call.now.number thread.old call.now.method call.now.receiver
         call.now.args.now answer.now) }
 {
-    let mut heap = std::mem::replace(&mut machine.heap, List::new(alloc)).into_vec();
+    let mut heap = take_objects(alloc, machine);
     let made = take_apart(alloc, guest, machine, &mut heap, thread, call, answer);
-    machine.heap = List::from_vec(heap);
+    put_objects(machine, heap);
     made
 }
 
@@ -352,7 +352,7 @@ fn take_at_once(
 fn take_apart(
     alloc: Global,
     guest: &Guest,
-    machine: &mut Machine,
+    machine: &mut RunningMachine,
     heap: &mut Vec<Object>,
     thread: &mut Thread,
     call: &InCall,
@@ -376,7 +376,7 @@ fn take_apart(
 pub fn step_in_call(
     alloc: Global,
     guest: &Guest,
-    machine: &mut Machine,
+    machine: &mut RunningMachine,
     thread: &mut Thread,
     call: &InCall,
     choice: &Choice,
@@ -417,7 +417,7 @@ pub fn is_on_null(receiver: Option<Value>) -> bool
 fn answer_call(
     alloc: Global,
     guest: &Guest,
-    machine: &mut Machine,
+    machine: &mut RunningMachine,
     thread: &mut Thread,
     call: &InCall,
     answer: &ApiAnswer,

@@ -15,24 +15,24 @@ use crate::ending::can_step;
 use crate::fitting::fits_call;
 use api_listing::{ApiAnswer, ApiCall};
 use guest_heap::{Doing, Object, Value};
-use guest_model::Machine;
 use guest_tables::{Guest, values_shown};
+use guest_threads::MachineView;
 use mon_base::NoMemory;
 use std::alloc::Global;
 
 /// Whether the thread with this number can make a step: some choice of it is enabled by the rules. It takes no memory.
-pub fn enabled(guest: &Guest, machine: &Machine, thread: u32) -> bool
+pub fn enabled(guest: &Guest, machine: &MachineView, thread: u32) -> bool
     ensures { result ≡ is_enabled guest.now machine.now thread }
 {
-    !machine.stopped.is_some() && can_act(guest, machine, thread as usize)
+    !machine.stopped().is_some() && can_act(guest, machine, thread as usize)
 }
 
 /// Whether there is a thread with this number that can make a step while the program goes on.
-fn can_act(guest: &Guest, machine: &Machine, number: usize) -> bool
+fn can_act(guest: &Guest, machine: &MachineView, number: usize) -> bool
     ensures { result ≡ option_map_or (λ (t : Thread). can_step guest.now machine.now number t.frames t.doing)
         (slice_get machine.now.threads number) false }
 {
-    match machine.threads.as_slice().get(number) {
+    match machine.threads().get(number) {
         Some(acting) => can_step(guest, machine, number, acting),
         None => false,
     }
@@ -40,26 +40,26 @@ fn can_act(guest: &Guest, machine: &Machine, number: usize) -> bool
 
 /// Whether the answer fits the call that the thread with this number is in, so that the step which takes it is enabled by the
 /// rules. It takes no memory.
-pub fn answer_fits(guest: &Guest, machine: &Machine, thread: u32, answer: &ApiAnswer) -> bool
+pub fn answer_fits(guest: &Guest, machine: &MachineView, thread: u32, answer: &ApiAnswer) -> bool
     ensures { result ≡ takes_answer guest.now machine.now thread answer.now }
 {
-    answer_fits_apart(guest, machine, machine.heap.as_slice(), thread, answer)
+    answer_fits_apart(guest, machine, machine.heap().as_slice(), thread, answer)
 }
 
 /// The same where the heap stands apart.
 pub fn answer_fits_apart(
     guest: &Guest,
-    machine: &Machine,
+    machine: &MachineView,
     heap: &[Object],
     thread: u32,
     answer: &ApiAnswer,
 ) -> bool
     ensures { result ≡ takes_answer guest.now (with_objects machine.now heap.now) thread answer.now }
 {
-    if machine.stopped.is_some() {
+    if machine.stopped().is_some() {
         return false;
     }
-    match machine.threads.as_slice().get(thread as usize) {
+    match machine.threads().get(thread as usize) {
         Some(acting) => doing_takes(guest, heap, &acting.doing, answer),
         None => false,
     }
@@ -86,13 +86,13 @@ fn doing_takes(guest: &Guest, heap: &[Object], doing: &Doing, answer: &ApiAnswer
 pub fn call_asked(
     alloc: Global,
     guest: &Guest,
-    machine: &Machine,
+    machine: &MachineView,
     thread: u32,
 ) -> Result<Option<ApiCall>, NoMemory>
     ensures { IfOk result (λ call. call ≡ call_asked guest.now machine.now thread) }
 {
-    match machine.threads.as_slice().get(thread as usize) {
-        Some(acting) => call_of_doing(alloc, guest, machine.heap.as_slice(), &acting.doing),
+    match machine.threads().get(thread as usize) {
+        Some(acting) => call_of_doing(alloc, guest, machine.heap().as_slice(), &acting.doing),
         None => Ok(None),
     }
 }

@@ -13,11 +13,11 @@ use crate::running::{run_object, run_of};
 use api_listing::Event;
 use guest_frames::is_null;
 use guest_heap::{Object, Thread, Value};
-use guest_model::{Builtin, Machine, StepFault, Thrown};
+use guest_model::{Builtin, StepFault, Thrown};
 use guest_tables::{Guest, characters, string_of};
 use guest_threads::{
-    Call, begin_beside, begun_thread, call_throws, exit, go_past, join, make_on, mark_started,
-    target_of, thread_of_value,
+    Call, RunningMachine, begin_beside, begun_thread, call_throws, exit, go_past, join, make_on,
+    mark_started, target_of, thread_of_value,
 };
 use insn_codec::How;
 use mon_base::List;
@@ -37,7 +37,7 @@ fn run_started(guest: &Guest, heap: &List<Object>, on: Value) -> Option<((u32, u
 fn start_first(
     alloc: Global,
     guest: &Guest,
-    machine: &mut Machine,
+    machine: &mut RunningMachine,
     thread: &mut Thread,
     call: &Call,
     on: Value,
@@ -60,7 +60,7 @@ fn start_first(
 fn start(
     alloc: Global,
     guest: &Guest,
-    machine: &mut Machine,
+    machine: &mut RunningMachine,
     thread: &mut Thread,
     call: &Call,
     on: Value,
@@ -87,7 +87,7 @@ fn start(
 /// Counts the characters of a text.
 fn tell_length(
     guest: &Guest,
-    machine: &mut Machine,
+    machine: &mut RunningMachine,
     thread: &mut Thread,
     call: &Call,
     on: Value,
@@ -106,7 +106,7 @@ fn tell_length(
 fn build_on(
     alloc: Global,
     guest: &Guest,
-    machine: &mut Machine,
+    machine: &mut RunningMachine,
     thread: &mut Thread,
     call: &Call,
     how: How,
@@ -130,7 +130,7 @@ fn build_on(
 fn build_on_receiver(
     alloc: Global,
     guest: &Guest,
-    machine: &mut Machine,
+    machine: &mut RunningMachine,
     thread: &mut Thread,
     call: &Call,
     how: How,
@@ -161,7 +161,7 @@ fn build_on_receiver(
 pub fn call_builtin(
     alloc: Global,
     guest: &Guest,
-    machine: &mut Machine,
+    machine: &mut RunningMachine,
     thread: &mut Thread,
     call: &Call,
     how: How,

@@ -16,9 +16,9 @@ use crate::running::run_target;
 use api_listing::Event;
 use bytecode_model::{Method, Target};
 use guest_heap::{Doing, Object, Thread, Value};
-use guest_model::{Machine, StepFault, Thrown, builtin_at, class_of_value, is_static_call};
+use guest_model::{StepFault, Thrown, builtin_at, class_of_value, is_static_call};
 use guest_tables::{Guest, is_run, method_run, values_shown};
-use guest_threads::{Call, call_throws, end_thread, enter_method, pass, wait};
+use guest_threads::{Call, RunningMachine, call_throws, end_thread, enter_method, pass, wait};
 use insn_codec::How;
 use mon_base::List;
 use std::alloc::Global;
@@ -27,7 +27,7 @@ use std::alloc::Global;
 pub fn call_library(
     alloc: Global,
     guest: &Guest,
-    machine: &mut Machine,
+    machine: &mut RunningMachine,
     thread: &mut Thread,
     call: Call,
     method: u32,
@@ -67,7 +67,7 @@ pub fn call_library(
 fn call_lacking(
     alloc: Global,
     guest: &Guest,
-    machine: &mut Machine,
+    machine: &mut RunningMachine,
     thread: &mut Thread,
     call: &Call,
     method: &Method,
@@ -87,7 +87,7 @@ fn call_lacking(
 fn call_lacked(
     alloc: Global,
     guest: &Guest,
-    machine: &mut Machine,
+    machine: &mut RunningMachine,
     thread: &mut Thread,
     call: &Call,
     how: How,
@@ -128,7 +128,7 @@ fn method_on(
 fn call_on(
     alloc: Global,
     guest: &Guest,
-    machine: &mut Machine,
+    machine: &mut RunningMachine,
     thread: &mut Thread,
     call: &Call,
     how: How,
@@ -167,7 +167,7 @@ fn call_on(
 fn call_given(
     alloc: Global,
     guest: &Guest,
-    machine: &mut Machine,
+    machine: &mut RunningMachine,
     thread: &mut Thread,
     call: &Call,
     how: How,
@@ -213,7 +213,7 @@ fn call_given(
 fn call_named(
     alloc: Global,
     guest: &Guest,
-    machine: &mut Machine,
+    machine: &mut RunningMachine,
     thread: &mut Thread,
     call: Call,
     how: How,
@@ -251,7 +251,7 @@ fn call_named(
 pub fn call(
     alloc: Global,
     guest: &Guest,
-    machine: &mut Machine,
+    machine: &mut RunningMachine,
     number: u32,
     thread: &mut Thread,
     how: How,

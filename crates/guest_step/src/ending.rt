@@ -13,19 +13,19 @@ use crate::waiting::call_waits;
 use bytecode_model::Target;
 use guest_frames::is_null;
 use guest_heap::{Doing, Frame, Frames, Thread};
-use guest_model::{End, Machine};
+use guest_model::End;
 use guest_tables::Guest;
-use guest_threads::{is_ended, is_held_by_other};
+use guest_threads::{MachineView, is_ended};
 use insn_codec::{Heap, shape_of};
 
 /// How the run ended; nothing while a thread can make a step. It takes no memory.
-pub fn ended(guest: &Guest, machine: &Machine) -> Option<End>
+pub fn ended(guest: &Guest, machine: &MachineView) -> Option<End>
     ensures { result ≡ end_of guest.now machine.now }
 {
-    if let Some(value) = machine.stopped {
+    if let Some(value) = machine.stopped() {
         return Some(End::Stopped(value));
     }
-    if have_ended(machine.threads.as_slice()) {
+    if have_ended(machine.threads()) {
         return Some(End::Finished);
     }
     if some_can_step(guest, machine) {
@@ -42,11 +42,11 @@ fn have_ended(threads: &[Thread]) -> bool
 }
 
 /// Whether some thread can make a step.
-fn some_can_step(guest: &Guest, machine: &Machine) -> bool
+fn some_can_step(guest: &Guest, machine: &MachineView) -> bool
     ensures { result ≡ some_can_step guest.now machine.now 0 machine.now.threads }
 {
     let mut number = 0;
-    let mut left = machine.threads.as_slice();
+    let mut left = machine.threads();
     while let [thread, rest @ ..] = left {
         if can_step(guest, machine, number, thread) {
             return true;
@@ -58,7 +58,7 @@ fn some_can_step(guest: &Guest, machine: &Machine) -> bool
 }
 
 /// Whether the thread of this number can make a step.
-pub fn can_step(guest: &Guest, machine: &Machine, number: usize, thread: &Thread) -> bool
+pub fn can_step(guest: &Guest, machine: &MachineView, number: usize, thread: &Thread) -> bool
     ensures { result ≡ can_step guest.now machine.now number thread.now.frames thread.now.doing }
 {
     match &thread.doing {
@@ -76,7 +76,7 @@ pub fn can_step(guest: &Guest, machine: &Machine, number: usize, thread: &Thread
 }
 
 /// Whether the next instruction of a thread with these frames waits.
-fn waits(guest: &Guest, machine: &Machine, number: usize, frames: &Frames) -> bool
+fn waits(guest: &Guest, machine: &MachineView, number: usize, frames: &Frames) -> bool
     ensures { result ≡ waits guest.now machine.now number frames.now }
 {
     let Some(frame) = frames.top() else {
@@ -94,7 +94,7 @@ fn waits(guest: &Guest, machine: &Machine, number: usize, frames: &Frames) -> bo
 /// Whether an instruction that works on more than its frame waits.
 fn heap_waits(
     guest: &Guest,
-    machine: &Machine,
+    machine: &MachineView,
     number: usize,
     frame: &Frame,
     what: Heap,
@@ -126,12 +126,12 @@ fn heap_waits(
 }
 
 /// Whether the monitor of what is on top is held by another thread.
-fn enter_waits(machine: &Machine, number: usize, frame: &Frame) -> bool
+fn enter_waits(machine: &MachineView, number: usize, frame: &Frame) -> bool
     ensures { result ≡ option_map_or (λ (on : Value). not (is_null on) && is_held_by_other machine.now.monitors number on)
         (slice_get frame.now.stack.items 0) false }
 {
     match frame.stack.get(0) {
-        Some(on) => !is_null(on) && is_held_by_other(machine.monitors.as_slice(), number, on),
+        Some(on) => !is_null(on) && machine.monitors().is_held_by_other(number, on),
         None => false,
     }
 }

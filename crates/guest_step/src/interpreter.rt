@@ -6,7 +6,7 @@ ghost use Rattle.guest_model.specs.Runs.{start_of};
 
 use crate::asking::{answer_fits_apart, call_asked};
 use crate::living::{add_living, bring_up_to_date, make_place_for_thread};
-use crate::making_room::{longest_name, make_place, make_rooms};
+use crate::making_room::{longest_name, make_place, make_rooms, put_objects, take_objects};
 use crate::rooms::Rooms;
 use crate::starting::start;
 use crate::stepping::{step, step_prepared};
@@ -14,9 +14,10 @@ use crate::turns::{end_among, next_enabled};
 use api_listing::{ApiAnswer, ApiCall, Event};
 use bytecode_model::Program;
 use guest_heap::Object;
-use guest_model::{Choice, End, Execution, Machine, Step, StepFault, steps_add_one};
+use guest_model::{Choice, End, Execution, Step, StepFault, steps_add_one};
 use guest_tables::Guest;
-use mon_base::{List, NoMemory};
+use guest_threads::RunningMachine;
+use mon_base::NoMemory;
 use std::alloc::Global;
 use std::marker::Model;
 use type_lattice::Indexed;
@@ -26,7 +27,7 @@ use type_lattice::Indexed;
 #[derive(Drop)]
 pub struct Interpreter {
     guest: Guest,
-    machine: Machine,
+    machine: RunningMachine,
     /// The numbers of the threads that live, ascending.
     living: Vec<u32>,
     /// The objects of the machine, and a place for one more, while an answer is waited for.
@@ -58,7 +59,7 @@ impl Interpreter {
         let machine = start(alloc, &guest)?;
         let mut living = Vec::new(alloc);
         make_place_for_thread(&mut living, 0)?;
-        add_living(&mut living, machine.threads.as_slice(), 0);
+        add_living(&mut living, machine.view().threads(), 0);
         let longest = longest_name(guest.program().listing.classes.as_slice());
         Ok(Interpreter {
             guest,
@@ -88,20 +89,25 @@ impl Execution for Interpreter {
     }
 
     fn next_enabled(&self, first: u32) -> Option<u32> {
-        next_enabled(&self.guest, &self.machine, self.living.as_slice(), first)
+        next_enabled(
+            &self.guest,
+            &self.machine.view(),
+            self.living.as_slice(),
+            first,
+        )
     }
 
     fn ended(&self) -> Option<End> {
-        end_among(&self.guest, &self.machine, self.living.as_slice())
+        end_among(&self.guest, &self.machine.view(), self.living.as_slice())
     }
 
     fn call_asked(&self, alloc: Global, thread: u32) -> Result<Option<ApiCall>, NoMemory> {
-        call_asked(alloc, &self.guest, &self.machine, thread)
+        call_asked(alloc, &self.guest, &self.machine.view(), thread)
     }
 
     fn go(&mut self, alloc: Global, thread: u32) -> Result<Option<Event>, NoMemory> {
         steps_add_one();
-        let count = self.machine.threads.len();
+        let count = self.machine.view().threads().len();
         make_place_for_thread(&mut self.living, count)?;
         let next = Step {
             thread,
@@ -109,7 +115,7 @@ impl Execution for Interpreter {
         };
         match step(alloc, &self.guest, &mut self.machine, &next) {
             Ok(event) => {
-                bring_up_to_date(&mut self.living, &self.machine, thread, count);
+                bring_up_to_date(&mut self.living, &self.machine.view(), thread, count);
                 Ok(event)
             }
             Err(StepFault::Memory) => Err(NoMemory),
@@ -118,23 +124,23 @@ impl Execution for Interpreter {
     }
 
     fn prepare(&mut self, alloc: Global, thread: u32) -> Result<(), NoMemory> {
-        make_place_for_thread(&mut self.living, self.machine.threads.len())?;
+        make_place_for_thread(&mut self.living, self.machine.view().threads().len())?;
         make_rooms(
             alloc,
             &self.guest,
-            &self.machine,
+            &self.machine.view(),
             thread,
             self.longest,
             &mut self.rooms,
         )?;
-        let mut heap = std::mem::replace(&mut self.machine.heap, List::new(alloc)).into_vec();
+        let mut heap = take_objects(alloc, &mut self.machine);
         match make_place(&mut heap) {
             Ok(()) => {
                 self.apart = Some(heap);
                 Ok(())
             }
             Err(NoMemory) => {
-                self.machine.heap = List::from_vec(heap);
+                put_objects(&mut self.machine, heap);
                 Err(NoMemory)
             }
         }
@@ -144,7 +150,7 @@ impl Execution for Interpreter {
         match &self.apart {
             Some(heap) => answer_fits_apart(
                 &self.guest,
-                &self.machine,
+                &self.machine.view(),
                 heap.as_slice(),
                 thread,
                 answer,
@@ -158,7 +164,7 @@ impl Execution for Interpreter {
         let Some(mut heap) = self.apart.take() else {
             unreachable!();
         };
-        let count = self.machine.threads.len();
+        let count = self.machine.view().threads().len();
         let rooms = &mut self.rooms;
         let made = step_prepared(
             alloc,
@@ -169,10 +175,10 @@ impl Execution for Interpreter {
             answer,
             rooms,
         );
-        self.machine.heap = List::from_vec(heap);
+        put_objects(&mut self.machine, heap);
         match made {
             Ok(event) => {
-                bring_up_to_date(&mut self.living, &self.machine, thread, count);
+                bring_up_to_date(&mut self.living, &self.machine.view(), thread, count);
                 event
             }
             Err(_) => unreachable!(),
@@ -181,7 +187,7 @@ impl Execution for Interpreter {
 
     fn release(&mut self, _thread: u32) {
         if let Some(heap) = self.apart.take() {
-            self.machine.heap = List::from_vec(heap);
+            put_objects(&mut self.machine, heap);
         }
     }
 }

@@ -4,8 +4,7 @@ ghost use Rattle.std.specs.Prelude.{OnOk, vec_capacity, vec_len, ◌++◌, ◌<�
 ghost use Rattle.guest_step.specs.Living.{TakesThread, living_at, without_ended};
 
 use guest_heap::Thread;
-use guest_model::Machine;
-use guest_threads::{has_ended, is_ended};
+use guest_threads::{MachineView, has_ended, is_ended};
 use mon_base::NoMemory;
 
 /// More threads than any memory has: their numbers have 32 bits.
@@ -25,16 +24,16 @@ pub fn make_place_for_thread(living: &mut Vec<u32>, count: usize) -> Result<(), 
 
 /// Brings the list up to date after a step of the thread with this number, before which there were so many threads. Only where the
 /// thread has ended is the list gone through.
-pub fn bring_up_to_date(living: &mut Vec<u32>, machine: &Machine, number: u32, count: usize)
+pub fn bring_up_to_date(living: &mut Vec<u32>, machine: &MachineView, number: u32, count: usize)
     requires { TakesThread count living.old }
     ensures { living.new.items ≡ without_ended machine.now number living.old.items ++ living_at machine.now.threads count }
 {
     remove_ended(living, machine, number);
-    add_living(living, machine.threads.as_slice(), count);
+    add_living(living, machine.threads(), count);
 }
 
 /// Takes the thread with this number off the list if it has ended.
-fn remove_ended(living: &mut Vec<u32>, machine: &Machine, number: u32)
+fn remove_ended(living: &mut Vec<u32>, machine: &MachineView, number: u32)
     ensures items { living.new.items ≡ without_ended machine.now number living.old.items }
     ensures len { vec_len living.new ≤ vec_len living.old }
     ensures capacity { vec_capacity living.new ≡ vec_capacity living.old }

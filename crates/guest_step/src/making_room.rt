@@ -14,6 +14,7 @@ ghost use Rattle.guest_step.specs.Rooms.{
   bytes_given,
   bytes_made,
   longest_name,
+  with_objects,
 };
 ghost use Rattle.guest_threads.specs.Acts.{StandsLow};
 
@@ -21,9 +22,9 @@ use crate::answering::InCall;
 use crate::rooms::Rooms;
 use api_listing::{ApiAnswer, ListedClass};
 use guest_heap::{Doing, Frames, Object, Thread, Value};
-use guest_model::{Machine, answers_are_permitted};
+use guest_model::answers_are_permitted;
 use guest_tables::{Guest, bytes_shown};
-use guest_threads::rest;
+use guest_threads::{MachineView, RunningMachine, rest};
 use mon_base::{List, NoMemory};
 use std::alloc::Global;
 
@@ -59,7 +60,7 @@ pub fn make_room(
 pub fn make_rooms(
     alloc: Global,
     guest: &Guest,
-    machine: &Machine,
+    machine: &MachineView,
     number: u32,
     longest: usize,
     rooms: &mut Rooms,
@@ -68,13 +69,13 @@ pub fn make_rooms(
     ensures { OnOk result (IsPrepared guest.now machine.now number rooms.new) }
 {
     answers_are_permitted();
-    let Some(thread) = machine.threads.as_slice().get(number as usize) else {
+    let Some(thread) = machine.threads().get(number as usize) else {
         return Ok(());
     };
     rooms.rested = ready_to_return(alloc, guest, thread)?;
     let most = longest.max(LONGEST_TEXT);
     rooms.object.reserve(most)?;
-    rooms.event.reserve(most_shown(guest, machine.heap.as_slice(), &thread.doing, most))?;
+    rooms.event.reserve(most_shown(guest, machine.heap().as_slice(), &thread.doing, most))?;
     Ok(())
 }
 
@@ -154,6 +155,21 @@ fn length_shown(guest: &Guest, heap: &[Object], value: Option<Value>) -> usize
         Some(value) => bytes_shown(guest, heap, value).len(),
         None => 0,
     }
+}
+
+/// Takes the objects out of the machine. It takes no memory.
+pub fn take_objects(alloc: Global, machine: &mut RunningMachine) -> Vec<Object>
+    ensures heap { result.items ≡ machine.old.heap }
+    ensures left { machine.new ≡ with_objects machine.old [] }
+{
+    std::mem::replace(&mut machine.heap, List::new(alloc)).into_vec()
+}
+
+/// Puts these objects into the machine, in the place of its own. It takes no memory.
+pub fn put_objects(machine: &mut RunningMachine, heap: Vec<Object>)
+    ensures { machine.new ≡ with_objects machine.old heap.items }
+{
+    machine.heap = List::from_vec(heap);
 }
 
 /// Takes memory for one object more.

@@ -13,10 +13,10 @@ use crate::operate::operate;
 use api_listing::Event;
 use bytecode_model::Target;
 use guest_heap::{Doing, Frame, Object, Thread, Value};
-use guest_model::{Machine, StepFault};
+use guest_model::StepFault;
 use guest_operations::Completion;
 use guest_tables::Guest;
-use guest_threads::throw_new;
+use guest_threads::{RunningMachine, throw_new};
 use insn_codec::Heap;
 use mon_base::{List, NoMemory};
 use std::alloc::Global;
@@ -25,7 +25,7 @@ use std::alloc::Global;
 pub fn run_operation(
     alloc: Global,
     guest: &Guest,
-    machine: &mut Machine,
+    machine: &mut RunningMachine,
     number: u32,
     thread: &mut Thread,
     what: Heap,

@@ -10,9 +10,9 @@ ghost use Rattle.guest_threads.specs.Calls.{calling};
 
 use api_listing::Event;
 use guest_heap::{Object, Thread, Value};
-use guest_model::{Machine, StepFault, class_of_value};
+use guest_model::{StepFault, class_of_value};
 use guest_tables::{Guest, client_run, is_thread};
-use guest_threads::{Call, enter_method, go_past, target_of};
+use guest_threads::{Call, RunningMachine, enter_method, go_past, target_of};
 use insn_codec::How;
 use mon_base::List;
 use std::alloc::Global;
@@ -44,7 +44,7 @@ fn is_thread_on(guest: &Guest, heap: &List<Object>, on: Value) -> bool
 fn call_run(
     alloc: Global,
     guest: &Guest,
-    machine: &mut Machine,
+    machine: &mut RunningMachine,
     thread: &mut Thread,
     call: &Call,
     run: Option<((u32, u32), Value)>,
@@ -71,7 +71,7 @@ fn call_run(
 pub fn run_target(
     alloc: Global,
     guest: &Guest,
-    machine: &mut Machine,
+    machine: &mut RunningMachine,
     thread: &mut Thread,
     call: &Call,
     on: Value,
@@ -90,7 +90,7 @@ pub fn run_target(
 pub fn run_object(
     alloc: Global,
     guest: &Guest,
-    machine: &mut Machine,
+    machine: &mut RunningMachine,
     thread: &mut Thread,
     call: &Call,
     how: How,

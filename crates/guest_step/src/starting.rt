@@ -9,24 +9,23 @@ ghost use Rattle.guest_step.specs.Start.{initialiser_at};
 ghost use Rattle.mon_base.specs.declared.method.MethodId.{MethodId};
 
 use guest_heap::{Doing, Frames, Object, Thread};
-use guest_model::Machine;
 use guest_operations::statics_of;
 use guest_tables::Guest;
-use guest_threads::{push_object, rest};
+use guest_threads::{Monitors, RunningMachine, push_object, rest};
 use mon_base::{Bytes, List, MethodId, NoMemory};
 use std::alloc::Global;
 
 /// The machine before the first step: its one thread runs the initialisers of the classes, in their order, and then main.
-pub fn start(alloc: Global, guest: &Guest) -> Result<Machine, NoMemory>
+pub fn start(alloc: Global, guest: &Guest) -> Result<RunningMachine, NoMemory>
     ensures { IfOk result (λ machine. machine ≡ start_of guest.now) }
 {
     let threads = first_threads(alloc, guest)?;
     let heap = first_heap(alloc, guest)?;
     let statics = statics_of(alloc, guest.program())?;
-    Ok(Machine {
+    Ok(RunningMachine {
         heap,
         statics,
-        monitors: List::new(alloc),
+        monitors: Monitors::new(alloc),
         threads,
         stopped: None,
     })

@@ -26,9 +26,9 @@ use api_listing::{ApiAnswer, Event};
 use bytecode_model::Target;
 use guest_frames::local_step;
 use guest_heap::{Doing, Frame, Frames, Object, Thread};
-use guest_model::{Choice, Machine, Step, StepFault, events_are_of_their_thread};
+use guest_model::{Choice, Step, StepFault, events_are_of_their_thread};
 use guest_tables::Guest;
-use guest_threads::{OnTop, act_on_top, method_of, return_from};
+use guest_threads::{OnTop, RunningMachine, act_on_top, method_of, return_from};
 use insn_codec::{Heap, Insn, Shape, shape_of};
 use mon_base::List;
 use std::alloc::Global;
@@ -37,7 +37,7 @@ use std::alloc::Global;
 pub fn step(
     alloc: Global,
     guest: &Guest,
-    machine: &mut Machine,
+    machine: &mut RunningMachine,
     step: &Step,
 ) -> Result<Option<Event>, StepFault>
     ensures did { Did result machine.old machine.new (stepped guest.now machine.old step.now) }
@@ -76,7 +76,7 @@ fn idle(alloc: Global) -> Thread
 fn act(
     alloc: Global,
     guest: &Guest,
-    machine: &mut Machine,
+    machine: &mut RunningMachine,
     number: u32,
     thread: &mut Thread,
     choice: &Choice,
@@ -103,7 +103,7 @@ fn give_back(thread: &mut Thread, doing: Doing, is_refused: bool)
 fn act_as(
     alloc: Global,
     guest: &Guest,
-    machine: &mut Machine,
+    machine: &mut RunningMachine,
     number: u32,
     thread: &mut Thread,
     doing: &Doing,
@@ -135,7 +135,7 @@ fn act_as(
 fn run(
     alloc: Global,
     guest: &Guest,
-    machine: &mut Machine,
+    machine: &mut RunningMachine,
     number: u32,
     thread: &mut Thread,
     choice: &Choice,
@@ -188,7 +188,7 @@ pub fn heap_in(shape: Shape) -> Option<Heap>
 fn run_next(
     alloc: Global,
     guest: &Guest,
-    machine: &mut Machine,
+    machine: &mut RunningMachine,
     number: u32,
     thread: &mut Thread,
 ) -> Result<Option<Event>, StepFault>
@@ -246,7 +246,7 @@ fn step_frame(frame: &mut Frame, insn: &Insn) -> Result<(), StepFault>
 fn run_heap(
     alloc: Global,
     guest: &Guest,
-    machine: &mut Machine,
+    machine: &mut RunningMachine,
     number: u32,
     thread: &mut Thread,
     what: Heap,
@@ -284,7 +284,7 @@ fn run_heap(
 pub fn step_prepared(
     alloc: Global,
     guest: &Guest,
-    machine: &mut Machine,
+    machine: &mut RunningMachine,
     heap: &mut Vec<Object>,
     number: u32,
     answer: &ApiAnswer,
@@ -319,7 +319,7 @@ pub fn step_prepared(
 fn act_prepared(
     alloc: Global,
     guest: &Guest,
-    machine: &mut Machine,
+    machine: &mut RunningMachine,
     heap: &mut Vec<Object>,
     number: u32,
     thread: &mut Thread,
@@ -344,7 +344,7 @@ fn act_prepared(
 fn answer_prepared(
     alloc: Global,
     guest: &Guest,
-    machine: &mut Machine,
+    machine: &mut RunningMachine,
     heap: &mut Vec<Object>,
     number: u32,
     thread: &mut Thread,

@@ -11,6 +11,7 @@ use api_listing::{ApiAnswer, Event};
 use bytecode_model::Program;
 use guest_model::{End, Machine, Step, StepFault, Steps};
 use guest_tables::Guest;
+use guest_threads::{MachineView, RunningMachine};
 use mon_base::NoMemory;
 use std::alloc::Global;
 use std::marker::Model;
@@ -52,7 +53,7 @@ impl Steps for Stepper {
     ghost program = { λ program. program };
 
     fn start(&self, alloc: Global) -> Result<Machine, NoMemory> {
-        start(alloc, &self.guest)
+        Ok(start(alloc, &self.guest)?.into_machine())
     }
 
     fn step(
@@ -61,18 +62,21 @@ impl Steps for Stepper {
         machine: &mut Machine,
         step: &Step,
     ) -> Result<Option<Event>, StepFault> {
-        make_step(alloc, &self.guest, machine, step)
+        let mut taken = RunningMachine::taken(alloc, machine);
+        let made = make_step(alloc, &self.guest, &mut taken, step);
+        *machine = taken.into_machine();
+        made
     }
 
     fn enabled(&self, machine: &Machine, thread: u32) -> bool {
-        enabled(&self.guest, machine, thread)
+        enabled(&self.guest, &MachineView::of(machine), thread)
     }
 
     fn answer_fits(&self, machine: &Machine, thread: u32, answer: &ApiAnswer) -> bool {
-        answer_fits(&self.guest, machine, thread, answer)
+        answer_fits(&self.guest, &MachineView::of(machine), thread, answer)
     }
 
     fn ended(&self, machine: &Machine) -> Option<End> {
-        ended(&self.guest, machine)
+        ended(&self.guest, &MachineView::of(machine))
     }
 }

@@ -9,11 +9,12 @@ ghost use Rattle.guest_model.specs.Turns.{next_enabled};
 ghost use Rattle.guest_step.specs.Living.{living_of};
 
 use crate::asking::enabled;
-use guest_model::{End, Machine, turns_find_the_enabled};
+use guest_model::{End, turns_find_the_enabled};
 use guest_tables::Guest;
+use guest_threads::MachineView;
 
 /// The first thread from this number on, cyclically, that can make a step, where these threads live. It takes no memory.
-pub fn next_enabled(guest: &Guest, machine: &Machine, living: &[u32], first: u32) -> Option<u32>
+pub fn next_enabled(guest: &Guest, machine: &MachineView, living: &[u32], first: u32) -> Option<u32>
     requires { living.now ≡ living_of machine.now.threads }
     ensures { result ≡ next_enabled guest.now machine.now first }
 {
@@ -35,7 +36,7 @@ fn parted(numbers: &[u32], first: u32) -> (&[u32], &[u32])
 }
 
 /// The first of these threads that can make a step.
-fn first_enabled(guest: &Guest, machine: &Machine, numbers: &[u32]) -> Option<u32>
+fn first_enabled(guest: &Guest, machine: &MachineView, numbers: &[u32]) -> Option<u32>
     ensures { result ≡ find (is_enabled guest.now machine.now) numbers.now }
 {
     let mut left = numbers;
@@ -49,12 +50,12 @@ fn first_enabled(guest: &Guest, machine: &Machine, numbers: &[u32]) -> Option<u3
 }
 
 /// How the run ended, where these threads live; nothing while one of them can make a step. It takes no memory.
-pub fn end_among(guest: &Guest, machine: &Machine, living: &[u32]) -> Option<End>
+pub fn end_among(guest: &Guest, machine: &MachineView, living: &[u32]) -> Option<End>
     requires { living.now ≡ living_of machine.now.threads }
     ensures { result ≡ end_of guest.now machine.now }
 {
     turns_find_the_enabled();
-    if let Some(value) = machine.stopped {
+    if let Some(value) = machine.stopped() {
         return Some(End::Stopped(value));
     }
     if living.is_empty() {

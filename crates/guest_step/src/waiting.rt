@@ -16,16 +16,16 @@ ghost use Rattle.insn_codec.specs.declared.shape.Heap.TheVariants as heap;
 use bytecode_model::{Method, Target};
 use guest_frames::is_null;
 use guest_heap::{Frame, Object, Stack, Value};
-use guest_model::{Builtin, Machine, builtin_at, class_of_value, is_static_call};
+use guest_model::{Builtin, builtin_at, class_of_value, is_static_call};
 use guest_tables::{Guest, method_run};
-use guest_threads::{has_ended, is_held_by_other, lock_of, method_of, thread_of_value};
+use guest_threads::{MachineView, has_ended, lock_of, method_of, thread_of_value};
 use insn_codec::How;
 use mon_base::List;
 
 /// Whether the call that comes next in the frame waits.
 pub fn call_waits(
     guest: &Guest,
-    machine: &Machine,
+    machine: &MachineView,
     number: usize,
     frame: &Frame,
     how: How,
@@ -59,7 +59,7 @@ fn receiver_of(stack: &Stack, is_static: bool, count: u8) -> Option<Option<Value
 /// Whether a call of what is named waits.
 fn target_waits(
     guest: &Guest,
-    machine: &Machine,
+    machine: &MachineView,
     number: usize,
     own: u32,
     how: How,
@@ -74,7 +74,7 @@ fn target_waits(
             let to = (*class, *method);
             match guest.method(*class, *method) {
                 Some(method) => {
-                    let lock = lock_of_call(guest, &machine.heap, own, how, to, method, receiver);
+                    let lock = lock_of_call(guest, machine.heap(), own, how, to, method, receiver);
                     waits_for_monitor(machine, number, lock)
                 }
                 None => false,
@@ -82,7 +82,7 @@ fn target_waits(
         }
         Target::Builtin(index) => match builtin_at(*index) {
             Some(builtin) => {
-                waits_for_thread(machine, thread_awaited(&machine.heap, builtin, receiver))
+                waits_for_thread(machine, thread_awaited(machine.heap(), builtin, receiver))
             }
             None => false,
         },
@@ -97,17 +97,17 @@ fn target_waits(
 }
 
 /// Whether another thread holds the monitor that is wanted.
-fn waits_for_monitor(machine: &Machine, number: usize, wanted: Option<Value>) -> bool
+fn waits_for_monitor(machine: &MachineView, number: usize, wanted: Option<Value>) -> bool
     ensures { result ≡ waits_for_monitor machine.now number wanted }
 {
     match wanted {
-        Some(on) => is_held_by_other(machine.monitors.as_slice(), number, on),
+        Some(on) => machine.monitors().is_held_by_other(number, on),
         None => false,
     }
 }
 
 /// Whether the thread that is waited for has not ended.
-fn waits_for_thread(machine: &Machine, awaited: Option<u32>) -> bool
+fn waits_for_thread(machine: &MachineView, awaited: Option<u32>) -> bool
     ensures { result ≡ waits_for_thread machine.now awaited }
 {
     match awaited {

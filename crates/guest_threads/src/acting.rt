@@ -11,13 +11,13 @@ ghost use Rattle.guest_threads.specs.Becomes.{Becomes};
 ghost use Rattle.guest_threads.specs.OnTop.{acts_on_top, goes_past, throws_object};
 
 use crate::frames::{go_to, place_after};
-use crate::monitors::{enter, holds, leave};
+use crate::machine::RunningMachine;
+use crate::monitors::Monitors;
 use crate::throwing::{throw, throw_new};
 use api_listing::Event;
 use guest_frames::is_null;
-use guest_heap::{Doing, Frame, Frames, Monitor, Thread, Value};
-use guest_model::{Machine, StepFault, Thrown, class_of_value};
-use mon_base::List;
+use guest_heap::{Doing, Frame, Frames, Thread, Value};
+use guest_model::{StepFault, Thrown, class_of_value};
 use std::alloc::Global;
 use type_lattice::Indexed;
 
@@ -41,7 +41,7 @@ pub enum OnTop {
 pub fn act_on_top(
     alloc: Global,
     program: &Indexed,
-    machine: &mut Machine,
+    machine: &mut RunningMachine,
     number: u32,
     thread: &mut Thread,
     what: OnTop,
@@ -67,7 +67,7 @@ pub fn act_on_top(
 fn throw_value(
     alloc: Global,
     program: &Indexed,
-    machine: &mut Machine,
+    machine: &mut RunningMachine,
     number: u32,
     thread: &mut Thread,
     value: Value,
@@ -93,7 +93,7 @@ fn throw_value(
 
 /// The monitor of the value is entered, and the thread goes on.
 fn enter_monitor(
-    machine: &mut Machine,
+    machine: &mut RunningMachine,
     number: u32,
     thread: &mut Thread,
     value: Value,
@@ -112,7 +112,7 @@ fn enter_monitor(
 fn leave_monitor(
     alloc: Global,
     program: &Indexed,
-    machine: &mut Machine,
+    machine: &mut RunningMachine,
     number: u32,
     thread: &mut Thread,
     value: Value,
@@ -121,7 +121,7 @@ fn leave_monitor(
     ensures { ActsIn result machine.old machine.new thread.old thread.new (acting number thread.old thread.old.frames
         (λ (a : Acting). left_with program.now (world_of machine.old) a (left machine.old.monitors number value))) }
 {
-    if !holds(machine.monitors.as_slice(), number, value) {
+    if !machine.monitors.is_held_by(number, value) {
         let class = Thrown::Monitor.name();
         return throw_new(alloc, program, machine, number, thread, class, None);
     }
@@ -133,7 +133,7 @@ fn leave_monitor(
 
 /// The monitor of the value is entered, and the frame, whose top operand it is, goes on.
 fn enter_past(
-    monitors: &mut List<Monitor>,
+    monitors: &mut Monitors,
     number: u32,
     frame: &mut Frame,
     value: Value,
@@ -141,14 +141,14 @@ fn enter_past(
     ensures { Becomes result (monitors.old, frame.old) (monitors.new, frame.new) (past frame.old (entered monitors.old number value)) }
 {
     let at = place_after(frame, 1, None)?;
-    enter(monitors, number, value)?;
+    monitors.enter(number, value)?;
     go_to(frame, at, 1, None);
     Ok(())
 }
 
 /// The monitor of the value is left, and the frame, whose top operand it is, goes on.
 fn leave_past(
-    monitors: &mut List<Monitor>,
+    monitors: &mut Monitors,
     number: u32,
     frame: &mut Frame,
     value: Value,
@@ -156,7 +156,7 @@ fn leave_past(
     ensures { Becomes result (monitors.old, frame.old) (monitors.new, frame.new) (past frame.old (left monitors.old number value)) }
 {
     let at = place_after(frame, 1, None)?;
-    if !leave(monitors, number, value) {
+    if !monitors.leave(number, value) {
         return Err(StepFault::NotEnabled);
     }
     go_to(frame, at, 1, None);

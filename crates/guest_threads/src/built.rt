@@ -8,15 +8,16 @@ ghost use Rattle.guest_threads.specs.Acts.{ActsIn};
 ghost use Rattle.guest_threads.specs.Calls.{calling};
 
 use crate::going::{go_past, pass_by};
+use crate::machine::RunningMachine;
 use crate::passing::Call;
 use crate::threads::{aim, has_ended, thread_of_value};
 use api_listing::Event;
 use guest_heap::{Thread, Value};
-use guest_model::{Machine, StepFault};
+use guest_model::StepFault;
 
 /// Waits for a thread: that is not enabled while it is started and has not ended.
 pub fn join(
-    machine: &mut Machine,
+    machine: &mut RunningMachine,
     thread: &mut Thread,
     call: &Call,
     on: Value,
@@ -28,7 +29,7 @@ pub fn join(
         None => Err(StepFault::NotEnabled),
         Some(None) => go_past(machine, thread, call, None),
         Some(Some(number)) => {
-            if has_ended(machine, number) {
+            if has_ended(&machine.view(), number) {
                 go_past(machine, thread, call, None)
             } else {
                 Err(StepFault::NotEnabled)
@@ -59,7 +60,7 @@ fn first_number(call: &Call) -> Option<i32>
 
 /// Stops the program with the argument.
 pub fn exit(
-    machine: &mut Machine,
+    machine: &mut RunningMachine,
     thread: &mut Thread,
     call: &Call,
 ) -> Result<Option<Event>, StepFault>
@@ -76,7 +77,7 @@ pub fn exit(
 
 /// Keeps the argument as the target of the Thread.
 pub fn make_on(
-    machine: &mut Machine,
+    machine: &mut RunningMachine,
     thread: &mut Thread,
     call: &Call,
     on: Value,

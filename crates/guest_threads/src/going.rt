@@ -14,13 +14,13 @@ ghost use Rattle.guest_threads.specs.Becomes.{Becomes};
 
 use crate::beginning::end;
 use crate::frames::{frame_of, go_on, method_of};
-use crate::monitors::take_lock;
+use crate::machine::RunningMachine;
+use crate::monitors::Monitors;
 use crate::passing::Call;
 use crate::throwing::{leave_top, throw_new};
 use api_listing::Event;
-use guest_heap::{Doing, Frame, Frames, Monitor, Thread, Value};
-use guest_model::{Machine, StepFault};
-use mon_base::List;
+use guest_heap::{Doing, Frame, Frames, Thread, Value};
+use guest_model::StepFault;
 use std::alloc::Global;
 use type_lattice::Indexed;
 
@@ -38,7 +38,7 @@ pub fn pass_by(thread: &mut Thread, taken: usize, value: Option<Value>) -> Resul
 
 /// The call is over at once, and leaves this result.
 pub fn go_past(
-    machine: &mut Machine,
+    machine: &mut RunningMachine,
     thread: &mut Thread,
     call: &Call,
     value: Option<Value>,
@@ -54,7 +54,7 @@ pub fn go_past(
 pub fn call_throws(
     alloc: Global,
     program: &Indexed,
-    machine: &mut Machine,
+    machine: &mut RunningMachine,
     thread: &mut Thread,
     call: &Call,
     class: &[u8],
@@ -80,7 +80,7 @@ pub fn wait(frames: &mut Frames, taken: usize)
 
 /// The frame is put on top, and its lock is taken.
 fn push_locked(
-    monitors: &mut List<Monitor>,
+    monitors: &mut Monitors,
     number: u32,
     frames: &mut Frames,
     frame: Frame,
@@ -91,7 +91,7 @@ fn push_locked(
 {
     let lock = frame.lock;
     frames.push(frame)?;
-    let taken = take_lock(monitors, number, lock);
+    let taken = monitors.take_lock(number, lock);
     if taken.is_err() {
         frames.pop();
     }
@@ -111,7 +111,7 @@ fn wait_below(frames: &mut Frames, taken: usize)
 pub fn enter_method(
     alloc: Global,
     program: &Indexed,
-    machine: &mut Machine,
+    machine: &mut RunningMachine,
     thread: &mut Thread,
     call: &Call,
     to: (u32, u32),
@@ -145,7 +145,7 @@ pub fn enter_method(
 /// The thread ends as by an exception that no handler takes.
 pub fn end_thread(
     alloc: Global,
-    machine: &mut Machine,
+    machine: &mut RunningMachine,
     thread: &mut Thread,
     call: &Call,
 ) -> Result<Option<Event>, StepFault>
@@ -162,7 +162,7 @@ pub fn end_thread(
 }
 
 /// The frames are left, and their locks are given up.
-fn give_up_all(monitors: &mut List<Monitor>, number: u32, frames: &mut Frames)
+fn give_up_all(monitors: &mut Monitors, number: u32, frames: &mut Frames)
     ensures { monitors.new ≡ all_given_up monitors.old number (locks_of frames.old) }
 {
     while frames.top().is_some() {

@@ -12,11 +12,11 @@ ghost use Rattle.guest_threads.specs.Becomes.{Becomes};
 
 use crate::beginning::rest;
 use crate::frames::go_on;
-use crate::monitors::give_up;
+use crate::machine::RunningMachine;
 use api_listing::Event;
 use guest_frames::fits;
 use guest_heap::{Doing, Stack, Thread, Value};
-use guest_model::{Machine, StepFault};
+use guest_model::StepFault;
 use insn_codec::ValueKind;
 use std::alloc::Global;
 use type_lattice::Indexed;
@@ -96,7 +96,7 @@ fn hand_back(
 pub fn return_from(
     alloc: Global,
     program: &Indexed,
-    machine: &mut Machine,
+    machine: &mut RunningMachine,
     number: u32,
     thread: &mut Thread,
     kind: Option<ValueKind>,
@@ -113,6 +113,6 @@ pub fn return_from(
     };
     let lock = frame.lock;
     hand_back(alloc, program, thread, value)?;
-    give_up(&mut machine.monitors, number, lock);
+    machine.monitors.give_up(number, lock);
     Ok(None)
 }

@@ -19,8 +19,9 @@ ghost use Rattle.guest_threads.specs.Becomes.{Becomes};
 
 use crate::frames::{frame_of, method_of};
 use crate::going::pass_by;
+use crate::machine::MachineView;
 use guest_heap::{Doing, Frames, Object, Thread, Value};
-use guest_model::{Machine, StepFault};
+use guest_model::StepFault;
 use mon_base::{List, NoMemory};
 use std::alloc::Global;
 use type_lattice::Indexed;
@@ -36,10 +37,10 @@ pub fn is_ended(doing: &Doing) -> bool
 }
 
 /// Whether the thread of this number has ended.
-pub fn has_ended(machine: &Machine, number: u32) -> bool
+pub fn has_ended(machine: &MachineView, number: u32) -> bool
     ensures { result ≡ has_ended machine.now number }
 {
-    match machine.threads.as_slice().get(number as usize) {
+    match machine.threads().get(number as usize) {
         Some(thread) => is_ended(&thread.doing),
         None => false,
     }

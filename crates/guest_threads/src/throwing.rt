@@ -12,11 +12,12 @@ ghost use Rattle.guest_model.specs.Throwing.{bare_object, catches, caught_in, ha
 ghost use Rattle.guest_threads.specs.Acts.{ActsIn, lock_on_top};
 
 use crate::frames::method_at;
-use crate::monitors::give_up;
+use crate::machine::RunningMachine;
+use crate::monitors::Monitors;
 use api_listing::Event;
 use bytecode_model::{Handler, Handlers};
-use guest_heap::{Doing, Frame, Frames, Monitor, Object, Thread, Value, new_object};
-use guest_model::{Machine, StepFault};
+use guest_heap::{Doing, Frame, Frames, Object, Thread, Value, new_object};
+use guest_model::StepFault;
 use mon_base::{Bytes, List, NoMemory};
 use std::alloc::Global;
 use type_lattice::{Indexed, is_below};
@@ -76,19 +77,19 @@ fn catch_in(program: &Indexed, frame: &mut Frame, thrown: Value, class: &[u8]) -
 }
 
 /// The top frame is left, and its lock is given up.
-pub fn leave_top(monitors: &mut List<Monitor>, number: u32, frames: &mut Frames)
+pub fn leave_top(monitors: &mut Monitors, number: u32, frames: &mut Frames)
     ensures left { frames.new ≡ drop 1 frames.old }
     ensures given { monitors.new ≡ all_given_up monitors.old number (lock_on_top frames.old) }
 {
     if let Some(frame) = frames.pop() {
-        give_up(monitors, number, frame.lock);
+        monitors.give_up(number, frame.lock);
     }
 }
 
 /// Frames are left, and their locks are given up, until one has a handler.
 fn unwind(
     program: &Indexed,
-    monitors: &mut List<Monitor>,
+    monitors: &mut Monitors,
     number: u32,
     frames: &mut Frames,
     thrown: Value,
@@ -109,7 +110,7 @@ fn unwind(
 pub fn throw(
     alloc: Global,
     program: &Indexed,
-    monitors: &mut List<Monitor>,
+    monitors: &mut Monitors,
     number: u32,
     thread: &mut Thread,
     thrown: Value,
@@ -131,7 +132,7 @@ pub fn throw(
 pub fn throw_new(
     alloc: Global,
     program: &Indexed,
-    machine: &mut Machine,
+    machine: &mut RunningMachine,
     number: u32,
     thread: &mut Thread,
     class: &[u8],

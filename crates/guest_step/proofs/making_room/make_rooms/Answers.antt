@@ -12,9 +12,9 @@ pub returns : goal.returns
 returns c thread there =
     let rooms : Rooms = record { object = c.reserve.new.self; event = c.reserve-2.new.self; rested = c.in_ok-rooms.field-0 } in
     let here = c.in-Some.thread.now in
-    let threads = rw c.as_slice.ensures at c.in-Some.ensures.lookup in
+    let threads = rw c.threads.ensures at c.in-Some.ensures.lookup in
     let same : here ≡ thread = (threads.3.1 thread) ∙ get_or_from_slice_get c.args.machine.now.threads c.args.number thread thread there in
-    let shows = subst (λ (heap : List Object). ShowsAtMost c.args.guest.now heap here.doing c.most_shown.result) c.as_slice-2.ensures c.most_shown.ensures.most in
+    let shows = subst (λ (heap : List Object). ShowsAtMost c.args.guest.now heap here.doing c.most_shown.result) (c.as_slice.ensures ∙ c.heap.ensures) c.most_shown.ensures.most in
     let enough = c.in_ok-reserve.ensures.ok in
     let enough_shown = c.in_ok-reserve-2.ensures.ok in
     subst (λ (t : Thread). IsReadyFor c.args.guest.now (world_of c.args.machine.now) t t.doing rooms) same

@@ -1,6 +1,9 @@
-use Rattle.std.proofs.Common.{◌≡◌, None, ap, sym, ◌∙◌, arith}
+use Rattle.std.proofs.Common.{◌≡◌, ◌++◌, List, None, length, ap, sym, ◌∙◌, arith}
+use Rattle.guest_heap.specs.declared.thread.Thread.{Thread}
+use Rattle.guest_model.specs.declared.machine.Machine.{Machine}
 use Rattle.guest_model.specs.declared.machine.Choice.TheVariants as choices
 use Rattle.guest_model.specs.declared.machine.Step.{Step}
+use Rattle.guest_step.specs.Living.{living_at, without_ended}
 use Rattle.guest_step.specs.Rooms.{Run}
 use Rattle.guest_step.proofs.Growing.{not_apart, threads_after}
 use Rattle.guest_step.proofs.UpToDate.{brought_up_to_date}
@@ -12,12 +15,17 @@ invariant_of-self-in-Ok c =
     let next : Step = record { thread = c.args.thread; choice = choices.Plain } in
     let grown = threads_after c.steps_add_one.ensures.one c.self.inside.guest c.self.inside.machine c.step.new.machine next c.step.result c.step.ensures.did in
     let few = c.in_ok-make_place_for_thread.ensures.one.few in
+    let count = length c.threads-count.result.now in
+    let counted : count ≡ length c.self.inside.machine.threads = ap (λ (ts : List Thread). length ts) (c.threads-count.ensures ∙ ap (λ (m : Machine). m.threads) c.view.ensures) in
+    let kept =
+    c.bring_up_to_date.ensures
+    ∙ ap (λ (m : Machine). without_ended m c.args.thread c.make_place_for_thread.new.living.items ++ living_at m.threads count) c.view-in-Ok.ensures in
     record {
       names = c.self.invariant.names;
       threads = omega arith;
       living =
-          brought_up_to_date c.self.inside.guest c.self.inside.machine c.step.new.machine next c.in-Ok.event c.len-count.result c.make_place_for_thread.new.living.items
-          c.bring_up_to_date.new.living.items c.in-Ok.ensures.did (c.in_ok-make_place_for_thread.ensures.same ∙ c.self.invariant.living) c.len-count.ensures c.bring_up_to_date.ensures;
+          brought_up_to_date c.self.inside.guest c.self.inside.machine c.step.new.machine next c.in-Ok.event count c.make_place_for_thread.new.living.items
+          c.bring_up_to_date.new.living.items c.in-Ok.ensures.did (c.in_ok-make_place_for_thread.ensures.same ∙ c.self.invariant.living) counted kept;
       waiting = not_apart _ c.self.inside.apart none;
     }
 
