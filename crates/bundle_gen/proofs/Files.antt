@@ -21,12 +21,10 @@ use Rattle.class_codec.specs.Fits.{FitsConst, FitsMember, FitsPool, HasSeconds, 
 use Rattle.class_codec.specs.Pool.{class_name_at, is_code, is_of, is_one_of, names, utf8_at}
 use Rattle.insn_codec.specs.declared.insn.Insn.{Insn}
 use Rattle.insn_codec.specs.Encoding as insns
-use Rattle.insn_codec.proofs.WriteLaws.{len_is}
 use Rattle.bundle_gen.specs.declared.members.Head.{Head}
-use Rattle.bundle_gen.specs.Code.{IsShortCode}
 use Rattle.bundle_gen.specs.Draws.{state_after}
 use Rattle.bundle_gen.specs.Generated.{HasName, class_file, classes_from, files_of, init_code, init_method, library, main_class, main_code, main_method, main_name, main_own, method, named, named_from, constants_place, run_code, run_method, thread_class, thread_name, thread_own}
-use Rattle.bundle_gen.proofs.Codes.{init_short, init_some, main_short, main_some, run_short, run_some}
+use Rattle.bundle_gen.proofs.ShortCodes.{IsShort, few_bytes, init_short, main_short, run_short, some_bytes}
 
 -- ---- texts
 
@@ -87,16 +85,12 @@ contents_few head code few =
       length-bytes_high_first 4 (length bytes),
     )
 
-pub len_is_short : (code : List Insn) → IsShortCode code → length (insns.encoding code) ≡ insns.len_from 0 code
-len_is_short code short = len_is (insns.starts_of code) 0 code short.encodable.each
-
 code_named : (pool : List Const) (at : ℕ) → utf8_at pool at ≡ Some (codes "Code") → is_read_as_code pool true at ≡ true
 code_named pool at e = ap is_code e
 
-method_fits : (pool : List Const) (head : Head) (code : List Insn) → IsHead pool head → IsShortCode code → 1 ≤ insns.len_from 0 code → FitsMember pool true (method head code)
-method_fits pool head code h short some =
-    let len = len_is_short code short in
-    let few : length (insns.encoding code) ≤ 65535 = omega (arith, len, short.short) in
+method_fits : (pool : List Const) (head : Head) (code : List Insn) → IsHead pool head → (bytes : ℕ) → bytes ≤ 65535 → IsShort code bytes → FitsMember pool true (method head code)
+method_fits pool head code h bytes most short =
+    let few : length (insns.encoding code) ≤ 65535 = omega (arith, few_bytes code bytes short, most) in
     record {
       flags = h.flags;
       name = h.name;
@@ -110,7 +104,7 @@ method_fits pool head code h short some =
               name = h.code;
               max_stack = h.max_stack;
               max_locals = omega arith;
-              some = omega (arith, len, some);
+              some = some_bytes code bytes short;
               short = few;
               table = record { count = omega arith; each = tt };
               attrs = record { count = omega arith; each = tt };
@@ -267,9 +261,9 @@ thread_fits : (index state sites : ℕ) → index < 200 → sites ≤ 500 → Is
 unfolding thread_class
 thread_fits index state sites few sites_few =
     file_fits (thread_own index ++ library) (init_method ∷ run_method state sites ∷ []) (thread_pool index few) (omega arith) (
-      method_fits (thread_own index ++ library) (record { flags = 0x0001; name = 5; code = 10; max_stack = 1 }) init_code (init_head index) init_short init_some,
+      method_fits (thread_own index ++ library) (record { flags = 0x0001; name = 5; code = 10; max_stack = 1 }) init_code (init_head index) 5 (omega arith) init_short,
       (
-        method_fits (thread_own index ++ library) (record { flags = 0x0001; name = 9; code = 10; max_stack = 1 }) (run_code state sites) (run_head index) (run_short state sites sites_few) (run_some state sites),
+        method_fits (thread_own index ++ library) (record { flags = 0x0001; name = 9; code = 10; max_stack = 1 }) (run_code state sites) (run_head index) (6 * sites + 1) (omega arith) (run_short state sites),
         tt,
       ),
     )
@@ -451,7 +445,7 @@ main_fits : (classes : ℕ) → classes ≤ 200 → IsEncodable (main_class clas
 unfolding main_class
 main_fits classes few =
     file_fits (main_own ++ named_from 0 classes) (main_method classes ∷ []) (main_pool classes few) (omega arith) (
-      method_fits (main_own ++ named_from 0 classes) (record { flags = 0x0009; name = 5; code = 7; max_stack = 2 }) (main_code classes) (main_head (named_from 0 classes)) (main_short classes few) (main_some classes),
+      method_fits (main_own ++ named_from 0 classes) (record { flags = 0x0009; name = 5; code = 7; max_stack = 2 }) (main_code classes) (main_head (named_from 0 classes)) (10 * classes + 1) (omega arith) (main_short classes few),
       tt,
     )
 

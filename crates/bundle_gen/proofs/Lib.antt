@@ -1,4 +1,5 @@
+pub mod Counting
 mod Growing
-mod Codes
+pub mod ShortCodes
 mod Files
 mod Sizes

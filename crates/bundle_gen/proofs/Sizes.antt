@@ -15,12 +15,11 @@ use Rattle.class_codec.specs.Fits.{FitsConst}
 use Rattle.insn_codec.specs.declared.insn.Insn.{Insn}
 use Rattle.insn_codec.specs.Encoding as insns
 use Rattle.bundle_gen.specs.declared.members.Head.{Head}
-use Rattle.bundle_gen.specs.Code.{IsShortCode}
 use Rattle.bundle_gen.specs.Draws.{state_after}
 use Rattle.bundle_gen.specs.Generated.{class_file, classes_from, files_of, init_code, init_method, library, main_class, main_code, main_method, main_own, method, named_from, run_code, run_method, thread_class, thread_own}
 use Rattle.bundle_gen.specs.Sizes.{bytes_of}
-use Rattle.bundle_gen.proofs.Codes.{init_short, main_short, run_short}
-use Rattle.bundle_gen.proofs.Files.{contents_few, each_named, each_of_thread, len_is_short, named_length, own_fit}
+use Rattle.bundle_gen.proofs.ShortCodes.{IsShort, few_bytes, init_short, main_short, run_short}
+use Rattle.bundle_gen.proofs.Files.{contents_few, each_named, each_of_thread, named_length, own_fit}
 
 -- ---- pools
 
@@ -63,10 +62,10 @@ counted_len item items = omega (arith, length-append (u2 (length items)) (flat_m
 abbrev code_of : Head → List Insn → Code
 code_of head code = record { name = head.code; max_stack = head.max_stack; max_locals = 1; code = insns.encoding code; table = []; attrs = [] }
 
-method_len : (head : Head) (code : List Insn) → IsShortCode code → length (member (method head code)) ≤ 2 ^ 33
-method_len head code short =
+method_len : (head : Head) (code : List Insn) (bytes : ℕ) → bytes ≤ 65535 → IsShort code bytes → length (member (method head code)) ≤ 2 ^ 33
+method_len head code bytes most short =
     let inner = contents (code_of head code) in
-    let few : length inner < 2 ^ 32 = contents_few head code (omega (arith, len_is_short code short, short.short)) in
+    let few : length inner < 2 ^ 32 = contents_few head code (omega (arith, few_bytes code bytes short, most)) in
     let attrs = u2 1 ++ ((u2 head.code ++ (u4 (length inner) ++ inner)) ++ []) in
     omega (
       arith,
@@ -130,8 +129,8 @@ thread_len index state sites few sites_few =
     let pool = thread_own index ++ library in
     let init = init_method in
     let run = run_method state sites in
-    let init_few : length (member init) ≤ 2 ^ 33 = method_len (record { flags = 0x0001; name = 5; code = 10; max_stack = 1 }) init_code init_short in
-    let run_few : length (member run) ≤ 2 ^ 33 = method_len (record { flags = 0x0001; name = 9; code = 10; max_stack = 1 }) (run_code state sites) (run_short state sites sites_few) in
+    let init_few : length (member init) ≤ 2 ^ 33 = method_len (record { flags = 0x0001; name = 5; code = 10; max_stack = 1 }) init_code 5 (omega arith) init_short in
+    let run_few : length (member run) ≤ 2 ^ 33 = method_len (record { flags = 0x0001; name = 9; code = 10; max_stack = 1 }) (run_code state sites) (6 * sites + 1) (omega arith) (run_short state sites) in
     let constants_few : length (flat_map constant pool) ≤ 70000 * 21 = pool_len pool (each_of_thread index few) in
     let methods : length (flat_map member (init ∷ run ∷ [])) ≡ length (member init) + (length (member run) + 0) =
     omega (arith, length-append (member init) (member run ++ []), length-append (member run) []) in
@@ -143,7 +142,7 @@ main_len classes few =
     let rest = named_from 0 classes in
     let pool = main_own ++ rest in
     let main = main_method classes in
-    let main_few : length (member main) ≤ 2 ^ 33 = method_len (record { flags = 0x0009; name = 5; code = 7; max_stack = 2 }) (main_code classes) (main_short classes few) in
+    let main_few : length (member main) ≤ 2 ^ 33 = method_len (record { flags = 0x0009; name = 5; code = 7; max_stack = 2 }) (main_code classes) (10 * classes + 1) (omega arith) (main_short classes few) in
     let constants_few = pool_len pool (own_fit rest (each_named 0 classes (omega arith))) in
     let count : length pool ≤ 813 = omega (arith, length-append main_own rest, named_length 0 classes, few) in
     let methods : length (flat_map member (main ∷ [])) ≡ length (member main) + 0 = omega (arith, length-append (member main) []) in

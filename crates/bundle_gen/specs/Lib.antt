@@ -1,4 +1,5 @@
 pub mod Code
 pub mod Draws
 pub mod Generated
+pub mod Linked
 pub mod Sizes

@@ -7,6 +7,7 @@
 mod bundle;
 mod code;
 mod draws;
+mod lengths;
 mod main_class;
 mod members;
 mod pool;
@@ -16,3 +17,4 @@ pub use bundle::{
     Bundle, generate, generated_codes_are_short, generated_have_names, generated_is_encodable,
     generated_is_small,
 };
+pub use lengths::bytes_of;

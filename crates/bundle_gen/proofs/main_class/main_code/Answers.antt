@@ -1,5 +1,5 @@
-use Rattle.bundle_gen.proofs.Codes.{main_short}
+use Rattle.bundle_gen.proofs.ShortCodes.{main_whole}
 use Rattle.bundle_gen.proofs.main_class.main_code.Goals as goal
 
 pub returns-clause-short : goal.returns-clause-short
-returns-clause-short c = rw (c.in_ok-push.ensures.ok, c.in_ok-put_all_begun.ensures, c.new-code.ensures) (main_short c.args.classes c.requires)
+returns-clause-short c = rw (c.in_ok-push.ensures.ok, c.in_ok-put_all_begun.ensures, c.new-code.ensures) (main_whole c.args.classes c.requires)

@@ -1,4 +1,4 @@
-use Rattle.bundle_gen.proofs.Codes.{no_fault}
+use Rattle.bundle_gen.proofs.ShortCodes.{no_fault}
 use Rattle.bundle_gen.proofs.members.code_bytes.Goals as goal
 
 pub unreachable-requires : goal.unreachable-requires

@@ -1,0 +1,6 @@
+mod Blocks
+mod Classes
+mod Rows
+mod Starter
+mod Threads
+mod Walking
