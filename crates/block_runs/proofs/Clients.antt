@@ -14,3 +14,4 @@ pub mod Listed
 pub mod OfKinds
 pub mod StepsFit
 pub mod Apart
+pub mod OneThread

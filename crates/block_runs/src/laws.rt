@@ -1,7 +1,7 @@
 //! What each block of a policy that was read does, in both modes; and that what weaving asks of a client holds of each that a
 //! compiler's files link to, and that has types.
 
-ghost use Rattle.block_runs.specs.ClientRuns.{AcceptedRunsAreLifted};
+ghost use Rattle.block_runs.specs.ClientRuns.{AcceptedRunsAreLifted, OneThreadIsApart};
 ghost use Rattle.block_runs.specs.Clients.{ClientsAreRoomy, ClientsFit, ClientsKeepTheirMachine, ClientsStartAlike};
 ghost use Rattle.block_runs.specs.Example.{ArgumentsAreGivenBack, FourthIsRefused, ThirdIsCalled};
 ghost use Rattle.block_runs.specs.Joining.{RunsAreLifted, StartsWait, StepsAreLifted, WaitsAreKept};
@@ -160,4 +160,12 @@ pub fn accepted_runs_are_lifted()
     waiting_threads_stand_at_calls();
     runs_are_lifted();
     mirrors_are_erased();
+}
+
+/// What mode hold asks of runs besides is not empty: in a run of which one thread makes all steps, whatever they are, calls of methods
+/// with clauses do not overlap.
+pub fn one_thread_is_apart()
+    ensures { OneThreadIsApart }
+{
+    uses_are_shaped();
 }

@@ -57,12 +57,12 @@ module _ (client : Program) (policy : Policy) where
   -- ---- what a step does to the calls that are under way
 
   -- Nothing: the event, if there is one, is of a method without clauses.
-  record IsQuiet (before : Doing) (change : Change) : Type 0 where
+  pub record IsQuiet (before : Doing) (change : Change) : Type 0 where
     pub event : IfSome change.event (λ (e : Event). has_clauses policy (method_of e) ≡ false)
     pub same : is_calling policy change.thread.doing ≡ is_calling policy before
 
   -- A call of a method with clauses begins.
-  record Begins (before : Doing) (change : Change) : Type 0 where
+  pub record Begins (before : Doing) (change : Change) : Type 0 where
     pub number : ℕ
     pub method : ℕ
     pub arguments : List ApiValue
@@ -71,13 +71,13 @@ module _ (client : Program) (policy : Policy) where
     pub idle : is_calling policy before ≡ false
     pub calls : is_calling policy change.thread.doing ≡ true
 
-  abbrev IsEnd : Event → Type 0
+  abbrev pub IsEnd : Event → Type 0
   IsEnd (events.Call thread method arguments) = ⊥
   IsEnd (events.Return thread method value) = ⊤
   IsEnd (events.Except thread method) = ⊤
 
   -- Such a call ends.
-  record Ends (before : Doing) (change : Change) : Type 0 where
+  pub record Ends (before : Doing) (change : Change) : Type 0 where
     pub event : Event
     pub is : change.event ≡ Some event
     pub has : has_clauses policy (method_of event) ≡ true
@@ -85,7 +85,7 @@ module _ (client : Program) (policy : Policy) where
     pub calling : is_calling policy before ≡ true
     pub over : is_calling policy change.thread.doing ≡ false
 
-  record Turns (before : Doing) (change : Change) : Type 0 where
+  pub record Turns (before : Doing) (change : Change) : Type 0 where
     pub begins : IfSome change.begins (λ (t : Thread). is_calling policy t.doing ≡ false)
     pub turn : IsQuiet before change ⊎ (Begins before change ⊎ Ends before change)
 
@@ -237,7 +237,7 @@ module _ (client : Program) (policy : Policy) where
             (is_there (Still client policy) _ change
             (call_still client policy machine number thread method none receiver arguments choice) e)
 
-    does_turn : ListedAreCalled client → (doing : Doing) (choice : Choice) (change : Change)
+    pub does_turn : ListedAreCalled client → (doing : Doing) (choice : Choice) (change : Change)
         → doing_stepped client machine number thread doing choice ≡ Some change → Turns doing change
     does_turn called doings.Running choices.Plain change e = running_turns called thread.frames change e
     does_turn called doings.Running (choices.Answer answer) change e = absurd cc
@@ -265,13 +265,13 @@ module _ (client : Program) (policy : Policy) where
   unclaused_begins (Some (events.Return thread method value)) threads none = tt
   unclaused_begins (Some (events.Except thread method)) threads none = tt
 
-  unclaused_gone : (event : Option Event) (others : List Event) → IfSome event (λ (e : Event). has_clauses policy (method_of e) ≡ false)
+  pub unclaused_gone : (event : Option Event) (others : List Event) → IfSome event (λ (e : Event). has_clauses policy (method_of e) ≡ false)
       → with_clauses policy (option_to_list event ++ others) ≡ with_clauses policy others
   unclaused_gone None others none = refl
   unclaused_gone (Some event) others none =
       ap (λ (b : Bool). cond b (event ∷ with_clauses policy others) (with_clauses policy others)) none
 
-  claused_there : (event : Event) (others : List Event) → has_clauses policy (method_of event) ≡ true
+  pub claused_there : (event : Event) (others : List Event) → has_clauses policy (method_of event) ≡ true
       → with_clauses policy (event ∷ others) ≡ event ∷ with_clauses policy others
   claused_there event others has = ap (λ (b : Bool). cond b (event ∷ with_clauses policy others) (with_clauses policy others)) has
 
