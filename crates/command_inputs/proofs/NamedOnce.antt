@@ -1,14 +1,14 @@
 -- Words are those of one command, and name one set of files for it.
-use Rattle.std.proofs.Common.{◌≡◌, ℕ, ◌+◌, ◌*◌, List, [], ◌∷◌, get_or, length, refl, sym, ap, ◌∙◌, arith}
+use Rattle.std.proofs.Common.{◌≡◌, ℕ, ◌+◌, ◌*◌, List, [], ◌∷◌, get_or, refl, sym, ap, ◌∙◌, arith}
 use Rattle.std.specs.Prelude.{codes, decimal}
 use Rattle.std.proofs.lemmas.Fmt.{decimal_injective}
 use Rattle.command_inputs.specs.declared.inline_words.Weaving.{Weaving}
 use Rattle.command_inputs.specs.declared.inline_words.Weaving.TheVariants.{Auto, Hold, Release}
-use Rattle.command_inputs.specs.GenWords.{IsGen, NamedGen}
+use Rattle.command_inputs.specs.GenWords.{IsProgramOf, NamedGen}
 use Rattle.command_inputs.specs.InlineWords.{IsInline, NamedInline, weaving_word}
 use Rattle.command_inputs.specs.LiftWords.{IsLift, NamedLift}
 use Rattle.command_inputs.specs.ReplayWords.{IsReplay, NamedReplay}
-use Rattle.command_inputs.specs.Words.{Check, Gen, Inline, IsCheck, IsCommand, IsPolicyCommand, IsRace, IsShow, Lift, NamedCheck, NamedCommand, NamedPolicy, NamedRace, NamedShow, NamedRun, Policy, Race, Replay, Run, IsRunCommand, Show, Encodes}
+use Rattle.command_inputs.specs.Words.{Check, Gen, Inline, IsCheck, IsCommand, IsPolicyCommand, IsRace, IsShow, Lift, Load, NamedCheck, NamedCommand, NamedPolicy, NamedRace, NamedShow, NamedRun, Policy, Race, Replay, Run, IsRunCommand, Show, Encodes}
 
 -- ---- the command inline
 
@@ -125,7 +125,7 @@ same_lift words a b of_a of_b =
 
 -- a number by which the words that name commands are told apart
 abbrev mark : List ℕ → ℕ
-mark word = get_or word 0 0 * 10 + length word
+mark word = get_or word 0 0 * 1000 + get_or word 1 0
 
 abbrev marked : List (List ℕ) → ℕ
 marked [] = 0
@@ -153,12 +153,12 @@ same_run words a b of_a of_b =
     let whole : a ≡ record { check = b.check; workers = b.workers; budget = b.budget } = rw (← check, ← as_many, ← as_far) refl in
     whole
 
-abbrev words_of_gen : NamedGen → List (List ℕ)
-words_of_gen named = codes "gen" ∷ decimal named.seed ∷ decimal named.classes ∷ decimal named.sites ∷ named.folder ∷ []
+abbrev words_of_program : List ℕ → NamedGen → List (List ℕ)
+words_of_program command named = command ∷ decimal named.seed ∷ decimal named.classes ∷ decimal named.sites ∷ named.folder ∷ []
 
-same_gen : (words : List (List ℕ)) (a b : NamedGen) → IsGen words a → IsGen words b → a ≡ b
-same_gen words a b of_a of_b =
-    let e : words_of_gen a ≡ words_of_gen b = sym of_a.encoded ∙ of_b.encoded in
+same_program : (command : List ℕ) (words : List (List ℕ)) (a b : NamedGen) → IsProgramOf command words a → IsProgramOf command words b → a ≡ b
+same_program command words a b of_a of_b =
+    let e : words_of_program command a ≡ words_of_program command b = sym of_a.encoded ∙ of_b.encoded in
     let seed : decimal a.seed ≡ decimal b.seed = cc in
     let classes : decimal a.classes ≡ decimal b.classes = cc in
     let sites : decimal a.sites ≡ decimal b.sites = cc in
@@ -171,15 +171,16 @@ same_gen words a b of_a of_b =
     whole
 
 abbrev mark_of : NamedCommand → ℕ
-mark_of (Check named) = 995
-mark_of (Show named) = 1154
-mark_of (Policy named) = 1126
-mark_of (Race named) = 1144
-mark_of (Inline named) = 1056
-mark_of (Replay named) = 1146
-mark_of (Lift named) = 1084
-mark_of (Run named) = 1143
-mark_of (Gen named) = 1033
+mark_of (Check named) = 99104
+mark_of (Show named) = 115104
+mark_of (Policy named) = 112111
+mark_of (Race named) = 114097
+mark_of (Inline named) = 105110
+mark_of (Replay named) = 114101
+mark_of (Lift named) = 108105
+mark_of (Run named) = 114117
+mark_of (Gen named) = 103101
+mark_of (Load named) = 108111
 
 marks : (words : List (List ℕ)) (named : NamedCommand) → Encodes words named → marked words ≡ mark_of named
 marks words (Check named) encoded = ap marked encoded.encoded
@@ -191,6 +192,7 @@ marks words (Replay named) encoded = ap marked encoded.encoded
 marks words (Lift named) encoded = ap marked encoded.encoded
 marks words (Run named) encoded = ap marked encoded.encoded
 marks words (Gen named) encoded = ap marked encoded.encoded
+marks words (Load named) encoded = ap marked encoded.encoded
 
 same_command : (words : List (List ℕ)) (a b : NamedCommand) → mark_of a ≡ mark_of b → Encodes words a → Encodes words b → a ≡ b
 same_command words (Check a) (Check b) e of_a of_b = ap Check (same_check words a b of_a of_b)
@@ -202,6 +204,7 @@ same_command words (Check a) (Replay b) e of_a of_b = absurd (omega (arith, e))
 same_command words (Check a) (Lift b) e of_a of_b = absurd (omega (arith, e))
 same_command words (Check a) (Run b) e of_a of_b = absurd (omega (arith, e))
 same_command words (Check a) (Gen b) e of_a of_b = absurd (omega (arith, e))
+same_command words (Check a) (Load b) e of_a of_b = absurd (omega (arith, e))
 same_command words (Show a) (Check b) e of_a of_b = absurd (omega (arith, e))
 same_command words (Show a) (Show b) e of_a of_b = ap Show (same_show words a b of_a of_b)
 same_command words (Show a) (Policy b) e of_a of_b = absurd (omega (arith, e))
@@ -211,6 +214,7 @@ same_command words (Show a) (Replay b) e of_a of_b = absurd (omega (arith, e))
 same_command words (Show a) (Lift b) e of_a of_b = absurd (omega (arith, e))
 same_command words (Show a) (Run b) e of_a of_b = absurd (omega (arith, e))
 same_command words (Show a) (Gen b) e of_a of_b = absurd (omega (arith, e))
+same_command words (Show a) (Load b) e of_a of_b = absurd (omega (arith, e))
 same_command words (Policy a) (Check b) e of_a of_b = absurd (omega (arith, e))
 same_command words (Policy a) (Show b) e of_a of_b = absurd (omega (arith, e))
 same_command words (Policy a) (Policy b) e of_a of_b = ap Policy (same_policy words a b of_a of_b)
@@ -220,6 +224,7 @@ same_command words (Policy a) (Replay b) e of_a of_b = absurd (omega (arith, e))
 same_command words (Policy a) (Lift b) e of_a of_b = absurd (omega (arith, e))
 same_command words (Policy a) (Run b) e of_a of_b = absurd (omega (arith, e))
 same_command words (Policy a) (Gen b) e of_a of_b = absurd (omega (arith, e))
+same_command words (Policy a) (Load b) e of_a of_b = absurd (omega (arith, e))
 same_command words (Race a) (Check b) e of_a of_b = absurd (omega (arith, e))
 same_command words (Race a) (Show b) e of_a of_b = absurd (omega (arith, e))
 same_command words (Race a) (Policy b) e of_a of_b = absurd (omega (arith, e))
@@ -229,6 +234,7 @@ same_command words (Race a) (Replay b) e of_a of_b = absurd (omega (arith, e))
 same_command words (Race a) (Lift b) e of_a of_b = absurd (omega (arith, e))
 same_command words (Race a) (Run b) e of_a of_b = absurd (omega (arith, e))
 same_command words (Race a) (Gen b) e of_a of_b = absurd (omega (arith, e))
+same_command words (Race a) (Load b) e of_a of_b = absurd (omega (arith, e))
 same_command words (Inline a) (Check b) e of_a of_b = absurd (omega (arith, e))
 same_command words (Inline a) (Show b) e of_a of_b = absurd (omega (arith, e))
 same_command words (Inline a) (Policy b) e of_a of_b = absurd (omega (arith, e))
@@ -238,6 +244,7 @@ same_command words (Inline a) (Replay b) e of_a of_b = absurd (omega (arith, e))
 same_command words (Inline a) (Lift b) e of_a of_b = absurd (omega (arith, e))
 same_command words (Inline a) (Run b) e of_a of_b = absurd (omega (arith, e))
 same_command words (Inline a) (Gen b) e of_a of_b = absurd (omega (arith, e))
+same_command words (Inline a) (Load b) e of_a of_b = absurd (omega (arith, e))
 same_command words (Replay a) (Check b) e of_a of_b = absurd (omega (arith, e))
 same_command words (Replay a) (Show b) e of_a of_b = absurd (omega (arith, e))
 same_command words (Replay a) (Policy b) e of_a of_b = absurd (omega (arith, e))
@@ -247,6 +254,7 @@ same_command words (Replay a) (Replay b) e of_a of_b = ap Replay (same_replay wo
 same_command words (Replay a) (Lift b) e of_a of_b = absurd (omega (arith, e))
 same_command words (Replay a) (Run b) e of_a of_b = absurd (omega (arith, e))
 same_command words (Replay a) (Gen b) e of_a of_b = absurd (omega (arith, e))
+same_command words (Replay a) (Load b) e of_a of_b = absurd (omega (arith, e))
 same_command words (Lift a) (Check b) e of_a of_b = absurd (omega (arith, e))
 same_command words (Lift a) (Show b) e of_a of_b = absurd (omega (arith, e))
 same_command words (Lift a) (Policy b) e of_a of_b = absurd (omega (arith, e))
@@ -256,6 +264,7 @@ same_command words (Lift a) (Replay b) e of_a of_b = absurd (omega (arith, e))
 same_command words (Lift a) (Lift b) e of_a of_b = ap Lift (same_lift words a b of_a of_b)
 same_command words (Lift a) (Run b) e of_a of_b = absurd (omega (arith, e))
 same_command words (Lift a) (Gen b) e of_a of_b = absurd (omega (arith, e))
+same_command words (Lift a) (Load b) e of_a of_b = absurd (omega (arith, e))
 same_command words (Run a) (Check b) e of_a of_b = absurd (omega (arith, e))
 same_command words (Run a) (Show b) e of_a of_b = absurd (omega (arith, e))
 same_command words (Run a) (Policy b) e of_a of_b = absurd (omega (arith, e))
@@ -265,6 +274,7 @@ same_command words (Run a) (Replay b) e of_a of_b = absurd (omega (arith, e))
 same_command words (Run a) (Lift b) e of_a of_b = absurd (omega (arith, e))
 same_command words (Run a) (Run b) e of_a of_b = ap Run (same_run words a b of_a of_b)
 same_command words (Run a) (Gen b) e of_a of_b = absurd (omega (arith, e))
+same_command words (Run a) (Load b) e of_a of_b = absurd (omega (arith, e))
 same_command words (Gen a) (Check b) e of_a of_b = absurd (omega (arith, e))
 same_command words (Gen a) (Show b) e of_a of_b = absurd (omega (arith, e))
 same_command words (Gen a) (Policy b) e of_a of_b = absurd (omega (arith, e))
@@ -273,7 +283,18 @@ same_command words (Gen a) (Inline b) e of_a of_b = absurd (omega (arith, e))
 same_command words (Gen a) (Replay b) e of_a of_b = absurd (omega (arith, e))
 same_command words (Gen a) (Lift b) e of_a of_b = absurd (omega (arith, e))
 same_command words (Gen a) (Run b) e of_a of_b = absurd (omega (arith, e))
-same_command words (Gen a) (Gen b) e of_a of_b = ap Gen (same_gen words a b of_a of_b)
+same_command words (Gen a) (Gen b) e of_a of_b = ap Gen (same_program (codes "gen") words a b of_a of_b)
+same_command words (Gen a) (Load b) e of_a of_b = absurd (omega (arith, e))
+same_command words (Load a) (Check b) e of_a of_b = absurd (omega (arith, e))
+same_command words (Load a) (Show b) e of_a of_b = absurd (omega (arith, e))
+same_command words (Load a) (Policy b) e of_a of_b = absurd (omega (arith, e))
+same_command words (Load a) (Race b) e of_a of_b = absurd (omega (arith, e))
+same_command words (Load a) (Inline b) e of_a of_b = absurd (omega (arith, e))
+same_command words (Load a) (Replay b) e of_a of_b = absurd (omega (arith, e))
+same_command words (Load a) (Lift b) e of_a of_b = absurd (omega (arith, e))
+same_command words (Load a) (Run b) e of_a of_b = absurd (omega (arith, e))
+same_command words (Load a) (Gen b) e of_a of_b = absurd (omega (arith, e))
+same_command words (Load a) (Load b) e of_a of_b = ap Load (same_program (codes "load") words a b of_a of_b)
 
 -- Words are those of one command.
 pub command_once : (words : List (List ℕ)) (a b : NamedCommand) → IsCommand words a → IsCommand words b → a ≡ b

@@ -1,4 +1,4 @@
--- The words of the command `gen`. (docs/COMMANDS.md)
+-- The words of the commands `gen` and `load`. (docs/COMMANDS.md)
 use Rattle.std.specs.Prelude.{◌≡◌, ℕ, List, [], ◌∷◌, codes, decimal}
 use Rattle.command_inputs.specs.declared.gen_words.GenWords.{GenWords}
 use Rattle.command_inputs.specs.Counts.{IsCount, IsNumber}
@@ -19,7 +19,15 @@ pub record IsInBounds (named : NamedGen) : Type 0 where
   pub classes : IsCount (decimal named.classes) 200 named.classes
   pub sites : IsCount (decimal named.sites) 500 named.sites
 
--- gen SEED CLASSES SITES OUTDIR
-pub record IsGen (words : List (List ℕ)) (named : NamedGen) : Type 0 where
-  pub encoded : words ≡ codes "gen" ∷ decimal named.seed ∷ decimal named.classes ∷ decimal named.sites ∷ named.folder ∷ []
+-- COMMAND SEED CLASSES SITES OUTDIR
+pub record IsProgramOf (command : List ℕ) (words : List (List ℕ)) (named : NamedGen) : Type 0 where
+  pub encoded : words ≡ command ∷ decimal named.seed ∷ decimal named.classes ∷ decimal named.sites ∷ named.folder ∷ []
   pub bounds : IsInBounds named
+
+-- gen SEED CLASSES SITES OUTDIR
+abbrev pub IsGen : List (List ℕ) → NamedGen → Type 0
+IsGen words named = IsProgramOf (codes "gen") words named
+
+-- load SEED CLASSES SITES OUTDIR
+abbrev pub IsLoad : List (List ℕ) → NamedGen → Type 0
+IsLoad words named = IsProgramOf (codes "load") words named

@@ -11,7 +11,7 @@ use Rattle.command_inputs.specs.declared.words.PolicyWords.{PolicyWords}
 use Rattle.command_inputs.specs.declared.words.RaceWords.{RaceWords}
 use Rattle.command_inputs.specs.declared.words.ShowWords.{ShowWords}
 use Rattle.command_inputs.specs.Counts.{IsCount}
-use Rattle.command_inputs.specs.GenWords.{IsGen, NamedGen, gen_named}
+use Rattle.command_inputs.specs.GenWords.{IsGen, IsLoad, NamedGen, gen_named}
 use Rattle.command_inputs.specs.InlineWords.{IsInline, NamedInline, inline_named}
 use Rattle.command_inputs.specs.LiftWords.{IsLift, NamedLift, lift_named}
 use Rattle.command_inputs.specs.ReplayWords.{IsReplay, NamedReplay, replay_named}
@@ -55,6 +55,7 @@ pub data NamedCommand : Type 0 where
   Replay : NamedReplay → NamedCommand
   Lift : NamedLift → NamedCommand
   Gen : NamedGen → NamedCommand
+  Load : NamedGen → NamedCommand
   Run : NamedRun → NamedCommand
 
 abbrev pub check_named : CheckWords → NamedCheck
@@ -87,6 +88,7 @@ files_named (overs.Inline words) = Inline (inline_named words)
 files_named (overs.Replay words) = Replay (replay_named words)
 files_named (overs.Lift words) = Lift (lift_named words)
 files_named (overs.Gen words) = Gen (gen_named words)
+files_named (overs.Load words) = Load (gen_named words)
 
 abbrev pub named_by : Command → NamedCommand
 named_by (commands.Files command) = files_named command
@@ -102,6 +104,7 @@ IsOverFiles (Inline named) = Unit {0}
 IsOverFiles (Replay named) = Unit {0}
 IsOverFiles (Lift named) = Unit {0}
 IsOverFiles (Gen named) = Unit {0}
+IsOverFiles (Load named) = Unit {0}
 IsOverFiles (Run named) = ⊥
 
 -- check POLICY LISTING CERT MAIN CLASS..
@@ -140,6 +143,7 @@ Encodes words (Inline named) = IsInline words named
 Encodes words (Replay named) = IsReplay words named
 Encodes words (Lift named) = IsLift words named
 Encodes words (Gen named) = IsGen words named
+Encodes words (Load named) = IsLoad words named
 Encodes words (Run named) = IsRunCommand words named
 
 -- The words are those of the command, and none of them is empty.

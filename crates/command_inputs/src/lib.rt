@@ -39,7 +39,7 @@ pub use lift_inputs::{LiftInputs, read_lift};
 pub use lift_words::LiftWords;
 pub use named::ReadClasses;
 pub use policy_inputs::{PolicyInputs, read_policy};
-pub use race_inputs::{RaceInputs, read_race};
+pub use race_inputs::{RaceInputs, policy_of_texts, read_race};
 pub use replay_inputs::{ReplayInputs, read_replay};
 pub use replay_words::ReplayWords;
 pub use run_words::RunWords;

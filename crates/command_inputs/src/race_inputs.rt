@@ -3,11 +3,14 @@
 ghost use Rattle.std.specs.Prelude.{◌≡◌, ◌≤◌, IfOk};
 ghost use Rattle.conspec_tree.specs.Tree.{IsPolicyTree};
 ghost use Rattle.command_inputs.specs.Forms.{since};
-ghost use Rattle.command_inputs.specs.RaceInputs.{RaceSound, ReadsRace};
+ghost use Rattle.command_inputs.specs.RaceInputs.{RaceSound, ReadsRace, texts_read};
+ghost use Rattle.mon_base.specs.Answer.{Answers};
 ghost use Rattle.command_inputs.specs.Encoded.{PolicyEncoded};
 ghost use Rattle.command_inputs.specs.Words.{race_named};
 
+use crate::fault::InputFault;
 use crate::files::Stop;
+use crate::forms::{listing_read, policy_read};
 use crate::named::{listing_of, policy_of};
 use crate::words::RaceWords;
 use api_listing::Listing;
@@ -55,4 +58,18 @@ pub fn read_race<S: Store>(
     ensures faults { S.faults store.old ≤ S.faults store.new }
 {
     listed_policy(alloc, store, words.listing, words.policy)
+}
+
+/// A listing, and a policy over it, of these texts.
+pub fn policy_of_texts(
+    alloc: Global,
+    listing: &[u8],
+    policy: &[u8],
+) -> Result<RaceInputs, InputFault>
+    ensures read { Answers InputFault.Memory result (texts_read listing.now policy.now) }
+    ensures sound { IfOk result RaceSound }
+{
+    let listing = listing_read(alloc, listing)?;
+    let policy = policy_read(alloc, policy, &listing)?;
+    Ok(RaceInputs { listing, policy })
 }

@@ -23,7 +23,7 @@ ghost use Rattle.command_inputs.specs.Words.{
   show_named,
 };
 
-use crate::gen_words::{GenWords, gen_words};
+use crate::gen_words::{GenWords, gen_words, load_words};
 use crate::inline_words::{InlineWords, inline_words};
 use crate::lift_words::{LiftWords, lift_words};
 use crate::replay_words::{ReplayWords, replay_words};
@@ -75,6 +75,7 @@ pub enum FileCommand<'a> {
     Replay(ReplayWords<'a>),
     Lift(LiftWords<'a>),
     Gen(GenWords<'a>),
+    Load(GenWords<'a>),
 }
 
 /// A command and its words.
@@ -130,6 +131,9 @@ fn file_command_of(words: &[Bytes]) -> Option<FileCommand<'_>>
     }
     if let Some(words) = gen_words(words) {
         return Some(FileCommand::Gen(words));
+    }
+    if let Some(words) = load_words(words) {
+        return Some(FileCommand::Load(words));
     }
     None
 }

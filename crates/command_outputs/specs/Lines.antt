@@ -15,11 +15,16 @@ file_name None = codes "-"
 abbrev pub labelled : List ℕ → ℕ → List ℕ
 labelled label n = label ++ count n
 
+-- that it is accepted, and in which mode
+abbrev pub accepted_in : List ℕ → List ℕ
+accepted_in mode = codes " accepted" ++ word mode
+
 -- the line without its end
 abbrev pub line_text : Line → List ℕ
 line_text (lines.Accepted mode sites) = codes "accepted" ++ word mode ++ codes " sites" ++ count sites
 line_text (lines.Inlined mode sites classes) = codes "inlined" ++ word mode ++ codes " sites" ++ count sites ++ codes " classes" ++ count classes
 line_text (lines.Generated classes sites bytes) = labelled (codes "generated classes") classes ++ labelled (codes " sites") sites ++ labelled (codes " bytes") bytes
+line_text (lines.Loaded classes sites mode) = labelled (codes "loaded classes") classes ++ labelled (codes " sites") sites ++ accepted_in mode
 line_text lines.Obeyed = codes "accepted"
 line_text (lines.Stopped index) = codes "stopped" ++ count index
 line_text lines.Free = codes "free"

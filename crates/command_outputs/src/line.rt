@@ -2,7 +2,7 @@
 
 ghost use Rattle.std.specs.Prelude.{◌≡◌, ◌++◌, OnOk};
 ghost use Rattle.command_outputs.specs.declared.line.Line.TheVariants as lines;
-ghost use Rattle.command_outputs.specs.Lines.{file_name, labelled, line_text};
+ghost use Rattle.command_outputs.specs.Lines.{accepted_in, file_name, labelled, line_text};
 
 use crate::field::{Field, Report, push_counted, push_fields, push_word};
 use mon_base::{Bytes, List, NoMemory};
@@ -26,6 +26,13 @@ pub enum Line {
         classes: u64,
         sites: u64,
         bytes: u64,
+    },
+    /// `loaded classes N sites M accepted MODE`: a program with so many class files and sites in all was made, woven and written,
+    /// and is accepted in this mode.
+    Loaded {
+        classes: u64,
+        sites: u64,
+        mode: Bytes,
     },
     /// `accepted`: the events of a run obey the policy.
     Obeyed,
@@ -66,6 +73,11 @@ pub(crate) fn push_line(text: &mut Bytes, line: &Line) -> Result<(), NoMemory>
             sites,
             bytes,
         } => push_generated(text, *classes, *sites, *bytes),
+        Line::Loaded {
+            classes,
+            sites,
+            mode,
+        } => push_loaded(text, *classes, *sites, mode),
         Line::Obeyed => text.extend(b"accepted"),
         Line::Stopped { index } => {
             text.extend(b"stopped")?;
@@ -117,6 +129,22 @@ fn push_generated(text: &mut Bytes, classes: u64, sites: u64, bytes: u64) -> Res
     push_labelled(text, b" sites", sites)?;
     push_labelled(text, b" bytes", bytes)?;
     Ok(())
+}
+
+fn push_loaded(text: &mut Bytes, classes: u64, sites: u64, mode: &Bytes) -> Result<(), NoMemory>
+    ensures { OnOk result (text.new ≡ text.old ++ line_text (lines.Loaded classes sites mode.now)) }
+{
+    push_labelled(text, b"loaded classes", classes)?;
+    push_labelled(text, b" sites", sites)?;
+    push_accepted_in(text, mode)?;
+    Ok(())
+}
+
+fn push_accepted_in(text: &mut Bytes, mode: &Bytes) -> Result<(), NoMemory>
+    ensures { OnOk result (text.new ≡ text.old ++ accepted_in mode.now) }
+{
+    text.extend(b" accepted")?;
+    push_word(text, mode.as_slice())
 }
 
 /// Appends a word and a count.

@@ -4,7 +4,8 @@ use Rattle.std.specs.Prelude.{IfOk}
 use Rattle.api_shelf.specs.Shelf.{View}
 use Rattle.command_inputs.specs.InlineWords.{NamedInline}
 use Rattle.command_inputs.specs.ReplayWords.{NamedReplay}
-use Rattle.command_inputs.specs.Words.{Check, Gen, Inline, Lift, NamedCheck, NamedCommand, NamedRun, Policy, Race, Replay, Run, Show}
+use Rattle.command_inputs.specs.GenWords.{NamedGen}
+use Rattle.command_inputs.specs.Words.{Check, Gen, Inline, Lift, Load, NamedCheck, NamedCommand, NamedRun, Policy, Race, Replay, Run, Show}
 use Rattle.command_inputs.specs.declared.files.Stop.{Stop}
 use Rattle.command_inputs.specs.declared.files.Stop.TheVariants as stops
 use Rattle.command_inputs.specs.Forms.{Count, Then, Yields, since}
@@ -17,6 +18,7 @@ use Rattle.inliner_tool.specs.declared.refusal.Ended.{Ended}
 use Rattle.inliner_tool.specs.declared.refusal.Ended.TheVariants as ends
 use Rattle.inliner_tool.specs.Commands.{Makes, readings_of}
 use Rattle.inliner_tool.specs.Inline.{IsInlined, IsReadyToWrite}
+use Rattle.inliner_tool.specs.Load.{IsLoaded, IsReadyToLoad}
 use Rattle.inliner_tool.specs.Replay.{ReplayedRuns}
 use Rattle.inliner_tool.specs.Run.{IsKept, Told}
 use Rattle.inliner_tool.specs.Seen.{Seen}
@@ -51,6 +53,7 @@ made_still files new after count again (Inline named) made makes = makes
 made_still files new after count again (Replay named) made makes = makes
 made_still files new after count again (Lift named) made makes = makes
 made_still files new after count again (Gen named) made makes = makes
+made_still files new after count again (Load named) made makes = makes
 made_still files new after count again (Run named) made makes = makes
 
 pub holds_still : (files new after : Files) (count again : Count) (named : NamedCheck) → Holds (record { old = files; new = new; count = count }) named → Holds (record { old = files; new = after; count = again }) named
@@ -67,13 +70,27 @@ kept_still files new after count again named slots told k = record { inputs = k.
 pub inlined_so : (files new after : Files) (count again : Count) (named : NamedInline) (made : Made) → IsReadyToWrite (record { old = files; new = new; count = count }) named made
     → after ≡ all_written files made.outputs → IsInlined (record { old = files; new = after; count = again }) named
 inlined_so files new after count again named made r written =
-    record { inputs = r.inputs; read = r.read; ready = r.ready; planned = r.planned; written = written ∙ ap (λ (m : Made). all_written files m.outputs) r.is }
+    record { inputs = r.inputs; read = r.read; woven = record { ready = r.ready; planned = r.planned; written = written ∙ ap (λ (m : Made). all_written files m.outputs) r.is } }
 
 pub inlined_if : (files middle new : Files) (count again whole : Count) (named : NamedInline) (made : Made) → IsReadyToWrite (record { old = files; new = middle; count = count }) named made → middle ≡ files
     → (r : Step Answer) → UnlessMemory (Writes (record { old = middle; new = new; count = again }) made) r → IfOk r (λ (answer : Answer). IsInlined (record { old = files; new = new; count = whole }) named)
 inlined_if files middle new count again whole named made ready same (Ok answer) writes =
     inlined_so files middle new count whole named made ready (writes.1 ∙ ap (λ (f : Files). all_written f made.outputs) same)
 inlined_if files middle new count again whole named made ready same (Err e) writes = tt
+
+-- So it is of what was to be loaded.
+pub loaded_if : (files middle new : Files) (again whole : Count) (named : NamedGen) (made : Made) → IsReadyToLoad named made → middle ≡ files
+    → (r : Step Answer) → UnlessMemory (Writes (record { old = middle; new = new; count = again }) made) r → IfOk r (λ (answer : Answer). IsLoaded (record { old = files; new = new; count = whole }) named)
+loaded_if files middle new again whole named made r same (Ok answer) writes = record {
+  inputs = r.inputs;
+  bundled = r.bundled;
+  woven = record {
+    ready = r.ready;
+    planned = r.planned;
+    written = writes.1 ∙ ap (λ (f : Files). all_written f made.outputs) same ∙ ap (λ (m : Made). all_written files m.outputs) r.is;
+  };
+}
+loaded_if files middle new again whole named made ready same (Err e) writes = tt
 
 -- ---- one after the other
 

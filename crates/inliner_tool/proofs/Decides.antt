@@ -1,6 +1,6 @@
 -- What a command comes to over told files, without a fault of the store, is what its definition gives.
 use Rattle.std.proofs.Common.{◌≡◌, ℕ, List, Option, Some, Ok, Err, inl, inr, refl, subst}
-use Rattle.command_inputs.specs.Words.{Check, Gen, Inline, IsCommand, Lift, NamedCommand, Policy, Race, Replay, Run, Show}
+use Rattle.command_inputs.specs.Words.{Check, Gen, Inline, IsCommand, Lift, Load, NamedCommand, Policy, Race, Replay, Run, Show}
 use Rattle.command_inputs.proofs.NamedOnce.{command_once}
 use Rattle.command_inputs.specs.Contents.{Contents, check_read, inline_read, lift_read, policy_read, race_read, replay_read, show_read}
 use Rattle.command_inputs.specs.Forms.{Count, Then, Yields}
@@ -44,6 +44,7 @@ module _ (told : ToldAreRead) (contents : Contents) (count : Count) (no_rise : R
   makes_so (Replay named) new step other = told_so _ (replay_read contents named) (λ r. told.replay contents count named r no_rise) (Replays named.main) step other
   makes_so (Lift named) new step other = told_so _ (lift_read contents named) (λ r. told.lift contents count named r no_rise) (Lifts named.main) step other
   makes_so (Gen named) new step other = λ makes. makes
+  makes_so (Load named) new step other = λ makes. makes
   makes_so (Run named) new step other = told_so _ (check_read contents named.check) (λ r. told.check contents count named.check r no_rise) (Runs named) step other
 
   gives_so : (named : NamedCommand) (new : Files) (outcome : Outcome) → CarriesOut (telling new) named (outcome_step outcome) → Gives contents named outcome

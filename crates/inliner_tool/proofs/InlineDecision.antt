@@ -42,26 +42,27 @@ use Rattle.inliner_tool.proofs.ToldClasses.{classes_stop, may_classes, same_clas
 -- ---- the steps
 
 -- It ends for the length of a certificate.
-abbrev IsLong : Ended → Type 0
+abbrev pub IsLong : Ended → Type 0
 IsLong e = (value : ℕ) × (e ≡ ends.Refused (refusals.LongCertificate value))
+
+-- a certificate that is not written is too long
+long_only : (folder : List ℕ) (program : Program) (certificate : Certificate) (e : Ended) → Err e ≡ outputs_step folder program certificate → IsLong e
+long_only folder program certificate e is = by (is_written certificate) is where
+  by : (b : Bool) → Err e ≡ cond b (Ok (outputs_of folder program certificate)) (Err (ends.Refused (refusals.LongCertificate (length (encode_certificate certificate))))) → IsLong e
+  by true wrong = absurd cc
+  by false long =
+      let same : e ≡ ends.Refused (refusals.LongCertificate (length (encode_certificate certificate))) = cc in
+      (length (encode_certificate certificate), same)
+
+-- So is the one for which no outputs are given.
+pub outputs_fail : (folder : List ℕ) (program : Program) (certificate : Certificate) (accepted : Accepted) (e : Ended)
+    → Then (Equals (outputs_step folder program certificate)) (Told program accepted) (Err e) → IsLong e
+outputs_fail folder program certificate accepted e (inl long) = long_only folder program certificate e long
+outputs_fail folder program certificate accepted e (inr (outputs, first, none)) = absurd none
 
 module _ (files : Files) (named : NamedInline) (names : NamesWoven files named) where
   abbrev known : InlineInputs
   known = record { listing = names.listing; policy = names.policy; classes = names.classes }
-
-  -- a certificate that is not written is too long
-  long_only : (folder : List ℕ) (program : Program) (certificate : Certificate) (e : Ended) → Err e ≡ outputs_step folder program certificate → IsLong e
-  long_only folder program certificate e is = by (is_written certificate) is where
-    by : (b : Bool) → Err e ≡ cond b (Ok (outputs_of folder program certificate)) (Err (ends.Refused (refusals.LongCertificate (length (encode_certificate certificate))))) → IsLong e
-    by true wrong = absurd cc
-    by false long =
-        let same : e ≡ ends.Refused (refusals.LongCertificate (length (encode_certificate certificate))) = cc in
-        (length (encode_certificate certificate), same)
-
-  outputs_fail : (folder : List ℕ) (program : Program) (certificate : Certificate) (accepted : Accepted) (e : Ended)
-      → Then (Equals (outputs_step folder program certificate)) (Told program accepted) (Err e) → IsLong e
-  outputs_fail folder program certificate accepted e (inl long) = long_only folder program certificate e long
-  outputs_fail folder program certificate accepted e (inr (outputs, first, none)) = absurd none
 
   sizes_fail : (given : Given) → given.client ≡ names.client → given.policy ≡ built names.policy → given.mode ≡ names.mode → (e : Ended)
       → Fits named.main named.folder given (Err e) → IsLong e

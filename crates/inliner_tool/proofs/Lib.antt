@@ -32,3 +32,4 @@ mod Written
 pub mod Rechecking
 mod PlainAnswers
 mod Generating
+mod Loading

@@ -10,7 +10,7 @@ use Rattle.command_inputs.specs.declared.lift_inputs.LiftInputs.{LiftInputs}
 use Rattle.conspec_automaton.specs.declared.policy.Policy.{Policy as Automaton}
 use Rattle.guest_model.specs.declared.machine.Step.{Step as GuestStep}
 use Rattle.lift_schedule.specs.Lifting.{lift_of}
-use Rattle.command_inputs.specs.Words.{Check, Gen, Inline, Lift, NamedCommand, Policy, Race, Replay, Run, Show}
+use Rattle.command_inputs.specs.Words.{Check, Gen, Inline, Lift, Load, NamedCommand, Policy, Race, Replay, Run, Show}
 use Rattle.conspec_automaton.specs.Building.{built}
 use Rattle.command_inputs.specs.declared.check_inputs.CheckInputs.{CheckInputs}
 use Rattle.race_free_check.specs.Deciding.{decided}
@@ -205,6 +205,7 @@ makes_once contents (Lift named) other =
     then_once (Reading (λ r. r ≡ lift_read contents named)) (Lifts named.main) (reading_once _)
     (λ inputs. then_once (LiftsText named.main inputs) (λ text. Just (answers.Lifted text)) (lifts_once named.main inputs) (λ text. yields_once _))
 makes_once contents (Gen named) other = yields_once _
+makes_once contents (Load named) other = absurd other
 makes_once contents (Run named) other = absurd other
 
 outcome_once : (a b : Outcome) → outcome_step a ≡ outcome_step b → a ≡ b

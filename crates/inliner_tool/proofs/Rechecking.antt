@@ -29,7 +29,8 @@ use Rattle.class_codec.specs.Encoding.{encoding}
 use Rattle.class_codec.proofs.FileLaws.{is_only as class_only}
 use Rattle.class_linking.specs.Laws.{LinkedAreNamed}
 use Rattle.class_linking.specs.Linking.{linked}
-use Rattle.command_inputs.specs.InlineWords.{NamedInline}
+use Rattle.command_inputs.specs.declared.inline_inputs.InlineInputs.{InlineInputs}
+use Rattle.command_inputs.specs.declared.inline_words.Weaving.{Weaving}
 use Rattle.command_inputs.specs.Words.{Check, NamedCheck}
 use Rattle.conspec_tree.specs.declared.types.PolicyTree.{PolicyTree}
 use Rattle.mon_base.specs.Answer.{Answers}
@@ -44,7 +45,7 @@ use Rattle.inliner_tool.specs.declared.refusal.Ended.TheVariants as ends
 use Rattle.inliner_tool.specs.declared.refusal.Refusal.TheVariants as refusals
 use Rattle.inliner_tool.specs.declared.tool.Status.TheVariants as statuses
 use Rattle.inliner_tool.specs.Check.{Checks, judged_step, verdict_step}
-use Rattle.inliner_tool.specs.Inline.{IsInlined}
+use Rattle.inliner_tool.specs.Inline.{IsWovenInto}
 use Rattle.inliner_tool.specs.Programs.{link_step, program_of}
 use Rattle.inliner_tool.specs.Rechecking.{NamesWritten, WrittenIsAccepted, size_of, sizes_of}
 use Rattle.inliner_tool.specs.Seen.{Seen}
@@ -131,7 +132,8 @@ all_by P (x ∷ list) each = (each zero x refl, all_by P list (λ i y e. each (s
 
 -- ---- the whole
 
-module _ (law : LinkedAreNamed) (seen : Seen) (named : NamedInline) (told : IsSome seen.old) (inlined : IsInlined seen named) (check : NamedCheck) (names : NamesWritten inlined check) where
+module _ (law : LinkedAreNamed) (seen : Seen) (main folder : List ℕ) (weaving : Weaving) (given : InlineInputs) (told : IsSome seen.old) (done : IsWovenInto seen main folder weaving given) (check : NamedCheck)
+    (names : NamesWritten done check) where
   abbrev old : Files
   old = seen.old
 
@@ -139,90 +141,90 @@ module _ (law : LinkedAreNamed) (seen : Seen) (named : NamedInline) (told : IsSo
   new = seen.new
 
   abbrev program : Program
-  program = inlined.planned.rewoven.program
+  program = done.planned.rewoven.program
 
   abbrev certificate : Certificate
-  certificate = inlined.planned.rewoven.certificate
+  certificate = done.planned.rewoven.certificate
 
   abbrev tree : PolicyTree
-  tree = inlined.inputs.policy
+  tree = given.policy
 
-  linked_so : IsLinkedOf Inlined inlined.planned.given.client.listing named.main program
+  linked_so : IsLinkedOf Inlined done.planned.given.client.listing main program
   linked_so =
-      law inlined.planned.made.files inlined.planned.given.client.listing named.main Inlined program inlined.planned.rewoven.links inlined.planned.rewoven.sound
+      law done.planned.made.files done.planned.given.client.listing main Inlined program done.planned.rewoven.links done.planned.rewoven.sound
 
   -- ---- what stands
 
-  written_so : new ≡ all_written old (map (class_output named.folder) program.classes ++ certificate_output named.folder (encode_certificate certificate) ∷ [])
-  written_so = inlined.written ∙ ap (all_written old) inlined.planned.rewoven.outputs
+  written_so : new ≡ all_written old (map (class_output folder) program.classes ++ certificate_output folder (encode_certificate certificate) ∷ [])
+  written_so = done.written ∙ ap (all_written old) done.planned.rewoven.outputs
 
   told_new : IsSome new
-  told_new = subst IsSome (sym written_so) (all_told (map (class_output named.folder) program.classes ++ certificate_output named.folder (encode_certificate certificate) ∷ []) old told)
+  told_new = subst IsSome (sym written_so) (all_told (map (class_output folder) program.classes ++ certificate_output folder (encode_certificate certificate) ∷ []) old told)
 
-  certificate_there : HasText new (certificate_name named.folder) (encode_certificate certificate)
+  certificate_there : HasText new (certificate_name folder) (encode_certificate certificate)
   certificate_there =
-      subst (λ (f : Files). HasText f (certificate_name named.folder) (encode_certificate certificate)) (sym written_so)
-      (last_written (map (class_output named.folder) program.classes) (certificate_output named.folder (encode_certificate certificate)) old)
+      subst (λ (f : Files). HasText f (certificate_name folder) (encode_certificate certificate)) (sym written_so)
+      (last_written (map (class_output folder) program.classes) (certificate_output folder (encode_certificate certificate)) old)
 
-  class_there : (i : ℕ) (c : LinkedClass) → slice_get program.classes i ≡ Some c → HasText new (class_name named.folder c) (encoding c.file)
+  class_there : (i : ℕ) (c : LinkedClass) → slice_get program.classes i ≡ Some c → HasText new (class_name folder c) (encoding c.file)
   class_there i c there =
-      subst (λ (f : Files). HasText f (class_name named.folder c) (encoding c.file)) (sym written_so)
-      (class_written named.folder program.classes (certificate_output named.folder (encode_certificate certificate)) old i c there (no_certificate named.folder c) (λ j d lt e same.
+      subst (λ (f : Files). HasText f (class_name folder c) (encoding c.file)) (sym written_so)
+      (class_written folder program.classes (certificate_output folder (encode_certificate certificate)) old i c there (no_certificate folder c) (λ j d lt e same.
       let one : j ≡ i = (linked_so.standing i c there).once j d e same in
       absurd (omega (arith, one, lt))))
 
   classes_there : MayClasses new check.classes (unlinked program) (sizes_of program.classes)
   classes_there =
       subst (λ (ns : List (List ℕ)). MayClasses new ns (unlinked program) (sizes_of program.classes)) (sym names.classes)
-      (all_there new named.folder program.classes names.total (all_by (IsThere new named.folder) program.classes (λ i c there. record {
+      (all_there new folder program.classes names.total (all_by (IsThere new folder) program.classes (λ i c there. record {
         has = class_there i c there;
-        fits = (all_get IsSoundClass program.classes i c inlined.planned.rewoven.sound.classes there).fits;
+        fits = (all_get IsSoundClass program.classes i c done.planned.rewoven.sound.classes there).fits;
         short = all_get (λ (x : LinkedClass). size_of x ≤ 1048576) program.classes i c names.short there;
       })))
 
   -- ---- what it is
 
   abbrev inputs : CheckInputs
-  inputs = record { listing = inlined.inputs.listing; policy = tree; certificate = certificate; classes = record { files = unlinked program; total = sizes_of program.classes } }
+  inputs = record { listing = given.listing; policy = tree; certificate = certificate; classes = record { files = unlinked program; total = sizes_of program.classes } }
 
   certificate_read_so : MayRead new check.certificate (certificate_form (length tree.vars)) certificate
   certificate_read_so =
-      let fits : IsEncodable (length tree.vars) certificate = subst (λ p. IsEncodable (length p.vars) certificate) inlined.planned.policy inlined.planned.rewoven.encodes in
+      let fits : IsEncodable (length tree.vars) certificate = subst (λ p. IsEncodable (length p.vars) certificate) done.planned.policy done.planned.rewoven.encodes in
       subst (λ (name : List ℕ). MayRead new name (certificate_form (length tree.vars)) certificate) (sym names.certificate)
-      (certificate_may new (certificate_name named.folder) (length tree.vars) certificate certificate_there fits inlined.planned.rewoven.written)
+      (certificate_may new (certificate_name folder) (length tree.vars) certificate certificate_there fits done.planned.rewoven.written)
 
-  links : program_of inlined.inputs.listing inputs.classes check.main Inlined ≡ Ok program
+  links : program_of given.listing inputs.classes check.main Inlined ≡ Ok program
   links =
       let few : nat_lt 16777216 (sizes_of program.classes) ≡ false = le-ltb 16777216 (sizes_of program.classes) names.total in
-      let few_files : length inlined.planned.made.files ≤ max_files = omega (arith, names.few, sym (ap length inlined.planned.rewoven.same) ∙ many_files program.classes) in
-      let whole : linked inlined.planned.made.files inlined.planned.given.client.listing named.main Inlined ≡ Ok program =
-      linked_of inlined.planned.made.files inlined.planned.given.client.listing named.main Inlined program few_files inlined.planned.rewoven.links in
-      let here : linked (unlinked program) inlined.inputs.listing check.main Inlined ≡ Ok program =
-      ap (λ fs. linked fs inlined.inputs.listing check.main Inlined) inlined.planned.rewoven.same ∙ ap (λ l. linked inlined.planned.made.files l check.main Inlined) (sym inlined.planned.listing)
-      ∙ ap (λ m. linked inlined.planned.made.files inlined.planned.given.client.listing m Inlined) names.main ∙ whole in
-      ap (λ (b : Bool). cond b (Err (ends.Refused (refusals.TotalLong (sizes_of program.classes)))) (link_step (linked (unlinked program) inlined.inputs.listing check.main Inlined))) few ∙ ap link_step here
+      let few_files : length done.planned.made.files ≤ max_files = omega (arith, names.few, sym (ap length done.planned.rewoven.same) ∙ many_files program.classes) in
+      let whole : linked done.planned.made.files done.planned.given.client.listing main Inlined ≡ Ok program =
+      linked_of done.planned.made.files done.planned.given.client.listing main Inlined program few_files done.planned.rewoven.links in
+      let here : linked (unlinked program) given.listing check.main Inlined ≡ Ok program =
+      ap (λ fs. linked fs given.listing check.main Inlined) done.planned.rewoven.same ∙ ap (λ l. linked done.planned.made.files l check.main Inlined) (sym done.planned.listing)
+      ∙ ap (λ m. linked done.planned.made.files done.planned.given.client.listing m Inlined) names.main ∙ whole in
+      ap (λ (b : Bool). cond b (Err (ends.Refused (refusals.TotalLong (sizes_of program.classes)))) (link_step (linked (unlinked program) given.listing check.main Inlined))) few ∙ ap link_step here
     where
       many_files : (list : List LinkedClass) → length (map (λ (c : LinkedClass). c.file) list) ≡ length list
       many_files [] = refl
       many_files (c ∷ list) = ap suc (many_files list)
 
-  accepts : judged_step tree certificate program ≡ Ok inlined.ready.accepted
-  accepts = ap (verdict_step tree program) (subst (λ p. judged program p certificate ≡ Ok inlined.ready.accepted) inlined.planned.policy inlined.planned.rewoven.verdict)
+  accepts : judged_step tree certificate program ≡ Ok done.ready.accepted
+  accepts = ap (verdict_step tree program) (subst (λ p. judged program p certificate ≡ Ok done.ready.accepted) done.planned.policy done.planned.rewoven.verdict)
 
   pub accepted_again : (later : Files) (again : Count) (outcome : Outcome) → CarriesOut (record { old = new; new = later; count = again }) (Check check) (outcome_step outcome) → (Rose again.before again.now → ⊥)
       → status_of outcome ≡ statuses.Done
   accepted_again later again outcome carries no_rise =
-      by outcome (check_says new again check no_rise told_new inputs (may_read new check.listing listing_form inlined.inputs.listing names.listing)
-      (may_read new check.policy (policy_form inlined.inputs.listing) tree names.policy) certificate_read_so classes_there later outcome carries)
+      by outcome (check_says new again check no_rise told_new inputs (may_read new check.listing listing_form given.listing names.listing)
+      (may_read new check.policy (policy_form given.listing) tree names.policy) certificate_read_so classes_there later outcome carries)
     where
       by : (outcome : Outcome) → Then (Checks check.main inputs) (λ made. Yields made.answer) (outcome_step outcome) → status_of outcome ≡ statuses.Done
       by (Ok answer) (made, checks, is) = accepted_done check.main inputs program links made checks answer is
       by (Err refusal) (inl checks) =
-          let wrong : ◌≡◌ {A = Step Accepted} (Err (ends.Refused refusal)) (Ok inlined.ready.accepted) = denied_so check.main inputs program links (ends.Refused refusal) checks ∙ accepts in
+          let wrong : ◌≡◌ {A = Step Accepted} (Err (ends.Refused refusal)) (Ok done.ready.accepted) = denied_so check.main inputs program links (ends.Refused refusal) checks ∙ accepts in
           absurd cc
       by (Err refusal) (inr (made, checks, none)) = absurd none
 
 pub written_is_accepted : LinkedAreNamed → WrittenIsAccepted
-written_is_accepted law seen named told inlined check names again outcome same carries no_rise =
-    accepted_again law seen named told inlined check names again.new again.count outcome
+written_is_accepted law seen main folder weaving given told done check names again outcome same carries no_rise =
+    accepted_again law seen main folder weaving given told done check names again.new again.count outcome
     (subst (λ (files : Files). CarriesOut (record { old = files; new = again.new; count = again.count }) (Check check) (outcome_step outcome)) same carries) no_rise

@@ -1,11 +1,11 @@
 -- What the status of a call says of its outcome.
 use Rattle.std.proofs.Common.{◌≡◌, inl, inr, ℕ, List, Option, Ok, Err, sym, subst, ap, ◌∙◌}
 use Rattle.std.specs.Prelude.{IfSome}
-use Rattle.command_inputs.specs.GenWords.{IsGen, NamedGen}
+use Rattle.command_inputs.specs.GenWords.{IsGen, IsLoad, NamedGen}
 use Rattle.command_inputs.specs.InlineWords.{IsInline, NamedInline}
 use Rattle.command_inputs.specs.LiftWords.{IsLift, NamedLift}
 use Rattle.command_inputs.specs.ReplayWords.{IsReplay, NamedReplay}
-use Rattle.command_inputs.specs.Words.{Check, Gen, Inline, IsCheck, IsCommand, IsRunCommand, Lift, NamedCheck, NamedCommand, NamedRun, Policy, Race, Replay, Run, Show}
+use Rattle.command_inputs.specs.Words.{Check, Gen, Inline, IsCheck, IsCommand, IsRunCommand, Lift, Load, NamedCheck, NamedCommand, NamedRun, Policy, Race, Replay, Run, Show}
 use Rattle.command_inputs.proofs.NamedOnce.{command_once}
 use Rattle.mon_store.specs.Sink.{Appends, AppendsFront}
 use Rattle.inliner_tool.specs.declared.answer.Answer.{Answer}
@@ -42,6 +42,9 @@ is_run words command is named encoded = command_once words command (Run named) i
 pub is_gen : (words : List (List ℕ)) (command : NamedCommand) → IsCommand words command → (named : NamedGen) → IsGen words named → command ≡ Gen named
 is_gen words command is named encoded = command_once words command (Gen named) is (record { encoded = encoded; full = is.full })
 
+pub is_load : (words : List (List ℕ)) (command : NamedCommand) → IsCommand words command → (named : NamedGen) → IsLoad words named → command ≡ Load named
+is_load words command is named encoded = command_once words command (Load named) is (record { encoded = encoded; full = is.full })
+
 -- The numbers of the words are within their bounds.
 pub within : (words : List (List ℕ)) (command : NamedCommand) → IsCommand words command → AreWithin command
 within words (Check named) is = tt
@@ -52,6 +55,7 @@ within words (Inline named) is = tt
 within words (Replay named) is = tt
 within words (Lift named) is = tt
 within words (Gen named) is = is.encoded.bounds
+within words (Load named) is = is.encoded.bounds
 within words (Run named) is = record { some = is.encoded.workers.some; most = is.encoded.workers.within; steps = is.encoded.budget.within }
 
 -- A program that was checked runs as its certificate types it.

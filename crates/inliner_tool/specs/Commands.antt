@@ -4,7 +4,7 @@ use Rattle.std.specs.Prelude.{◌≡◌, Result}
 use Rattle.command_inputs.specs.InlineWords.{NamedInline}
 use Rattle.command_inputs.specs.LiftWords.{NamedLift}
 use Rattle.command_inputs.specs.ReplayWords.{NamedReplay}
-use Rattle.command_inputs.specs.Words.{Check, Gen, Inline, Lift, NamedCheck, NamedCommand, NamedPolicy, NamedRace, NamedShow, Policy, Race, Replay, Run, Show}
+use Rattle.command_inputs.specs.Words.{Check, Gen, Inline, Lift, Load, NamedCheck, NamedCommand, NamedPolicy, NamedRace, NamedShow, Policy, Race, Replay, Run, Show}
 use Rattle.command_inputs.specs.declared.check_inputs.CheckInputs.{CheckInputs}
 use Rattle.command_inputs.specs.declared.files.Stop.{Stop}
 use Rattle.command_inputs.specs.declared.inline_inputs.InlineInputs.{InlineInputs}
@@ -27,6 +27,7 @@ use Rattle.inliner_tool.specs.Check.{Checks}
 use Rattle.inliner_tool.specs.Generate.{Generates}
 use Rattle.inliner_tool.specs.Inline.{Inlines}
 use Rattle.inliner_tool.specs.Lift.{Lifts}
+use Rattle.inliner_tool.specs.Load.{Loads}
 use Rattle.inliner_tool.specs.Policy.{Judges}
 use Rattle.inliner_tool.specs.Race.{Races}
 use Rattle.inliner_tool.specs.Replay.{Replays}
@@ -73,7 +74,7 @@ readings_in contents = record {
 
 -- ---- the commands
 
--- The files of the command are read, and it makes this of what they are; `gen` has none.
+-- The files of the command are read, and it makes this of what they are; `gen` and `load` have none.
 abbrev pub Makes : Readings → NamedCommand → Step Made → Type 0
 Makes reads (Check named) = Then (Reading (reads.check named)) (Checks named.main)
 Makes reads (Show named) = Then (Reading (reads.show named)) Shows
@@ -83,4 +84,5 @@ Makes reads (Inline named) = Then (Reading (reads.inline named)) (Inlines named)
 Makes reads (Replay named) = Then (Reading (reads.replay named)) (Replays named.main)
 Makes reads (Lift named) = Then (Reading (reads.lift named)) (Lifts named.main)
 Makes reads (Gen named) = Generates named
+Makes reads (Load named) = Loads named
 Makes reads (Run named) = Then (Reading (reads.check named.check)) (Runs named)

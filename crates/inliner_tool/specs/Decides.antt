@@ -1,6 +1,6 @@
 -- What a command comes to where the store tells its files, and neither it nor the sink has a fault. (docs/COMMANDS.md)
 use Rattle.std.specs.Prelude.{◌≡◌, ℕ, List, Option}
-use Rattle.command_inputs.specs.Words.{Check, Gen, Inline, IsCommand, Lift, NamedCommand, Policy, Race, Replay, Run, Show}
+use Rattle.command_inputs.specs.Words.{Check, Gen, Inline, IsCommand, Lift, Load, NamedCommand, Policy, Race, Replay, Run, Show}
 use Rattle.command_inputs.specs.Contents.{Contents}
 use Rattle.command_inputs.specs.Forms.{Then, Yields}
 use Rattle.mon_store.specs.Sink.{Appends}
@@ -43,9 +43,10 @@ IsDetermined (Inline named) = ⊥
 IsDetermined (Replay named) = Unit {0}
 IsDetermined (Lift named) = Unit {0}
 IsDetermined (Gen named) = Unit {0}
+IsDetermined (Load named) = ⊥
 IsDetermined (Run named) = ⊥
 
--- A command comes to one outcome over the same files; but of `inline` it is left open which of the least typings a certificate tells,
+-- A command comes to one outcome over the same files; but of `inline` and `load` it is left open which of the least typings a certificate tells,
 -- and of `run` which thread makes which step.
 abbrev pub GivesOnce : Type 0
 GivesOnce = (contents : Contents) (named : NamedCommand) (a b : Outcome) → IsDetermined named → Gives contents named a → Gives contents named b → a ≡ b

@@ -1,7 +1,8 @@
 -- What the command `inline` makes of its inputs, and what stands in the store once it is done. (docs/COMMANDS.md)
-use Rattle.std.specs.Prelude.{◌≡◌, Ok}
+use Rattle.std.specs.Prelude.{◌≡◌, ℕ, List, Ok}
 use Rattle.command_inputs.specs.InlineWords.{NamedInline}
 use Rattle.command_inputs.specs.declared.inline_inputs.InlineInputs.{InlineInputs}
+use Rattle.command_inputs.specs.declared.inline_words.Weaving.{Weaving}
 use Rattle.command_inputs.specs.Forms.{Then, Yields}
 use Rattle.command_inputs.specs.InlineInputs.{ReadsInline}
 use Rattle.mon_store.specs.Outputs.{all_written}
@@ -26,14 +27,18 @@ Inlines named inputs =
 
 -- ---- done
 
--- The files that are named link to a program. What the weaving of the policy makes of it is written, class by class, and
--- after it a certificate, with which it is accepted.
+-- What the weaving of the inputs makes, in this mode, is written into the folder, class by class, and after it a certificate, with
+-- which it is accepted.
+pub record IsWovenInto (seen : Seen) (main folder : List ℕ) (weaving : Weaving) (inputs : InlineInputs) : Type 0 where
+  pub ready : Ready
+  pub planned : IsPlanned main folder weaving inputs ready
+  pub written : seen.new ≡ all_written seen.old ready.outputs
+
+-- The files that are named link to a program, and what the weaving of the policy makes of it is written so.
 pub record IsInlined (seen : Seen) (named : NamedInline) : Type 0 where
   pub inputs : InlineInputs
   pub read : ReadsInline seen.old seen.count named (Ok inputs)
-  pub ready : Ready
-  pub planned : IsPlanned named.main named.folder named.weaving inputs ready
-  pub written : seen.new ≡ all_written seen.old ready.outputs
+  pub woven : IsWovenInto seen named.main named.folder named.weaving inputs
 
 -- The same before it is written.
 pub record IsReadyToWrite (seen : Seen) (named : NamedInline) (made : Made) : Type 0 where

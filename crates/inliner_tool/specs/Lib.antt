@@ -19,6 +19,7 @@ pub mod Inline
 pub mod Replay
 pub mod Lift
 pub mod Generate
+pub mod Load
 pub mod Headline
 pub mod Commands
 pub mod Writing
@@ -29,4 +30,5 @@ pub mod ReplayDecision
 pub mod CheckDecision
 pub mod InlineDecision
 pub mod GenDecision
+pub mod LoadDecision
 pub mod Rechecking

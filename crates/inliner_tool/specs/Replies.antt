@@ -44,6 +44,7 @@ answer_reply (answers.Judged verdict) = verdict_reply verdict
 answer_reply answers.RaceFree = replies.Line lines.Free
 answer_reply (answers.Inlined accepted classes) = replies.Line (lines.Inlined (mode_name accepted.mode) accepted.sites classes)
 answer_reply (answers.Generated classes sites bytes) = replies.Line (lines.Generated classes sites bytes)
+answer_reply (answers.Loaded accepted classes sites) = replies.Line (lines.Loaded classes sites (mode_name accepted.mode))
 answer_reply (answers.Replayed text) = replies.Text text
 answer_reply (answers.Ran end text) = replies.Text text
 answer_reply (answers.Lifted text) = replies.Text text

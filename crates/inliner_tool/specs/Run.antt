@@ -5,7 +5,7 @@ use Rattle.api_shelf.specs.Shelf.{View}
 use Rattle.api_shelf.specs.Telling.{Log}
 use Rattle.bytecode_model.specs.declared.program.Program.{Program}
 use Rattle.command_inputs.specs.GenWords.{IsInBounds}
-use Rattle.command_inputs.specs.Words.{Check, Gen, Inline, Lift, NamedCommand, NamedRun, Policy, Race, Replay, Run, Show}
+use Rattle.command_inputs.specs.Words.{Check, Gen, Inline, Lift, Load, NamedCommand, NamedRun, Policy, Race, Replay, Run, Show}
 use Rattle.conspec_automaton.specs.Building.{built}
 use Rattle.conspec_automaton.specs.Obeys.{Obeys}
 use Rattle.event_record.specs.declared.writing.EndLine.{EndLine}
@@ -170,6 +170,7 @@ AreWithin (Inline named) = Unit {0}
 AreWithin (Replay named) = Unit {0}
 AreWithin (Lift named) = Unit {0}
 AreWithin (Gen named) = IsInBounds named
+AreWithin (Load named) = IsInBounds named
 AreWithin (Run named) = IsWithin named
 
 -- ---- what is printed

@@ -56,6 +56,7 @@ answer_status (answers.Judged verdict) = judged_status verdict
 answer_status answers.RaceFree = statuses.Done
 answer_status (answers.Inlined accepted classes) = statuses.Done
 answer_status (answers.Generated classes sites bytes) = statuses.Done
+answer_status (answers.Loaded accepted classes sites) = statuses.Done
 answer_status (answers.Replayed text) = statuses.Done
 answer_status (answers.Ran end text) = run_status end
 answer_status (answers.Lifted text) = statuses.Done

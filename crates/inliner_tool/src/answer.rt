@@ -32,6 +32,12 @@ pub enum Answer {
         sites: u64,
         bytes: u64,
     },
+    /// A program with so many class files and sites in all was made from a number, woven, checked and written.
+    Loaded {
+        accepted: Accepted,
+        classes: u64,
+        sites: u64,
+    },
     /// The events of a run and its end, as they are printed.
     Replayed(Bytes),
     /// The record of a run that was made, as it is printed, and how it ended.

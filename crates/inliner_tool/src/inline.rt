@@ -543,8 +543,8 @@ pub fn inline_decides()
     ensures { InlineDecides }
 {}
 
-/// To what `inline` wrote, where the store tells it and counts no fault, `check` answers yes, unless memory runs out: its status is
-/// 0 or 7.
+/// To what `inline` or `load` wrote, where the store tells it and counts no fault, `check` answers yes, unless memory runs out: its
+/// status is 0 or 7.
 pub fn written_is_accepted()
     ensures { WrittenIsAccepted }
 {

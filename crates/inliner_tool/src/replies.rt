@@ -70,6 +70,11 @@ fn answer_reply(alloc: Global, answer: Answer) -> Result<Reply, NoMemory>
             sites,
             bytes,
         })),
+        Answer::Loaded {
+            accepted,
+            classes,
+            sites,
+        } => loaded_reply(alloc, accepted, classes, sites),
         Answer::Replayed(text) => Ok(Reply::Text(text)),
         Answer::Ran { end: _, text } => Ok(Reply::Text(text)),
         Answer::Lifted(text) => Ok(Reply::Text(text)),
@@ -94,6 +99,22 @@ fn inlined_reply(alloc: Global, accepted: Accepted, classes: u64) -> Result<Repl
         mode,
         sites: accepted.sites,
         classes,
+    }))
+}
+
+fn loaded_reply(
+    alloc: Global,
+    accepted: Accepted,
+    classes: u64,
+    sites: u64,
+) -> Result<Reply, NoMemory>
+    ensures { IfOk result (λ reply. reply ≡ answer_reply (answers.Loaded accepted classes sites)) }
+{
+    let mode = Bytes::from_slice(alloc, mode_name(accepted.mode))?;
+    Ok(Reply::Line(Line::Loaded {
+        classes,
+        sites,
+        mode,
     }))
 }
 

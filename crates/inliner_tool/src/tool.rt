@@ -2,7 +2,7 @@
 
 ghost use Rattle.std.specs.Prelude.{◌≡◌, ◌≢◌, ◌≤◌, ℕ, List, None, Some, IfOk, IfSome};
 ghost use Rattle.api_shelf.specs.Shelf.{AllAreSilent, views};
-ghost use Rattle.command_inputs.specs.GenWords.{IsGen, NamedGen};
+ghost use Rattle.command_inputs.specs.GenWords.{IsGen, IsLoad, NamedGen};
 ghost use Rattle.command_inputs.specs.InlineWords.{IsInline, NamedInline};
 ghost use Rattle.command_inputs.specs.ReplayWords.{IsReplay, NamedReplay};
 ghost use Rattle.command_inputs.specs.Words.{
@@ -11,6 +11,7 @@ ghost use Rattle.command_inputs.specs.Words.{
   IsCheck,
   IsOverFiles,
   IsRunCommand,
+  Load,
   NamedCheck,
   NamedRun,
   Replay,
@@ -25,6 +26,7 @@ ghost use Rattle.inliner_tool.specs.Decides.{Decides, GivesOnce};
 ghost use Rattle.inliner_tool.specs.Generate.{IsGenerated};
 ghost use Rattle.inliner_tool.specs.Headline.{Obeyed};
 ghost use Rattle.inliner_tool.specs.Inline.{IsInlined, IsReadyToWrite};
+ghost use Rattle.inliner_tool.specs.Load.{IsLoaded, IsReadyToLoad};
 ghost use Rattle.inliner_tool.specs.Replay.{ReplayedRuns};
 ghost use Rattle.inliner_tool.specs.Run.{AreWithin, HasBook, IsKept, IsRunStatus, IsWithin, PrintsRun, TellsKept, run_status, told_of};
 ghost use Rattle.inliner_tool.specs.Seen.{seen};
@@ -48,6 +50,7 @@ use crate::check::make_check;
 use crate::generate::make_gen;
 use crate::inline::make_inline;
 use crate::lift::make_lift;
+use crate::load::make_load;
 use crate::policy::make_policy;
 use crate::race::make_race;
 use crate::refusal::{Ended, Refusal};
@@ -123,12 +126,13 @@ impl Status {
 /// a recorded run, and gives the events that the library sees and the end; `lift POLICY LISTING MAIN RECORD CLASS..` makes the
 /// steps of a recorded run and those of what the policy is woven to, and gives the record of these (`lifts_are_runs`);
 /// `gen SEED CLASSES SITES OUTDIR` makes a program from a number, with a listing and a policy, and writes all of it;
+/// `load SEED CLASSES SITES OUTDIR` makes the same, and writes what `inline` makes of it;
 /// `run POLICY LISTING CERT MAIN WORKERS BUDGET CLASS..` checks the program, and has so many worker threads run it, in at most
 /// so many steps, and gives the record of the run.
 ///
-/// Other commands than `inline` and `gen` change no file. One output is put into the sink, which says the answer. The devices answer
-/// the calls of the library in a run, the workers pass the gate, and the run is kept. The other commands have no part in threads
-/// ([`carry_out_files`]), so they end.
+/// Other commands than `inline`, `gen` and `load` change no file. One output is put into the sink, which says the answer. The
+/// devices answer the calls of the library in a run, the workers pass the gate, and the run is kept. The other commands have no part
+/// in threads ([`carry_out_files`]), so they end.
 pub fn run_tool<S: Store, K: Sink, D: ApiDevice + Send, G: Gate + Sync, R: Threads + Wait + Sync>(
     rt: &R,
     alloc: Global,
@@ -179,6 +183,10 @@ pub fn run_tool<S: Store, K: Sink, D: ApiDevice + Send, G: Gate + Sync, R: Threa
     ensures generated { (named : NamedGen) → IsGen words.now named → result ≡ Status.Done
         → IsGenerated (seen S.files S.faults S.last store.old store.new) named }
 
+    // Where `load` ends well, what `inline` makes of that program is written.
+    ensures loaded { (named : NamedGen) → IsLoad words.now named → result ≡ Status.Done
+        → IsLoaded (seen S.files S.faults S.last store.old store.new) named }
+
     // The status is that of the command's outcome, and the output is for it; of words that are no command's, the usage line.
     ensures answer { Replies (seen S.files S.faults S.last store.old store.new) words.now
         (K.text out.old) (K.text out.new) (Rose (K.faults out.old) (K.faults out.new)) result }
@@ -211,7 +219,7 @@ pub fn run_tool<S: Store, K: Sink, D: ApiDevice + Send, G: Gate + Sync, R: Threa
     }
 }
 
-/// A command comes to one outcome over the same files; but of `inline` it is left open which of the least typings a certificate
+/// A command comes to one outcome over the same files; but of `inline` and `load` it is left open which of the least typings a certificate
 /// tells, and of `run` which thread makes which step.
 pub fn answers_are_one()
     ensures { GivesOnce }
@@ -240,6 +248,8 @@ fn carry_out<S: Store, D: ApiDevice + Send, G: Gate + Sync, R: Threads + Wait + 
         → IfOk result (λ answer. ReplayedRuns (seen S.files S.faults S.last store.old store.new) named) }
     ensures inlined { (named : NamedInline) → named_by command.now ≡ Inline named
         → IfOk result (λ answer. IsInlined (seen S.files S.faults S.last store.old store.new) named) }
+    ensures loaded { (named : NamedGen) → named_by command.now ≡ Load named
+        → IfOk result (λ answer. IsLoaded (seen S.files S.faults S.last store.old store.new) named) }
     ensures ran { (named : NamedRun) → named_by command.now ≡ Run named
         → IfOk result (TellsKept (told_of D.told D.faults kept.new)) }
     ensures kept { IfSome (told_of D.told D.faults kept.new) (λ told. (named : NamedRun) × (named_by command.now ≡ Run named)
@@ -269,6 +279,8 @@ fn carry_out_files<S: Store>(
         → IfOk result (λ answer. ReplayedRuns (seen S.files S.faults S.last store.old store.new) named) }
     ensures inlined { (named : NamedInline) → files_named command.now ≡ Inline named
         → IfOk result (λ answer. IsInlined (seen S.files S.faults S.last store.old store.new) named) }
+    ensures loaded { (named : NamedGen) → files_named command.now ≡ Load named
+        → IfOk result (λ answer. IsLoaded (seen S.files S.faults S.last store.old store.new) named) }
     ensures over { IsOverFiles (files_named command.now) }
     ensures files { Begins (seen S.files S.faults S.last store.old store.new) (files_named command.now) }
     ensures faults { S.faults store.old ≤ S.faults store.new }
@@ -318,6 +330,7 @@ fn make<S: Store>(alloc: Global, command: &FileCommand, store: &mut S) -> Result
         → IfOk result (λ made. ReplayedRuns (seen S.files S.faults S.last store.old store.new) named) }
     ensures ready { (named : NamedInline) → files_named command.now ≡ Inline named
         → IfOk result (IsReadyToWrite (seen S.files S.faults S.last store.old store.new) named) }
+    ensures loading { (named : NamedGen) → files_named command.now ≡ Load named → IfOk result (IsReadyToLoad named) }
     ensures files { S.files store.new ≡ S.files store.old }
     ensures faults { S.faults store.old ≤ S.faults store.new }
 {
@@ -330,6 +343,7 @@ fn make<S: Store>(alloc: Global, command: &FileCommand, store: &mut S) -> Result
         FileCommand::Replay(words) => make_replay(alloc, words, store),
         FileCommand::Lift(words) => make_lift(alloc, words, store),
         FileCommand::Gen(words) => make_gen(alloc, words),
+        FileCommand::Load(words) => make_load(alloc, words),
     }
 }
 
@@ -363,6 +377,7 @@ fn answer_status(answer: &Answer) -> Status
         Answer::RaceFree => Status::Done,
         Answer::Inlined { .. } => Status::Done,
         Answer::Generated { .. } => Status::Done,
+        Answer::Loaded { .. } => Status::Done,
         Answer::Replayed(_) => Status::Done,
         Answer::Ran { end, .. } => run_status(*end),
         Answer::Lifted(_) => Status::Done,

@@ -1,7 +1,8 @@
 use Rattle.std.proofs.Common.{ap, length, arith}
 use Rattle.mon_base.proofs.Lists.{front_is}
 use Rattle.mon_store.specs.declared.outputs.Output.{Output}
-use Rattle.command_outputs.proofs.Growing.{bytes_at, bytes_none, output_more}
+use Rattle.bundle_gen.proofs.Counting.{bytes_at, bytes_none}
+use Rattle.command_outputs.proofs.Growing.{output_more}
 use Rattle.command_outputs.proofs.generated.put_files.Goals as goal
 
 pub loop-left-preserved : goal.loop-left-preserved

@@ -12,6 +12,9 @@ returns-in-Files-clause-carries g c =
 pub returns-in-Files-clause-inlined : goal.returns-in-Files-clause-inlined
 returns-in-Files-clause-inlined g c = λ named is. c.carry_out_files.ensures.inlined named (sym (ap named_by c.in-Files.is) ∙ is)
 
+pub returns-in-Files-clause-loaded : goal.returns-in-Files-clause-loaded
+returns-in-Files-clause-loaded g c = λ named is. c.carry_out_files.ensures.loaded named (sym (ap named_by c.in-Files.is) ∙ is)
+
 pub returns-in-Run-clause-carries : goal.returns-in-Run-clause-carries
 returns-in-Run-clause-carries g c =
     subst (λ (n : NamedCommand). UnlessMemory (CarriesOut (seen g.S.Store.files g.S.Store.faults g.S.Store.last c.args.store.now c.carry_out_run.new.store) n) c.carry_out_run.result) (sym (ap named_by c.in-Run.is)) c.carry_out_run.ensures.carries

@@ -11,7 +11,7 @@ use Rattle.inliner_tool.specs.Writing.{CarriesOut}
 use Rattle.inliner_tool.proofs.Decides.{outcome_decides, usage_decides}
 use Rattle.inliner_tool.proofs.Generating.{generated_so}
 use Rattle.inliner_tool.proofs.Headlines.{obeyed}
-use Rattle.inliner_tool.proofs.Replying.{checked_runs, no_run_status, is_check, is_gen, is_inline, is_replay, is_run, outcome_replied, prints_run, puts_no, puts_run, puts_plain, refused_so, usage_replied}
+use Rattle.inliner_tool.proofs.Replying.{checked_runs, no_run_status, is_check, is_gen, is_inline, is_load, is_replay, is_run, outcome_replied, prints_run, puts_no, puts_run, puts_plain, refused_so, usage_replied}
 use Rattle.inliner_tool.proofs.tool.run_tool.Goals as goal
 
 pub returns-in-Ok-clause-headline : goal.returns-in-Ok-clause-headline
@@ -29,6 +29,9 @@ returns-in-Ok-clause-inlined g c = λ named is done. c.in-Ok.ensures.inlined nam
 pub returns-in-Ok-clause-generated : goal.returns-in-Ok-clause-generated
 returns-in-Ok-clause-generated g c = λ named is done.
     generated_so _ (named_by c.in-Some.command) named (is_gen c.args.words.now (named_by c.in-Some.command) c.in-Some.ensures.found named is) c.in-Ok.answer c.in-Ok.ensures.carries
+
+pub returns-in-Ok-clause-loaded : goal.returns-in-Ok-clause-loaded
+returns-in-Ok-clause-loaded g c = λ named is done. c.in-Ok.ensures.loaded named (is_load c.args.words.now (named_by c.in-Some.command) c.in-Some.ensures.found named is)
 
 pub returns-in-Ok-clause-replay_runs : goal.returns-in-Ok-clause-replay_runs
 returns-in-Ok-clause-replay_runs g c = λ named is done. c.in-Ok.ensures.replay_runs named (is_replay c.args.words.now (named_by c.in-Some.command) c.in-Some.ensures.found named is)
@@ -65,6 +68,9 @@ returns-in_default-clause-inlined g c = λ named is done. absurd (puts_no _ _ _ 
 pub returns-in_default-clause-generated : goal.returns-in_default-clause-generated
 returns-in_default-clause-generated g c = λ named is done. absurd (puts_no _ _ _ _ statuses.Usage c.put.result (c.put.ensures.puts usage_encoded c.usage_encoded.ensures) (λ e. absurd cc) done)
 
+pub returns-in_default-clause-loaded : goal.returns-in_default-clause-loaded
+returns-in_default-clause-loaded g c = λ named is done. absurd (puts_no _ _ _ _ statuses.Usage c.put.result (c.put.ensures.puts usage_encoded c.usage_encoded.ensures) (λ e. absurd cc) done)
+
 pub returns-in-Err-Refused-clause-headline : goal.returns-in-Err-Refused-clause-headline
 returns-in-Err-Refused-clause-headline g c = λ named is done. absurd (puts_no _ _ _ _ _ c.put-in-Err-Refused.result (c.put-in-Err-Refused.ensures.puts _ c.refusal_encoded.ensures) (λ e. c.refusal_status.ensures.no (inl e)) done)
 
@@ -82,6 +88,9 @@ returns-in-Err-Refused-clause-inlined g c = λ named is done. absurd (puts_no _ 
 
 pub returns-in-Err-Refused-clause-generated : goal.returns-in-Err-Refused-clause-generated
 returns-in-Err-Refused-clause-generated g c = λ named is done. absurd (puts_no _ _ _ _ _ c.put-in-Err-Refused.result (c.put-in-Err-Refused.ensures.puts _ c.refusal_encoded.ensures) (λ e. c.refusal_status.ensures.no (inl e)) done)
+
+pub returns-in-Err-Refused-clause-loaded : goal.returns-in-Err-Refused-clause-loaded
+returns-in-Err-Refused-clause-loaded g c = λ named is done. absurd (puts_no _ _ _ _ _ c.put-in-Err-Refused.result (c.put-in-Err-Refused.ensures.puts _ c.refusal_encoded.ensures) (λ e. c.refusal_status.ensures.no (inl e)) done)
 
 pub returns-in_default-clause-answer : goal.returns-in_default-clause-answer
 returns-in_default-clause-answer g c =
